@@ -1,0 +1,12 @@
+pub mod Maps
+pub mod Chunks
+pub mod State
+pub mod Space
+pub mod Settle
+pub mod Steps
+pub mod Text
+pub mod Legs
+pub mod Calls
+pub mod Jobs
+pub mod Alone
+pub mod Order

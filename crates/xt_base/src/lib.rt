@@ -1,0 +1,7 @@
+//! The words of the host: names, chunk sets, contents, requests, replies, steps and offers,
+//! with the definitions of one mount in `specs/`.
+#![tactic(auto)]
+
+pub mod content;
+pub mod names;
+pub mod steps;

@@ -1,0 +1,260 @@
+//! Requests, answers, replies, steps and offers.
+
+use crate::content::{Content, Data, HeldBlocks};
+use crate::names::{Block, CkptNo, JobName, Life, Slot, TransNo, Worker};
+
+/// Why a call was refused: the numbers and names of `errno.h` on Linux.
+#[derive(Clone, Copy, Debug, PartialEq, Eq)]
+pub enum Errno {
+    /// EIO: the mount is shut, or a device failed in that call.
+    Io,
+    /// EAGAIN: locked elsewhere, no log space, or 32 open transactions.
+    Again,
+    /// ENOMEM: a growth was refused.
+    NoMemory,
+    /// EBUSY: the slot is in use, or an unmount found something left.
+    Busy,
+    /// ENODEV: an empty slot.
+    NoDevice,
+    /// EINVAL: no such transaction, no own buffer, or an argument out of its range.
+    Invalid,
+    /// ENOSPC: a charge over the unit, or a counter at its end.
+    NoSpace,
+    /// ENOBUFS: a 65th busy block.
+    NoBufs,
+    /// ESTALE: the slot has another life.
+    Stale,
+}
+
+/// Why a mount was shut: the `SHUTDOWN_*` reasons of `xfs_mount.h`. The first is kept.
+#[derive(Clone, Copy, Debug, PartialEq, Eq)]
+pub enum Reason {
+    MetaIoError,
+    LogIoError,
+    ForceUmount,
+    CorruptIncore,
+}
+
+/// What a mount is asked: the calls of `xfs_trans.h`, the log force of `xfs_log.h`, and its administration.
+#[derive(Debug, Drop)]
+pub enum Request {
+    /// Opens a transaction: log bytes for a leg, 1 to 8 legs, and whether it may roll (`xfs_trans_alloc`).
+    Alloc {
+        unit: u32,
+        count: u32,
+        perm: bool,
+    },
+    /// Locks a block, unread (`xfs_trans_get_buf`).
+    Get {
+        trans: TransNo,
+        block: Block,
+    },
+    /// Locks a block with its content (`xfs_trans_read_buf`).
+    Read {
+        trans: TransNo,
+        block: Block,
+    },
+    /// What the transaction sees of its block.
+    View {
+        trans: TransNo,
+        block: Block,
+    },
+    /// Writes bytes from `first` on and marks their chunks (`xfs_trans_log_buf`).
+    Log {
+        trans: TransNo,
+        block: Block,
+        first: u32,
+        bytes: Data,
+    },
+    /// Keeps a block locked beyond the leg (`xfs_trans_bhold`).
+    Hold {
+        trans: TransNo,
+        block: Block,
+    },
+    /// Takes the hold mark away (`xfs_trans_bhold_release`).
+    Unhold {
+        trans: TransNo,
+        block: Block,
+    },
+    /// Gives back one lock (`xfs_trans_brelse`).
+    Relse {
+        trans: TransNo,
+        block: Block,
+    },
+    /// Takes a held block over (`xfs_trans_bjoin`).
+    Join {
+        trans: TransNo,
+        block: Block,
+    },
+    /// Gives up a held block; spelled `drop`.
+    Release {
+        block: Block,
+    },
+    /// Gives a block up for good (`xfs_trans_binval`).
+    Inval {
+        trans: TransNo,
+        block: Block,
+    },
+    /// Ends the transaction and commits its leg (`xfs_trans_commit`).
+    Commit {
+        trans: TransNo,
+    },
+    /// Commits the leg and goes on (`xfs_trans_roll`).
+    Roll {
+        trans: TransNo,
+    },
+    /// Gives the leg up and ends the transaction (`xfs_trans_cancel`).
+    Cancel {
+        trans: TransNo,
+    },
+    /// Asks that all that is committed reach the log (`xfs_log_force`).
+    Force,
+    /// The same for one checkpoint (`xfs_log_force_seq`).
+    ForceTo {
+        number: CkptNo,
+    },
+    /// Asks that blocks be written home (`xfs_ail_push_all`).
+    Push,
+    /// Shuts the mount (`xfs_force_shutdown`).
+    Shutdown,
+    /// Empties the slot.
+    Unmount,
+}
+
+/// What the home device answered to a read, if it was asked.
+#[derive(Debug, Drop)]
+pub enum Answer {
+    /// It was not asked.
+    None,
+    /// It gave this content.
+    Content(Content),
+    /// It failed.
+    Failed,
+}
+
+/// What a step is answered. Each spelling of the line language is one value.
+#[derive(Debug, Drop)]
+pub enum Reply {
+    Okay,
+    /// `ok`, with the blocks that a cancelled transaction leaves held.
+    OkayHeld(HeldBlocks),
+    Life(Life),
+    Trans(TransNo),
+    /// The checkpoint of a leg (0 for a clean one), with the blocks that stay held.
+    Committed {
+        number: CkptNo,
+        held: Option<HeldBlocks>,
+    },
+    /// EIO of a leg that was given up, with the blocks that it leaves held.
+    Aborted(HeldBlocks),
+    /// A force waits for this checkpoint.
+    Wait(CkptNo),
+    Done,
+    /// A lock was given back, and the block is still the transaction's.
+    Kept,
+    /// A block was unlocked.
+    Free,
+    Data(Content),
+    /// A job found nothing to do.
+    Nothing,
+    Begun {
+        number: CkptNo,
+        pieces: u32,
+    },
+    Landed(CkptNo),
+    Failed(CkptNo),
+    /// How many blocks left the active list.
+    Flushed(u32),
+    /// What the board shows of a slot; life 0 where nothing was shown.
+    Seen {
+        life: Life,
+        reason: Option<Reason>,
+    },
+    Refused(Errno),
+}
+
+/// What the log device answered: how many pieces it took, and to the sync, if there was one.
+#[derive(Clone, Copy, Debug, PartialEq, Eq)]
+pub struct LogAnswers {
+    pub taken: u32,
+    pub sync: Option<bool>,
+}
+
+/// What the home device answered to a flush: to the first `count` writes, 0 to 8, and to the sync.
+/// A count of 0 means that nothing was offered, and no answer given.
+#[derive(Clone, Copy, Debug)]
+pub struct HomeAnswers {
+    pub count: u8,
+    pub writes: [bool; 8],
+    pub sync: bool,
+}
+
+/// One line of a script.
+#[derive(Debug, Drop)]
+pub enum Step {
+    /// Mounts a slot with a log of so many bytes and a home device of so many blocks.
+    Mount {
+        slot: Slot,
+        log_bytes: u32,
+        blocks: u64,
+    },
+    /// A request to one life of a slot, with the home device's answer where it was asked.
+    Call {
+        slot: Slot,
+        life: Life,
+        request: Request,
+        answer: Answer,
+    },
+    Post(JobName),
+    Take {
+        worker: Worker,
+        name: JobName,
+    },
+    Begin {
+        worker: Worker,
+        name: JobName,
+    },
+    End {
+        worker: Worker,
+        name: JobName,
+        answers: LogAnswers,
+    },
+    Flush {
+        worker: Worker,
+        name: JobName,
+        answers: HomeAnswers,
+    },
+    Show(Slot),
+    Peek(Slot),
+}
+
+/// What was offered to a log device, with its answer.
+#[derive(Debug, Drop)]
+pub enum LogOffer {
+    Piece { bytes: Data, ok: bool },
+    Sync { ok: bool },
+}
+
+/// What was offered to a home device, reads aside, with its answer.
+#[derive(Debug, Drop)]
+pub enum HomeOffer {
+    Write {
+        block: Block,
+        content: Content,
+        ok: bool,
+    },
+    Sync {
+        ok: bool,
+    },
+}
+
+/// Who has a block.
+#[derive(Clone, Copy, Debug, PartialEq, Eq)]
+pub enum Owner {
+    /// A transaction, with its recursion count.
+    Trans { number: TransNo, count: u32 },
+    /// Nobody yet: a buffer that was held at the end of a leg.
+    Held,
+    /// A cancelled block, until this checkpoint has landed.
+    Stale(CkptNo),
+}
