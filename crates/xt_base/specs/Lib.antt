@@ -1,5 +1,6 @@
 pub mod Maps
 pub mod Chunks
+pub mod ChunkWords
 pub mod State
 pub mod Space
 pub mod Settle

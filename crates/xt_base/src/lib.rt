@@ -2,6 +2,7 @@
 //! with the definitions of one mount in `specs/`.
 #![tactic(auto)]
 
+pub mod chunks;
 pub mod content;
 pub mod names;
 pub mod steps;
