@@ -1,4 +1,5 @@
 pub mod Maps
+pub mod Places
 pub mod Chunks
 pub mod ChunkWords
 pub mod State

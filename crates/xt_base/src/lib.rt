@@ -4,5 +4,6 @@
 
 pub mod chunks;
 pub mod content;
+pub mod map;
 pub mod names;
 pub mod steps;
