@@ -80,8 +80,8 @@ empty = record { last_life = 0; seen_life = 0; seen_reason = None; mounted = Non
 -- a new mount
 abbrev pub mount_of : ℕ → ℕ → ℕ → ℕ → State
 mount_of slot life log_bytes blocks = record {
-    slot = slot;
-    life = life;
+  slot = slot;
+  life = life;
   log_bytes = log_bytes;
   blocks = blocks;
   frames = record { committed = []; fresh = []; idle = [] };

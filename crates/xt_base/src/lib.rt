@@ -6,4 +6,5 @@ pub mod chunks;
 pub mod content;
 pub mod map;
 pub mod names;
+pub mod set;
 pub mod steps;
