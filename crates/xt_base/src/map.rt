@@ -1,6 +1,6 @@
 //! A finite map from numbers, for a mount's small tables.
 
-ghost use Rattle.std.specs.Prelude.{◌≡◌, ◌+◌, ◌≤◌, ◌<◌, ◌==◌, [], length, IfOk, option_copied};
+ghost use Rattle.std.specs.Prelude.{◌≡◌, ◌+◌, ◌≤◌, ◌<◌, ◌==◌, ◌∷◌, ◌++◌, [], length, take, drop, slice_get, IfOk, MatchOption, option_copied};
 ghost use Rattle.xt_base.specs.Maps.{at, is_in, put as with_entry, without};
 ghost use Rattle.xt_base.specs.Places.{place, spot};
 
@@ -19,13 +19,13 @@ pub struct NumberMap<V> {
 }
 
 impl<V> Model for NumberMap<V> {
-    ghost use Rattle.std.specs.Prelude.{List, ℕ, ◌≤◌, vec_capacity};
+    ghost use Rattle.std.specs.Prelude.{List, ℕ, ◌≤◌, length, vec_capacity};
 
     ghost Value = { List (ℕ × V) };
 
     ghost view = { λ m. m.entries.items };
 
-    ghost invariant = { λ m. 128 ≤ vec_capacity m.entries };
+    ghost invariant = { λ m. (length m.entries.items ≤ 128) × (128 ≤ vec_capacity m.entries) };
 }
 
 impl<V> NumberMap<V> {
@@ -39,14 +39,16 @@ impl<V> NumberMap<V> {
 
     /// Its entries, by rising key.
     pub fn entries(&self) -> &[(u64, V)]
-        ensures { result.now ≡ self.now }
+        ensures value { result.now ≡ self.now }
+        ensures small { length result.now ≤ 128 }
     {
         &self.entries
     }
 
     /// How many entries it has.
     pub fn len(&self) -> usize
-        ensures { result ≡ length self.now }
+        ensures value { result ≡ length self.now }
+        ensures small { result ≤ 128 }
     {
         self.entries.len()
     }
@@ -104,6 +106,26 @@ impl<V> NumberMap<V> {
         } else {
             None
         }
+    }
+
+    /// Takes the entry of the least key.
+    pub fn pop_first(&mut self) -> Option<(u64, V)>
+        ensures { MatchOption result ((self.old ≡ []) × (self.new ≡ [])) (λ e. self.old ≡ e ∷ self.new) }
+    {
+        if self.entries.is_empty() {
+            None
+        } else {
+            Some(self.entries.remove(0))
+        }
+    }
+
+    /// Takes the entry at a place among the entries.
+    pub fn remove_at(&mut self, index: usize) -> (u64, V)
+        requires { index < length self.old }
+        ensures value { slice_get self.old index ≡ Some result }
+        ensures rest { self.new ≡ take index self.old ++ drop (index + 1) self.old }
+    {
+        self.entries.remove(index)
     }
 }
 

@@ -1,6 +1,6 @@
 //! A set of numbers, for a mount's small sets of blocks.
 
-ghost use Rattle.std.specs.Prelude.{◌≡◌, ◌≤◌, ◌<◌, ◌==◌, [], length, IfOk};
+ghost use Rattle.std.specs.Prelude.{◌≡◌, ◌≤◌, ◌<◌, ◌==◌, ◌+◌, ◌++◌, [], length, take, drop, IfOk};
 ghost use Rattle.xt_base.specs.Maps.{has, with_member, without_member};
 ghost use Rattle.xt_base.specs.Places.{rank};
 
@@ -16,13 +16,13 @@ pub struct NumberSet {
 }
 
 impl Model for NumberSet {
-    ghost use Rattle.std.specs.Prelude.{List, ℕ, ◌≤◌, vec_capacity};
+    ghost use Rattle.std.specs.Prelude.{List, ℕ, ◌≤◌, length, vec_capacity};
 
     ghost Value = { List ℕ };
 
     ghost view = { λ s. s.members.items };
 
-    ghost invariant = { λ s. 128 ≤ vec_capacity s.members };
+    ghost invariant = { λ s. (length s.members.items ≤ 128) × (128 ≤ vec_capacity s.members) };
 }
 
 impl NumberSet {
@@ -79,6 +79,14 @@ impl NumberSet {
         ensures { self.new ≡ without_member number self.old }
     {
         self.members.retain(|member| *member != number);
+    }
+
+    /// Takes out the number at a place among the numbers.
+    pub fn remove_at(&mut self, index: usize)
+        requires { index < length self.old }
+        ensures { self.new ≡ take index self.old ++ drop (index + 1) self.old }
+    {
+        self.members.remove(index);
     }
 }
 
