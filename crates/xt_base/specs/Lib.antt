@@ -10,3 +10,4 @@ pub mod Calls
 pub mod Jobs
 pub mod Alone
 pub mod Order
+pub mod Sound
