@@ -1,2 +1,3 @@
 pub mod MapLemmas
 pub mod RisingLemmas
+pub mod KeyLemmas
