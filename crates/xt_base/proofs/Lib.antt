@@ -1,3 +1,5 @@
 pub mod MapLemmas
 pub mod RisingLemmas
 pub mod KeyLemmas
+pub mod ChunkCounts
+pub mod CostLemmas
