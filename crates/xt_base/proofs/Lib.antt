@@ -3,3 +3,4 @@ pub mod RisingLemmas
 pub mod KeyLemmas
 pub mod ChunkCounts
 pub mod CostLemmas
+pub mod BusyLemmas
