@@ -124,3 +124,18 @@ length-union_newly p more =
     let old : List ℕ = chunks_where p in
     omega (arith, length-chunks_where (λ k. has old k || has more k), length-chunks_where p, length-chunks_where (λ k. has more k && not (has old k)),
       count_by_split (has old) (has more) (below 32), count_by_same (has old) p (below 32) (each_below (λ k. has old k ≡ p k) 32 (has-chunks_where p)))
+
+has-chunks : (p : ℕ → Bool) (k : ℕ) → has (chunks_where p) k ≡ (has (below 32) k && p k)
+unfolding chunks_where
+has-chunks p k = is_member-filter nat_eq_equiv p k (λ x same. ap p (eqb-true k x same)) (below 32)
+
+and_either : (n a b c : Bool) → (a ≡ true → b ≡ true) → (n && (a || c)) ≡ true → (n && (b || c)) ≡ true
+and_either false a b c h both = both
+and_either true true b c h both = ap (λ x. x || c) (h refl)
+and_either true false false c h both = both
+and_either true false true c h both = refl
+
+-- a larger set has a larger union
+pub has-union_within : (a b c : List ℕ) → ((k : ℕ) → has a k ≡ true → has b k ≡ true) → (k : ℕ) → has (union a c) k ≡ true → has (union b c) k ≡ true
+has-union_within a b c within k h =
+    has-chunks (λ q. has b q || has c q) k ∙ and_either (has (below 32) k) (has a k) (has b k) (has c k) (within k) (sym (has-chunks (λ q. has a q || has c q) k) ∙ h)

@@ -4,3 +4,4 @@ pub mod KeyLemmas
 pub mod ChunkCounts
 pub mod CostLemmas
 pub mod BusyLemmas
+pub mod LegLemmas

@@ -34,9 +34,8 @@ IsCovered e = (k : ℕ) → has e.1.marks k ≡ true → has e.1.charged k ≡ t
 abbrev pub Owns : List (ℕ × Owner) → ℕ → ℕ → Type 0
 Owns owners t b = is_some (own_count t (at b owners)) ≡ true
 
--- an open transaction keeps within its unit and its grant, and owns what it changed
+-- a leg of an open transaction is charged within its unit, what it marked was charged, and it owns what it changed
 pub record IsFair (owners : List (ℕ × Owner)) (e : ℕ × Transaction) : Type 0 where
-  pub within : charge e.1.leg.changes ≤ e.1.unit * e.1.legs
   pub unit : charge e.1.leg.changes ≤ e.1.unit
   pub rising : IsRising e.1.leg.changes
   pub covered : Each IsCovered e.1.leg.changes
@@ -91,5 +90,7 @@ pub record IsSound (s : State) : Type 0 where
   pub parts : AreSound s.log_bytes s.owners s.transactions s.items
   pub kept : AreKept (is_busy s) s.frames
   pub ready : IsReady s.items s.jobs
+  -- on a live mount each open transaction has a leg left, so that its grant covers its charge; where one is shut, nothing that was changed is committed
+  pub legs_left : is_none s.shut ≡ true → Each (λ e. 1 ≤ e.1.legs) s.transactions
   -- on a live mount; where one is shut, a leg that was given up may leave a listed block fresh
   pub fresh_owned : is_none s.shut ≡ true → Each (IsUnwritten s.owners s.transactions s.items) s.frames.fresh
