@@ -1,3 +1,10 @@
 pub mod ChunkLemmas
 pub mod PlaceLemmas
 pub mod RankLemmas
+pub mod MapLemmas
+pub mod RisingLemmas
+pub mod KeyLemmas
+pub mod ChunkCounts
+pub mod CostLemmas
+pub mod BusyLemmas
+pub mod LegLemmas

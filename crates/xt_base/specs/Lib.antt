@@ -12,3 +12,4 @@ pub mod Calls
 pub mod Jobs
 pub mod Alone
 pub mod Order
+pub mod Sound
