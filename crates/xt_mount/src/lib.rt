@@ -1,0 +1,6 @@
+//! One mount, step by step: transactions over locked buffers, the committed item list, checkpoints.
+#![tactic(auto)]
+
+mod jobs;
+mod locks;
+mod trans;
