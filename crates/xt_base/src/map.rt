@@ -143,7 +143,7 @@ fn place_of<V>(entries: &[(u64, V)], key: u64) -> usize
 }
 
 /// How many entries stand before the first whose key is `key`; all, where there is none.
-fn spot_of<V>(entries: &[(u64, V)], key: u64) -> usize
+pub fn spot_of<V>(entries: &[(u64, V)], key: u64) -> usize
     ensures value { result ≡ spot key entries.now }
     ensures range { result ≤ length entries.now }
 {
