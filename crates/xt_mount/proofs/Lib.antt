@@ -1,3 +1,4 @@
 pub mod EntryLemmas
 pub mod ChangeLemmas
 pub mod FrameLemmas
+pub mod LandedLemmas

@@ -2,6 +2,7 @@
 #![tactic(auto)]
 
 mod frames;
+mod items;
 mod jobs;
 mod locks;
 mod trans;
