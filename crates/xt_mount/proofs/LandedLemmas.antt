@@ -77,12 +77,13 @@ module _ (now : Items) (f : Flight) (flying : now.flight ≡ Some f) (below : If
   pub rises_landed : (price : ℕ) (more : List (ℕ × ℕ)) → IsRising now.landed → more ≡ now.landed ++ (f.number , price) ∷ [] → IsRising more
   rises_landed price more rising is = landed_rises f.number price now.landed more rising (landed_last f.number price now.landed more below_flight is)
 
-  pub landing : (price : ℕ) (ail more left : List (ℕ × ℕ)) → price ≡ cost f.items → ail ≡ activated f.number f.items now.ail → more ≡ now.landed ++ (f.number , price) ∷ []
+  pub landing : (none : Option Flight) (price : ℕ) (ail more left : List (ℕ × ℕ)) → none ≡ None → price ≡ cost f.items → ail ≡ activated f.number f.items now.ail → more ≡ now.landed ++ (f.number , price) ∷ []
       → left ≡ still_needed ail more
-      → IfSome now.flight (λ g. record { open_number = now.open_number; cil = now.cil; flight = None; ail = ail; landed = left } ≡ landed_items g now)
-  landing price ail more left cost_is ail_is more_is left_is =
+      → IfSome now.flight (λ g. record { open_number = now.open_number; cil = now.cil; flight = none; ail = ail; landed = left } ≡ landed_items g now)
+  landing none price ail more left none_is cost_is ail_is more_is left_is =
+      let given : Option Flight → Items = λ o. record { open_number = now.open_number; cil = now.cil; flight = o; ail = ail; landed = left } in
       let lists : List (ℕ × ℕ) → List (ℕ × ℕ) → Items = λ a l. record { open_number = now.open_number; cil = now.cil; flight = None; ail = a; landed = l } in
-      let whole : lists ail left ≡ landed_items f now
-        = ap (lists ail) (left_is ∙ ap (still_needed ail) (landed_last f.number price now.landed more below_flight more_is ∙ ap (λ p. put f.number p now.landed) cost_is))
+      let whole : given none ≡ landed_items f now
+        = ap given none_is ∙ ap (lists ail) (left_is ∙ ap (still_needed ail) (landed_last f.number price now.landed more below_flight more_is ∙ ap (λ p. put f.number p now.landed) cost_is))
           ∙ ap (λ a. lists a (still_needed a (put f.number (cost f.items) now.landed))) ail_is in
-      subst (λ o. IfSome o (λ g. lists ail left ≡ landed_items g now)) (sym flying) whole
+      subst (λ o. IfSome o (λ g. given none ≡ landed_items g now)) (sym flying) whole
