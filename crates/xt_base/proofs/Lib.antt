@@ -5,3 +5,4 @@ pub mod ChunkCounts
 pub mod CostLemmas
 pub mod BusyLemmas
 pub mod LegLemmas
+pub mod SoundParts

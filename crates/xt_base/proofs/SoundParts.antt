@@ -1,0 +1,253 @@
+-- Each change of the owners, the open transactions and the item lists keeps them sound.
+use Rattle.std.proofs.Common.{◌≡◌, ◌≢◌, ◌∙◌, ◌⊎◌, ◌+◌, ◌*◌, ◌<◌, ◌≤◌, ◌∷◌, Bool, List, None, Option, Some, [], ap, arith, cond, false, inl, inr, length, refl, subst, suc, sym, true, ℕ}
+use Rattle.std.proofs.lemmas.Bool.{cases_eq, eq-eqb, ne_eqb}
+use Rattle.std.specs.Prelude.{filter, filter_map, if◌then◌else◌, is_none, is_some, not, sum_by, ◌&&◌, ◌==◌, ◌||◌}
+use Rattle.xt_base.proofs.BusyLemmas.{fewer_busy, is_busy_in, one_more_busy}
+use Rattle.xt_base.proofs.CostLemmas.{cost-with_marks}
+use Rattle.xt_base.proofs.KeyLemmas.{at_filter, is_in_cons_cases, is_in_filter, is_in_filter_map, is_in_first, is_in_later, is_in_put_cases, is_in_put_old, is_in_without}
+use Rattle.xt_base.proofs.LegLemmas.{is_in_with_marks, keeps_owner_aborted, keeps_owner_after, own_itself, own_one, own_trans, owned_there, owns_aborted, owns_after, rises_with_marks}
+use Rattle.xt_base.proofs.MapLemmas.{at_put_other, at_put_same}
+use Rattle.xt_base.proofs.RisingLemmas.{each_at, each_filter, each_in, each_map, each_other, each_put, each_set_at, rises_filter, rises_filter_map, rises_put, rises_set_at, rises_without, sum_filter_le, sum_put_le, sum_set_at, sum_without, weight_at}
+use Rattle.xt_base.specs.Jobs.{activated, landed_items, waits_on}
+use Rattle.xt_base.specs.Legs.{own_count, owner_aborted, owner_after, with_marks}
+use Rattle.xt_base.specs.Maps.{at, is_in, put, set_at, without}
+use Rattle.xt_base.specs.Sound.{AllBelow, AreSound, Each, IsBetween, IsFair, IsRising, Owns, RisesFrom}
+use Rattle.xt_base.specs.Space.{charge, cost, count_beside, flight_items, granted, is_listed, is_needed, still_needed}
+use Rattle.xt_base.specs.State.{Flight, Items, Leg, Transaction}
+use Rattle.xt_base.specs.declared.steps.Owner.{Owner}
+use Rattle.xt_base.specs.declared.steps.Owner.TheVariants.{Held, Stale, Trans}
+
+-- ---- busy by one of four
+by_four : (o c f a x : Bool) → (o ≡ true → x ≡ true) → (c ≡ true → x ≡ true) → (f ≡ true → x ≡ true) → (a ≡ true → x ≡ true) → (o || (c || f || a)) ≡ true → x ≡ true
+by_four true c f a x ho hc hf ha h = ho refl
+by_four false true f a x ho hc hf ha h = hc refl
+by_four false false true a x ho hc hf ha h = hf refl
+by_four false false false true x ho hc hf ha h = ha refl
+by_four false false false false x ho hc hf ha h = absurd (cc)
+
+first_true : (o c f a : Bool) → o ≡ true → (o || (c || f || a)) ≡ true
+first_true o c f a h = ap (λ b. b || (c || f || a)) h
+
+second_true : (o c f a : Bool) → c ≡ true → (o || (c || f || a)) ≡ true
+second_true true c f a h = refl
+second_true false c f a h = ap (λ b. b || f || a) h
+
+third_true : (o c f a : Bool) → f ≡ true → (o || (c || f || a)) ≡ true
+third_true true c f a h = refl
+third_true false true f a h = refl
+third_true false false f a h = ap (λ b. b || a) h
+
+fourth_true : (o c f a : Bool) → a ≡ true → (o || (c || f || a)) ≡ true
+fourth_true true c f a h = refl
+fourth_true false true f a h = refl
+fourth_true false false true a h = refl
+fourth_true false false false a h = h
+
+module _ (owners : List (ℕ × Owner)) (l : Items) (q : ℕ) where
+  pub busy_owned : is_in q owners ≡ true → is_busy_in owners l q ≡ true
+  busy_owned h = first_true (is_in q owners) (is_in q l.cil) (is_in q (flight_items l.flight)) (is_in q l.ail) h
+
+  pub busy_committed : is_in q l.cil ≡ true → is_busy_in owners l q ≡ true
+  busy_committed h = second_true (is_in q owners) (is_in q l.cil) (is_in q (flight_items l.flight)) (is_in q l.ail) h
+
+  pub busy_flying : is_in q (flight_items l.flight) ≡ true → is_busy_in owners l q ≡ true
+  busy_flying h = third_true (is_in q owners) (is_in q l.cil) (is_in q (flight_items l.flight)) (is_in q l.ail) h
+
+  pub busy_active : is_in q l.ail ≡ true → is_busy_in owners l q ≡ true
+  busy_active h = fourth_true (is_in q owners) (is_in q l.cil) (is_in q (flight_items l.flight)) (is_in q l.ail) h
+
+  -- what is busy is owned or on one of the lists
+  pub busy_by : (x : Bool) → (is_in q owners ≡ true → x ≡ true) → (is_in q l.cil ≡ true → x ≡ true) → (is_in q (flight_items l.flight) ≡ true → x ≡ true) → (is_in q l.ail ≡ true → x ≡ true)
+      → is_busy_in owners l q ≡ true → x ≡ true
+  busy_by x ho hc hf ha h = by_four (is_in q owners) (is_in q l.cil) (is_in q (flight_items l.flight)) (is_in q l.ail) x ho hc hf ha h
+
+-- a number that is this one, which is busy, or is busy
+busy_too : (q b : ℕ) (busy : ℕ → Bool) → busy b ≡ true → ((q == b) || busy q) ≡ true → busy q ≡ true
+busy_too q b busy here h =
+    elim (cases_eq q b)
+    [ inl same ↦ ap busy same ∙ here
+    | inr other ↦ sym (ap (λ x. x || busy q) (ne_eqb q b other)) ∙ h ]
+
+-- what somebody has and nobody else is one's own
+mine_if : (there mine : Bool) → there ≡ true → (there && not mine) ≡ false → mine ≡ true
+mine_if there true h free = refl
+mine_if true false h free = absurd (cc)
+mine_if false false h free = absurd (cc)
+
+-- ---- fairness under other owners
+pub fair_with : (os ns : List (ℕ × Owner)) (e : ℕ × Transaction) → ((b : ℕ) → Owns os e.0 b → Owns ns e.0 b) → IsFair os e → IsFair ns e
+fair_with os ns e still fair = record {
+  unit = fair.unit;
+  rising = fair.rising;
+  covered = fair.covered;
+  owned = each_map (λ c. Owns os e.0 c.0) (λ c. Owns ns e.0 c.0) e.1.leg.changes (λ c h. still c.0 h) fair.owned;
+}
+
+-- ---- the flight between the landed and the open checkpoints
+between_committed : (o : Option Flight) (l : Items) (cil : List (ℕ × List ℕ)) → IsBetween o l → IsBetween o (record l { cil = cil })
+between_committed None l cil h = tt
+between_committed (Some f) l cil h = h
+
+no_flight : (o : Option Flight) → is_none o ≡ true → cost (flight_items o) ≡ 0
+no_flight None h = refl
+no_flight (Some f) h = absurd (cc)
+
+-- ---- a new mount
+pub parts_empty : (log_bytes : ℕ) → AreSound log_bytes [] [] (record { open_number = 1; cil = []; flight = None; ail = []; landed = [] })
+parts_empty log_bytes = record {
+  space = omega arith;
+  busy = omega arith;
+  owners_rise = tt;
+  transactions_rise = tt;
+  cil_rises = tt;
+  flight_rises = tt;
+  ail_rises = tt;
+  landed_rises = tt;
+  landed_below = tt;
+  flying = tt;
+  fair = tt;
+}
+
+module _ (log_bytes : ℕ) (owners : List (ℕ × Owner)) (ts : List (ℕ × Transaction)) (l : Items) (h : AreSound log_bytes owners ts l) where
+  -- ---- a transaction opens
+  pub parts_opened : (t : ℕ) (trans : Transaction) → IsFair owners (t, trans)
+      → granted ts + cost l.cil + cost (flight_items l.flight) + sum_by (λ e. e.1) l.landed + trans.unit * trans.legs ≤ log_bytes → AreSound log_bytes owners (put t trans ts) l
+  parts_opened t trans fair room = record {
+    space = omega (arith, room, sum_put_le (λ e. e.1.unit * e.1.legs) t trans ts);
+    busy = h.busy;
+    owners_rise = h.owners_rise;
+    transactions_rise = rises_put 0 t trans ts (omega arith) h.transactions_rise;
+    cil_rises = h.cil_rises;
+    flight_rises = h.flight_rises;
+    ail_rises = h.ail_rises;
+    landed_rises = h.landed_rises;
+    landed_below = h.landed_below;
+    flying = h.flying;
+    fair = each_put (IsFair owners) t trans ts fair h.fair;
+  }
+
+  -- ---- a transaction has another leg
+  pub parts_leg : (t : ℕ) (trans : Transaction) (leg : Leg) → at t ts ≡ Some trans → IsFair owners (t, record trans { leg = leg }) → AreSound log_bytes owners (set_at t (record trans { leg = leg }) ts) l
+  parts_leg t trans leg is fair =
+      let space = h.space in
+      record {
+        space = omega (arith, space, sum_set_at (λ e. e.1.unit * e.1.legs) t trans (record trans { leg = leg }) ts is refl);
+        busy = h.busy;
+        owners_rise = h.owners_rise;
+        transactions_rise = rises_set_at 0 t (record trans { leg = leg }) ts h.transactions_rise;
+        cil_rises = h.cil_rises;
+        flight_rises = h.flight_rises;
+        ail_rises = h.ail_rises;
+        landed_rises = h.landed_rises;
+        landed_below = h.landed_below;
+        flying = h.flying;
+        fair = each_set_at (IsFair owners) t (record trans { leg = leg }) ts fair h.fair;
+      }
+
+  -- ---- a transaction locks a block that is free or its own
+  module _ (t b count : ℕ) (free : (is_in b owners && not (is_some (own_count t (at b owners)))) ≡ false) where
+    -- each keeps its own
+    owns_locked : (u q : ℕ) → Owns owners u q → Owns (put b (Trans t count) owners) u q
+    owns_locked u q own =
+        elim (cases_eq q b)
+        [ inl same ↦
+            let here : Owns owners u b = subst (λ (x : ℕ). Owns owners u x) same own in
+            let mine : Owns owners t b = mine_if (is_in b owners) (is_some (own_count t (at b owners))) (owned_there u b owners here) free in
+            let one : t ≡ u = own_one t u (at b owners) mine here in
+            let now : own_count t (at q (put b (Trans t count) owners)) ≡ Some count = ap (λ (x : ℕ). own_count t (at x (put b (Trans t count) owners))) same ∙ ap (own_count t) (at_put_same b (Trans t count) owners) ∙ own_itself t count in
+            subst (λ (x : ℕ). Owns (put b (Trans t count) owners) x q) one (ap is_some now)
+        | inr other ↦ ap (λ o. is_some (own_count u o)) (at_put_other b q (Trans t count) owners other) ∙ own ]
+
+    still_busy : (q : ℕ) → is_busy_in (put b (Trans t count) owners) l q ≡ true → ((q == b) || is_busy_in owners l q) ≡ true
+    still_busy q busy =
+        elim (cases_eq q b)
+        [ inl same ↦ ap (λ x. x || is_busy_in owners l q) (eq-eqb q b same)
+        | inr other ↦
+            ap (λ x. x || is_busy_in owners l q) (ne_eqb q b other)
+            ∙ sym (ap (λ o. is_some o || is_listed l q) (at_put_other b q (Trans t count) owners other)) ∙ busy ]
+
+    pub parts_locked : (is_busy_in owners l b ≡ true) ⊎ (length owners + count_beside owners l < 64) → AreSound log_bytes (put b (Trans t count) owners) ts l
+    parts_locked room =
+        let rises : IsRising (put b (Trans t count) owners) = rises_put 0 b (Trans t count) owners (omega arith) h.owners_rise in
+        let few = h.busy in
+        record {
+          space = h.space;
+          busy =
+            elim room
+            [ inl here ↦ omega (arith, few, fewer_busy (put b (Trans t count) owners) owners l l rises h.cil_rises h.flight_rises h.ail_rises (λ q busy. busy_too q b (is_busy_in owners l) here (still_busy q busy)))
+            | inr less ↦ omega (arith, less, one_more_busy (put b (Trans t count) owners) owners l l b rises h.cil_rises h.flight_rises h.ail_rises still_busy) ];
+          owners_rise = rises;
+          transactions_rise = h.transactions_rise;
+          cil_rises = h.cil_rises;
+          flight_rises = h.flight_rises;
+          ail_rises = h.ail_rises;
+          landed_rises = h.landed_rises;
+          landed_below = h.landed_below;
+          flying = h.flying;
+          fair = each_map (IsFair owners) (IsFair (put b (Trans t count) owners)) ts (λ e fair. fair_with owners (put b (Trans t count) owners) e (λ q own. owns_locked e.0 q own) fair) h.fair;
+        }
+
+  -- ---- a transaction ends
+  module _ (t : ℕ) (trans : Transaction) (is : at t ts ≡ Some trans) where
+    granted_less : granted (without t ts) + trans.unit * trans.legs ≡ granted ts
+    granted_less = omega (arith, sum_without (λ e. e.1.unit * e.1.legs) t ts, ap (weight_at (λ e. e.1.unit * e.1.legs) t) is)
+
+    fair_others : (ns : List (ℕ × Owner)) → ((u b : ℕ) → u ≢ t → Owns owners u b → Owns ns u b) → Each (IsFair ns) (without t ts)
+    fair_others ns still =
+        each_map (λ e. IsFair owners e × (e.0 ≢ t)) (IsFair ns) (without t ts) (λ e both. fair_with owners ns e (λ b own. still e.0 b both.1 own) both.0) (each_other (IsFair owners) 0 t ts h.transactions_rise h.fair)
+
+    pub parts_aborted : AreSound log_bytes (filter_map (owner_aborted t trans.leg) owners) (without t ts) l
+    parts_aborted =
+        let ns : List (ℕ × Owner) = filter_map (owner_aborted t trans.leg) owners in
+        let rises : IsRising ns = rises_filter_map 0 (owner_aborted t trans.leg) owners (keeps_owner_aborted t trans.leg) h.owners_rise in
+        let space = h.space in
+        let few = h.busy in
+        record {
+          space = omega (arith, space, granted_less);
+          busy =
+            omega (arith, few, fewer_busy ns owners l l rises h.cil_rises h.flight_rises h.ail_rises
+              (λ q busy. busy_by ns l q (is_busy_in owners l q) (λ o. busy_owned owners l q (is_in_filter_map q (owner_aborted t trans.leg) owners (keeps_owner_aborted t trans.leg) o))
+                (busy_committed owners l q) (busy_flying owners l q) (busy_active owners l q) busy));
+          owners_rise = rises;
+          transactions_rise = rises_without 0 t ts h.transactions_rise;
+          cil_rises = h.cil_rises;
+          flight_rises = h.flight_rises;
+          ail_rises = h.ail_rises;
+          landed_rises = h.landed_rises;
+          landed_below = h.landed_below;
+          flying = h.flying;
+          fair = fair_others ns (λ u b other own. owns_aborted t u b trans.leg owners other own);
+        }
+
+    -- the marks that reach the list were charged, and the grant goes
+    pub parts_ended : charge trans.leg.changes ≤ trans.unit * trans.legs
+        → AreSound log_bytes (filter_map (owner_after t trans.leg l.open_number) owners) (without t ts) (record l { cil = with_marks trans.leg.changes l.cil })
+    parts_ended within =
+        let ns : List (ℕ × Owner) = filter_map (owner_after t trans.leg l.open_number) owners in
+        let n : Items = record l { cil = with_marks trans.leg.changes l.cil } in
+        let fair : IsFair owners (t, trans) = each_at (IsFair owners) t trans ts is h.fair in
+        let rises : IsRising ns = rises_filter_map 0 (owner_after t trans.leg l.open_number) owners (keeps_owner_after t trans.leg l.open_number) h.owners_rise in
+        let marked : IsRising n.cil = rises_with_marks trans.leg.changes l.cil h.cil_rises in
+        let space = h.space in
+        let few = h.busy in
+        let listed : (q : ℕ) → is_in q n.cil ≡ true → is_busy_in owners l q ≡ true =
+            λ q there.
+              elim (is_in_with_marks q trans.leg.changes l.cil there)
+              [ inl changed ↦ busy_owned owners l q (owned_there t q owners (each_in (λ b. Owns owners t b) q trans.leg.changes changed fair.owned))
+              | inr old ↦ busy_committed owners l q old ] in
+        record {
+          space = omega (arith, space, within, granted_less, cost-with_marks trans.leg.changes l.cil h.cil_rises fair.covered);
+          busy =
+            omega (arith, few, fewer_busy ns owners n l rises marked h.flight_rises h.ail_rises
+              (λ q busy. busy_by ns n q (is_busy_in owners l q) (λ o. busy_owned owners l q (is_in_filter_map q (owner_after t trans.leg l.open_number) owners (keeps_owner_after t trans.leg l.open_number) o))
+                (listed q) (busy_flying owners l q) (busy_active owners l q) busy));
+          owners_rise = rises;
+          transactions_rise = rises_without 0 t ts h.transactions_rise;
+          cil_rises = marked;
+          flight_rises = h.flight_rises;
+          ail_rises = h.ail_rises;
+          landed_rises = h.landed_rises;
+          landed_below = h.landed_below;
+          flying = between_committed l.flight l (with_marks trans.leg.changes l.cil) h.flying;
+          fair = fair_others ns (λ u b other own. owns_after t u b trans.leg l.open_number owners other own);
+        }
