@@ -61,6 +61,9 @@ module _ (owners : List (ℕ × Owner)) (l : Items) (q : ℕ) where
       → is_busy_in owners l q ≡ true → x ≡ true
   busy_by x ho hc hf ha h = by_four (is_in q owners) (is_in q l.cil) (is_in q (flight_items l.flight)) (is_in q l.ail) x ho hc hf ha h
 
+nothing : false ≡ true → ⊥
+nothing h = cc
+
 -- a number that is this one, which is busy, or is busy
 busy_too : (q b : ℕ) (busy : ℕ → Bool) → busy b ≡ true → ((q == b) || busy q) ≡ true → busy q ≡ true
 busy_too q b busy here h =
@@ -107,6 +110,42 @@ parts_empty log_bytes = record {
   flying = tt;
   fair = tt;
 }
+
+-- ---- the active list after a landing
+step_rises : (gone there : Bool) (b number : ℕ) (ail : List (ℕ × ℕ)) → IsRising ail → IsRising (if gone then without b ail else (if there then ail else put b number ail))
+step_rises true there b number ail r = rises_without 0 b ail r
+step_rises false true b number ail r = r
+step_rises false false b number ail r = rises_put 0 b number ail (omega arith) r
+
+step_in : (gone there : Bool) (q b number : ℕ) (ail : List (ℕ × ℕ)) → is_in q (if gone then without b ail else (if there then ail else put b number ail)) ≡ true → (q ≡ b) ⊎ (is_in q ail ≡ true)
+step_in true there q b number ail h = inr (is_in_without q b ail h)
+step_in false true q b number ail h = inr h
+step_in false false q b number ail h = is_in_put_cases q b number ail h
+
+-- the active list after one item
+abbrev pub activated_one : ℕ → ℕ × List ℕ → List (ℕ × ℕ) → List (ℕ × ℕ)
+activated_one number e ail = if length e.1 == 0 then without e.0 ail else (if is_in e.0 ail then ail else put e.0 number ail)
+
+pub rises_activated : (number : ℕ) (es : List (ℕ × List ℕ)) (ail : List (ℕ × ℕ)) → IsRising ail → IsRising (activated number es ail)
+rises_activated number [] ail r = r
+rises_activated number (e ∷ es) ail r = rises_activated number es (activated_one number e ail) (step_rises (length e.1 == 0) (is_in e.0 ail) e.0 number ail r)
+
+-- what is active landed or was active
+pub is_in_activated : (q number : ℕ) (es : List (ℕ × List ℕ)) (ail : List (ℕ × ℕ)) → is_in q (activated number es ail) ≡ true → (is_in q es ≡ true) ⊎ (is_in q ail ≡ true)
+is_in_activated q number [] ail h = inr h
+is_in_activated q number (e ∷ es) ail h =
+    elim (is_in_activated q number es (activated_one number e ail) h)
+    [ inl landed ↦ inl (is_in_later q e es landed)
+    | inr there ↦
+        elim (step_in (length e.1 == 0) (is_in e.0 ail) q e.0 number ail there)
+        [ inl same ↦ inl (is_in_first q e es same)
+        | inr old ↦ inr old ] ]
+
+-- a transaction's blocks wait for no checkpoint
+owns_landed : (number u b : ℕ) (owners : List (ℕ × Owner)) → Owns owners u b → Owns (filter (λ e. not (waits_on number e.1)) owners) u b
+owns_landed number u b owners h =
+    let own = own_trans u (at b owners) h in
+    ap (λ o. is_some (own_count u o)) (at_filter b (Trans u own.0) (λ e. not (waits_on number e.1)) owners own.1 refl) ∙ ap is_some (own_itself u own.0)
 
 module _ (log_bytes : ℕ) (owners : List (ℕ × Owner)) (ts : List (ℕ × Transaction)) (l : Items) (h : AreSound log_bytes owners ts l) where
   -- ---- a transaction opens
@@ -251,3 +290,80 @@ module _ (log_bytes : ℕ) (owners : List (ℕ × Owner)) (ts : List (ℕ × Tra
           flying = between_committed l.flight l (with_marks trans.leg.changes l.cil) h.flying;
           fair = fair_others ns (λ u b other own. owns_after t u b trans.leg l.open_number owners other own);
         }
+
+  -- ---- a checkpoint begins
+  pub parts_flown : (text : List ℕ) → is_none l.flight ≡ true
+      → AreSound log_bytes owners ts (record l { open_number = l.open_number + 1; cil = []; flight = Some (record { number = l.open_number; items = l.cil; text = text }) })
+  parts_flown text none =
+      let n : Items = record l { open_number = l.open_number + 1; cil = []; flight = Some (record { number = l.open_number; items = l.cil; text = text }) } in
+      let space = h.space in
+      let few = h.busy in
+      record {
+        space = omega (arith, space, no_flight l.flight none);
+        busy =
+          omega (arith, few, fewer_busy owners owners n l h.owners_rise tt h.cil_rises h.ail_rises
+            (λ q busy. busy_by owners n q (is_busy_in owners l q) (busy_owned owners l q) (λ there. absurd (nothing there)) (busy_committed owners l q) (busy_active owners l q) busy));
+        owners_rise = h.owners_rise;
+        transactions_rise = h.transactions_rise;
+        cil_rises = tt;
+        flight_rises = h.cil_rises;
+        ail_rises = h.ail_rises;
+        landed_rises = h.landed_rises;
+        landed_below = each_map (λ e. e.0 < l.open_number) (λ e. e.0 < l.open_number + 1) l.landed (λ e less. omega (arith, less)) h.landed_below;
+        flying = (omega arith, h.landed_below);
+        fair = h.fair;
+      }
+
+  -- ---- the flight is given up
+  pub parts_failed : AreSound log_bytes owners ts (record l { flight = None })
+  parts_failed =
+      let n : Items = record l { flight = None } in
+      let space = h.space in
+      let few = h.busy in
+      record {
+        space = omega (arith, space);
+        busy =
+          omega (arith, few, fewer_busy owners owners n l h.owners_rise h.cil_rises tt h.ail_rises
+            (λ q busy. busy_by owners n q (is_busy_in owners l q) (busy_owned owners l q) (busy_committed owners l q) (λ there. absurd (nothing there)) (busy_active owners l q) busy));
+        owners_rise = h.owners_rise;
+        transactions_rise = h.transactions_rise;
+        cil_rises = h.cil_rises;
+        flight_rises = tt;
+        ail_rises = h.ail_rises;
+        landed_rises = h.landed_rises;
+        landed_below = h.landed_below;
+        flying = tt;
+        fair = h.fair;
+      }
+
+  -- ---- the flight is on the log
+  pub parts_landed : (f : Flight) → l.flight ≡ Some f → AreSound log_bytes (filter (λ e. not (waits_on f.number e.1)) owners) ts (landed_items f l)
+  parts_landed f is =
+      let ns : List (ℕ × Owner) = filter (λ e. not (waits_on f.number e.1)) owners in
+      let ail : List (ℕ × ℕ) = activated f.number f.items l.ail in
+      let n : Items = landed_items f l in
+      let between : (f.number < l.open_number) × AllBelow f.number l.landed = subst (λ o. IsBetween o l) is h.flying in
+      let rises : IsRising ns = rises_filter 0 (λ e. not (waits_on f.number e.1)) owners h.owners_rise in
+      let active : IsRising ail = rises_activated f.number f.items l.ail h.ail_rises in
+      let flies : (q : ℕ) → is_in q f.items ≡ true → is_busy_in owners l q ≡ true = λ q there. busy_flying owners l q (ap (λ o. is_in q (flight_items o)) is ∙ there) in
+      let space = h.space in
+      let few = h.busy in
+      record {
+        space =
+          omega (arith, space, ap (λ o. cost (flight_items o)) is, sum_filter_le (λ e. e.1) (λ e. is_needed ail e.0) (put f.number (cost f.items) l.landed), sum_put_le (λ e. e.1) f.number (cost f.items) l.landed);
+        busy =
+          omega (arith, few, fewer_busy ns owners n l rises h.cil_rises tt active
+            (λ q busy. busy_by ns n q (is_busy_in owners l q) (λ o. busy_owned owners l q (is_in_filter q (λ e. not (waits_on f.number e.1)) owners o)) (busy_committed owners l q) (λ there. absurd (nothing there))
+              (λ there. elim (is_in_activated q f.number f.items l.ail there) [ inl flew ↦ flies q flew | inr old ↦ busy_active owners l q old ]) busy));
+        owners_rise = rises;
+        transactions_rise = h.transactions_rise;
+        cil_rises = h.cil_rises;
+        flight_rises = tt;
+        ail_rises = active;
+        landed_rises = rises_filter 0 (λ e. is_needed ail e.0) (put f.number (cost f.items) l.landed) (rises_put 0 f.number (cost f.items) l.landed (omega arith) h.landed_rises);
+        landed_below =
+          each_filter (λ e. e.0 < l.open_number) (λ e. is_needed ail e.0) (put f.number (cost f.items) l.landed)
+          (each_put (λ e. e.0 < l.open_number) f.number (cost f.items) l.landed between.0 h.landed_below);
+        flying = tt;
+        fair = each_map (IsFair owners) (IsFair ns) ts (λ e fair. fair_with owners ns e (λ b own. owns_landed f.number e.0 b owners own) fair) h.fair;
+      }
