@@ -6,3 +6,4 @@ pub mod CostLemmas
 pub mod BusyLemmas
 pub mod LegLemmas
 pub mod SoundParts
+pub mod SoundSteps
