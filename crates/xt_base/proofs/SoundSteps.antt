@@ -1,25 +1,25 @@
 -- Each step of a mount keeps it sound: one lemma for each request and job.
 use Rattle.std.proofs.Common.{◌≡◌, ◌≢◌, ◌∙◌, ◌⊎◌, ◌+◌, ◌*◌, ◌<◌, ◌≤◌, ◌∷◌, Bool, List, None, Option, Some, [], ap, arith, cond, false, inl, inr, length, refl, subst, suc, sym, true, ℕ}
 use Rattle.std.proofs.Math.Nat.{le-mul_of_pos_right}
-use Rattle.std.proofs.lemmas.Bool.{and_cases, and_parts, cases_Bool, eqb-false, eqb-true, leb-false, ltb-false, ne_eqb, not-false, not-true, or_parts}
+use Rattle.std.proofs.lemmas.Bool.{and_cases, and_parts, cases_Bool, eqb-false, eqb-true, false_from_ne_true, leb-false, ltb-false, ne_eqb, not-false, not-true, or_parts}
 use Rattle.std.specs.Prelude.{filter, if◌then◌else◌, is_none, is_some, nat_le, nat_lt, not, ◌&&◌, ◌==◌, ◌||◌}
 use Rattle.xt_base.proofs.BusyLemmas.{is_busy_in}
 use Rattle.xt_base.proofs.KeyLemmas.{each_with_member, each_without_member, is_in_put, is_in_put_old, rises_keys_filter, rises_keys_with}
 use Rattle.xt_base.proofs.LegLemmas.{charge_alike, covered_edit, is_in_with_marks, length_with_marks_ge, owned_there, rises_with_edits, rises_with_lost}
 use Rattle.xt_base.proofs.MapLemmas.{at_put_same}
 use Rattle.xt_base.proofs.RisingLemmas.{each_at, each_both, each_filter, each_in, each_map, each_passes, each_put, each_set_at, each_without, rises_filter, rises_put}
-use Rattle.xt_base.proofs.SoundParts.{busy_by, busy_owned, is_in_activated, parts_aborted, parts_empty, parts_ended, parts_failed, parts_flown, parts_landed, parts_leg, parts_locked, parts_opened}
+use Rattle.xt_base.proofs.SoundParts.{busy_active, busy_by, busy_committed, busy_flying, busy_owned, is_in_activated, parts_aborted, parts_empty, parts_ended, parts_failed, parts_flown, parts_landed, parts_leg, parts_locked, parts_opened}
 use Rattle.xt_base.specs.declared.steps.Reply.{Reply}
 use Rattle.xt_base.specs.declared.steps.Reply.TheVariants.{Committed, Failed, Landed, Nothing, Okay, Refused, Wait}
 use Rattle.xt_base.specs.declared.steps.Reply.TheVariants as Reply
 use Rattle.xt_base.specs.Calls.{Outcome, commit_number, gives, held_of, io_of,  alloc, alloc_refusals, allocated, asks_ckpt, asks_flush, at_end, closed, commit, edited, first_of, force, force_to, force_to_refusals, get_refusals, is_elsewhere, is_flight, is_fresh, is_own, locked, log_refusals, logged_leg, new_trans, not_fresh, overwritten, push, seen, shut_down, shut_for, shutdown, unless, waits_for, with_leg}
 use Rattle.xt_base.specs.Chunks.{marks, union}
-use Rattle.xt_base.specs.Jobs.{begin, end, end_of, failed, finished, flown, is_ckpt, is_ok, is_outstanding, is_owed, is_serial, is_waiting, is_wanted, is_worth, job, landed, next_text, posted}
+use Rattle.xt_base.specs.Jobs.{activated, begin, begun, end, end_of, failed, finished, flown, is_ckpt, is_ok, is_outstanding, is_owed, is_serial, is_waiting, is_wanted, is_worth, job, landed, landed_items, next_text, posted, waits_on}
 use Rattle.xt_base.specs.Legs.{aborted, change_of, clean_leg, ended, is_dirty, is_lost, is_stale, own_count, with_edits, with_lost, with_marks}
 use Rattle.xt_base.specs.Maps.{at, has, is_in, put, set_at, with_member, without, without_member}
 use Rattle.xt_base.specs.Settle.{Dropped, settled}
 use Rattle.xt_base.specs.Sound.{AreKept, AreSound, Each, IsFair, IsReady, IsRising, IsSound, IsUnwritten, Owns, RisesFrom, RisesFromKeys}
-use Rattle.xt_base.specs.Space.{busy_count, charge, cost, greatest, is_busy, is_listed, used}
+use Rattle.xt_base.specs.Space.{busy_count, charge, cost, flight_items, greatest, is_busy, is_listed, used}
 use Rattle.xt_base.specs.State.{Change, Flight, Frames, Items, Jobs, Leg, State, Transaction, mount_of}
 use Rattle.xt_base.specs.declared.names.JobKind.{JobKind}
 use Rattle.xt_base.specs.declared.names.JobKind.TheVariants as JobKind
@@ -53,6 +53,37 @@ is_none_some (Some x) n s = absurd (cc)
 is_none_not : {A : Type 0} (o : Option A) → is_some o ≡ false → is_none o ≡ true
 is_none_not None h = refl
 is_none_not (Some x) h = absurd (cc)
+
+second_false : (x y : Bool) → x ≡ true → (x && y) ≡ false → y ≡ false
+second_false true y is h = h
+second_false false y is h = absurd (cc)
+
+left_true : (x y : Bool) → y ≡ false → (x || y) ≡ true → x ≡ true
+left_true true y off h = refl
+left_true false y off h = absurd (cc)
+
+-- on no list
+listed_parts : (c f a : Bool) → (c || f || a) ≡ false → (c ≡ false) × (f ≡ false) × (a ≡ false)
+listed_parts false false false h = (refl, refl, refl)
+listed_parts true f a h = absurd (cc)
+listed_parts false true a h = absurd (cc)
+listed_parts false false true h = absurd (cc)
+
+unlisted_by : (c f a : Bool) → c ≡ false → f ≡ false → a ≡ false → (c || f || a) ≡ false
+unlisted_by c f a hc hf ha = ap (λ x. x || f || a) hc ∙ ap (λ x. x || a) hf ∙ ha
+
+not_true : false ≡ true → ⊥
+not_true h = cc
+
+none_flying : (o : Option Flight) (b : ℕ) → is_none o ≡ true → is_in b (flight_items o) ≡ true → ⊥
+none_flying None b none there = not_true there
+none_flying (Some f) b none there = not_true none
+
+-- what neither flew nor was active is not active
+not_active : (number : ℕ) (es : List (ℕ × List ℕ)) (ail : List (ℕ × ℕ)) (b : ℕ) → is_in b es ≡ false → is_in b ail ≡ false → is_in b (activated number es ail) ≡ false
+not_active number es ail b flew old =
+    false_from_ne_true (is_in b (activated number es ail))
+    (λ there. elim (is_in_activated b number es ail there) [ inl now ↦ not_true (sym flew ∙ now) | inr was ↦ not_true (sym old ∙ was) ])
 
 -- ---- steps that change no part
 shut_for_some : (reason : Reason) (o : Option Reason) → is_none (shut_for reason o) ≡ true → ⊥
@@ -198,3 +229,104 @@ sound_posted kind s h owed = record {
   legs_left = h.legs_left;
   fresh_owned = h.fresh_owned;
 }
+
+serial_there : (n : ℕ) (o : Option ℕ) → is_serial n o ≡ true → is_some o ≡ true
+serial_there n None h = h
+serial_there n (Some k) h = refl
+
+ckpt_there : (kind : JobKind) (n : ℕ) (j : Jobs) → is_ckpt kind ≡ true → is_serial n (job kind j) ≡ true → is_some j.ckpt ≡ true
+ckpt_there JobKind.Ckpt n j is out = serial_there n j.ckpt out
+ckpt_there JobKind.Flush n j is out = absurd (cc)
+
+ready_finished : (l n : Items) (j : Jobs) → n.open_number ≡ l.open_number → IsReady l j → IsReady n (record j { ckpt = None })
+ready_finished l n j same r =
+    let numbered = r.numbered in
+    let bounded = r.bounded in
+    record {
+      numbered = omega (arith, numbered, same);
+      bounded = omega (arith, bounded, same);
+      worth = λ out none. absurd (cc out);
+      room = λ out none. absurd (cc out);
+    }
+
+-- no checkpoint is outstanding
+pub sound_finished : (s : State) → IsSound s → IsSound (finished JobKind.Ckpt s)
+sound_finished s h = record {
+  log_small = h.log_small;
+  parts = h.parts;
+  kept = h.kept;
+  ready = ready_finished s.items s.items s.jobs refl h.ready;
+  legs_left = h.legs_left;
+  fresh_owned = h.fresh_owned;
+}
+
+module _ (s : State) (h : IsSound s) where
+  -- the frames of a step after which each busy block is busy still
+  kept_on : (n : State) → ((b : ℕ) → is_busy s b ≡ true → is_busy n b ≡ true) → AreKept (is_busy n) s.frames
+  kept_on n still = record {
+    committed_rises = h.kept.committed_rises;
+    committed_busy = each_map (λ e. is_busy s e.0 ≡ true) (λ e. is_busy n e.0 ≡ true) s.frames.committed (λ e busy. still e.0 busy) h.kept.committed_busy;
+    fresh_rises = h.kept.fresh_rises;
+    fresh_busy = each_map (λ b. is_busy s b ≡ true) (λ b. is_busy n b ≡ true) s.frames.fresh still h.kept.fresh_busy;
+  }
+
+  pub sound_flown : (text : List ℕ) → is_some s.jobs.ckpt ≡ true → is_none s.items.flight ≡ true → IsSound (flown text s)
+  sound_flown text out none =
+      let numbered = h.ready.numbered in
+      let room = h.ready.room out none in
+      let n : State = flown text s in
+      record {
+        log_small = h.log_small;
+        parts = parts_flown s.log_bytes s.owners s.transactions s.items h.parts text none;
+        kept = kept_on n (λ b busy. busy_by s.owners s.items b (is_busy n b) (busy_owned n.owners n.items b) (busy_flying n.owners n.items b) (λ there. absurd (none_flying s.items.flight b none there)) (busy_active n.owners n.items b) busy);
+        ready = record {
+          numbered = omega arith;
+          bounded = omega (arith, room);
+          worth = λ out none. absurd (cc none);
+          room = λ out none. absurd (cc none);
+        };
+        legs_left = h.legs_left;
+        fresh_owned = λ live.
+          each_map (IsUnwritten s.owners s.transactions s.items) (IsUnwritten s.owners s.transactions n.items) s.frames.fresh
+          (λ b u.
+            let off = listed_parts (is_in b s.items.cil) (is_in b (flight_items s.items.flight)) (is_in b s.items.ail) u.unlisted in
+            record { owned = u.owned; unlisted = unlisted_by false (is_in b s.items.cil) (is_in b s.items.ail) refl off.0 off.2; unchanged = u.unchanged })
+          (h.fresh_owned live);
+      }
+
+  pub sound_begin : (name : JobName) → is_waiting name s ≡ true → is_ckpt name.kind ≡ true → IsSound (begin s).state
+  sound_begin name waits ckpt =
+      let both = and_parts (is_outstanding name s) (not (is_ckpt name.kind && is_some s.items.flight)) waits in
+      let out : is_some s.jobs.ckpt ≡ true = ckpt_there name.kind name.serial s.jobs ckpt (and_parts (name.life == s.life) (is_serial name.serial (job name.kind s.jobs)) both.0).1 in
+      let none : is_none s.items.flight ≡ true = is_none_not s.items.flight (second_false (is_ckpt name.kind) (is_some s.items.flight) ckpt (not-true (is_ckpt name.kind && is_some s.items.flight) both.1)) in
+      sound_either (is_some s.shut) (gives Nothing (finished JobKind.Ckpt s)) (begun (next_text s) s) (λ shut. sound_finished s h) (λ live. sound_flown (next_text s) out none)
+
+  -- ---- end
+  pub sound_failed : (dropped : Dropped) → IsSound (failed dropped s)
+  sound_failed dropped =
+      sound_settling dropped (finished JobKind.Ckpt (shut_down LogIoError (record s { items = record s.items { flight = None } }))) h.log_small
+      (parts_failed s.log_bytes s.owners s.transactions s.items h.parts) h.kept.committed_rises h.kept.fresh_rises (ready_finished s.items (record s.items { flight = None }) s.jobs refl h.ready)
+      (λ live. absurd (shut_for_some LogIoError s.shut live)) (λ live. absurd (shut_for_some LogIoError s.shut live))
+
+  pub sound_landed : (dropped : Dropped) (f : Flight) → s.items.flight ≡ Some f → IsSound (landed dropped f s)
+  sound_landed dropped f is =
+      let ns : List (ℕ × Owner) = filter (λ e. not (waits_on f.number e.1)) s.owners in
+      let n : Items = landed_items f s.items in
+      sound_settling dropped (finished JobKind.Ckpt (record s { owners = ns; items = n })) h.log_small
+      (parts_landed s.log_bytes s.owners s.transactions s.items h.parts f is) h.kept.committed_rises h.kept.fresh_rises (ready_finished s.items n s.jobs refl h.ready) h.legs_left
+      (λ live.
+        each_map (IsUnwritten s.owners s.transactions s.items) (λ b. is_busy_in ns n b ≡ true → IsUnwritten ns s.transactions n b) s.frames.fresh
+        (λ b u busy.
+          let off = listed_parts (is_in b s.items.cil) (is_in b (flight_items s.items.flight)) (is_in b s.items.ail) u.unlisted in
+          let inactive : is_in b n.ail ≡ false = not_active f.number f.items s.items.ail b (sym (ap (λ o. is_in b (flight_items o)) is) ∙ off.1) off.2 in
+          let unlisted : is_listed n b ≡ false = unlisted_by (is_in b s.items.cil) false (is_in b n.ail) off.0 refl inactive in
+          record { owned = left_true (is_in b ns) (is_listed n b) unlisted busy; unlisted = unlisted; unchanged = u.unchanged })
+        (h.fresh_owned live))
+
+  end_sound : (dropped : Dropped) (answers : LogAnswers) (o : Option Flight) → s.items.flight ≡ o → IsSound (end_of dropped answers s o).state
+  end_sound dropped answers None is = h
+  end_sound dropped answers (Some f) is =
+      sound_either (is_ok answers.sync) (gives (Landed f.number) (landed dropped f s)) (gives (Failed f.number) (failed dropped s)) (λ ok. sound_landed dropped f is) (λ bad. sound_failed dropped)
+
+  pub sound_end : (dropped : Dropped) (answers : LogAnswers) → IsSound (end dropped answers s).state
+  sound_end dropped answers = end_sound dropped answers s.items.flight refl
