@@ -2,7 +2,7 @@
 use Rattle.std.proofs.Common.{◌≡◌, ◌≢◌, ◌∙◌, ◌⊎◌, ◌+◌, ◌*◌, ◌<◌, ◌≤◌, ◌∷◌, Bool, List, None, Option, Some, [], ap, arith, cond, false, inl, inr, length, refl, subst, suc, sym, true, ℕ}
 use Rattle.std.proofs.Math.Nat.{le-mul_of_pos_right}
 use Rattle.std.proofs.lemmas.Bool.{and_cases, and_parts, cases_Bool, eqb-false, eqb-true, false_from_ne_true, leb-false, ltb-false, ne_eqb, not-false, not-true, or_parts}
-use Rattle.std.specs.Prelude.{filter, if◌then◌else◌, is_none, is_some, nat_le, nat_lt, not, ◌&&◌, ◌==◌, ◌||◌}
+use Rattle.std.specs.Prelude.{filter, if◌then◌else◌, is_none, is_some, nat_le, nat_lt, not, sum_by, ◌&&◌, ◌==◌, ◌||◌}
 use Rattle.xt_base.proofs.BusyLemmas.{is_busy_in}
 use Rattle.xt_base.proofs.KeyLemmas.{each_with_member, each_without_member, is_in_put, is_in_put_old, rises_keys_filter, rises_keys_with}
 use Rattle.xt_base.proofs.LegLemmas.{charge_alike, covered_edit, is_in_with_marks, length_with_marks_ge, owned_there, rises_with_edits, rises_with_lost}
@@ -12,14 +12,14 @@ use Rattle.xt_base.proofs.SoundParts.{busy_active, busy_by, busy_committed, busy
 use Rattle.xt_base.specs.declared.steps.Reply.{Reply}
 use Rattle.xt_base.specs.declared.steps.Reply.TheVariants.{Committed, Failed, Landed, Nothing, Okay, Refused, Wait}
 use Rattle.xt_base.specs.declared.steps.Reply.TheVariants as Reply
-use Rattle.xt_base.specs.Calls.{Outcome, commit_number, gives, held_of, io_of,  alloc, alloc_refusals, allocated, asks_ckpt, asks_flush, at_end, closed, commit, edited, first_of, force, force_to, force_to_refusals, get_refusals, is_elsewhere, is_flight, is_fresh, is_own, locked, log_refusals, logged_leg, new_trans, not_fresh, overwritten, push, seen, shut_down, shut_for, shutdown, unless, waits_for, with_leg}
+use Rattle.xt_base.specs.Calls.{Outcome, commit_number, gives, held_of, io_of,  alloc, alloc_refusals, allocated, asks_ckpt, asks_flush, at_end, brought, busied, closed, commit, edited, first_of, force, force_to, force_to_refusals, get_refusals, is_elsewhere, is_flight, is_fresh, is_own, locked, log_refusals, logged_leg, made_fresh, new_trans, not_fresh, overwritten, push, seen, shut_down, shut_for, shutdown, unless, waits_for, with_leg, with_owner}
 use Rattle.xt_base.specs.Chunks.{marks, union}
 use Rattle.xt_base.specs.Jobs.{activated, begin, begun, end, end_of, failed, finished, flown, is_ckpt, is_ok, is_outstanding, is_owed, is_serial, is_waiting, is_wanted, is_worth, job, landed, landed_items, next_text, posted, waits_on}
 use Rattle.xt_base.specs.Legs.{aborted, change_of, clean_leg, ended, is_dirty, is_lost, is_stale, own_count, with_edits, with_lost, with_marks}
 use Rattle.xt_base.specs.Maps.{at, has, is_in, put, set_at, with_member, without, without_member}
 use Rattle.xt_base.specs.Settle.{Dropped, settled}
-use Rattle.xt_base.specs.Sound.{AreKept, AreSound, Each, IsFair, IsReady, IsRising, IsSound, IsUnwritten, Owns, RisesFrom, RisesFromKeys}
-use Rattle.xt_base.specs.Space.{busy_count, charge, cost, flight_items, greatest, is_busy, is_listed, used}
+use Rattle.xt_base.specs.Sound.{AreKept, AreSound, Each, IsCovered, IsFair, IsReady, IsRising, IsSound, IsUnwritten, Owns, RisesFrom, RisesFromKeys}
+use Rattle.xt_base.specs.Space.{busy_count, change_cost, charge, cost, flight_items, greatest, is_busy, is_listed, used}
 use Rattle.xt_base.specs.State.{Change, Flight, Frames, Items, Jobs, Leg, State, Transaction, mount_of}
 use Rattle.xt_base.specs.declared.names.JobKind.{JobKind}
 use Rattle.xt_base.specs.declared.names.JobKind.TheVariants as JobKind
@@ -84,6 +84,31 @@ not_active : (number : ℕ) (es : List (ℕ × List ℕ)) (ail : List (ℕ × �
 not_active number es ail b flew old =
     false_from_ne_true (is_in b (activated number es ail))
     (λ there. elim (is_in_activated b number es ail there) [ inl now ↦ not_true (sym flew ∙ now) | inr was ↦ not_true (sym old ∙ was) ])
+
+-- what no leg changed and no item was of is no item after a commit
+not_marked : (cs : List (ℕ × Change)) (m : List (ℕ × List ℕ)) (b : ℕ) → is_in b cs ≡ false → is_in b m ≡ false → is_in b (with_marks cs m) ≡ false
+not_marked cs m b changed old =
+    false_from_ne_true (is_in b (with_marks cs m))
+    (λ there. elim (is_in_with_marks b cs m there) [ inl now ↦ not_true (sym changed ∙ now) | inr was ↦ not_true (sym old ∙ was) ])
+
+-- a block that nobody has was changed by nobody
+unchanged_by : (owners : List (ℕ × Owner)) (e : ℕ × Transaction) (b : ℕ) → is_in b owners ≡ false → IsFair owners e → is_in b e.1.leg.changes ≡ false
+unchanged_by owners e b other fair =
+    false_from_ne_true (is_in b e.1.leg.changes) (λ there. not_true (sym other ∙ owned_there e.0 b owners (each_in (λ q. Owns owners e.0 q) b e.1.leg.changes there fair.owned)))
+
+-- an edit changes no other block
+apart_edit : (k b : ℕ) (content marked : List ℕ) (leg : Leg) → k ≢ b → is_in k leg.changes ≡ false → is_in k (edited b content marked leg).changes ≡ false
+apart_edit k b content marked leg other old =
+    is_in_put k b (record { edit = Some content; marks = union (change_of b leg).marks marked; charged = union (change_of b leg).charged marked }) leg.changes
+    ∙ ap (λ x. x || is_in k leg.changes) (ne_eqb k b other) ∙ old
+
+ready_ended : (l : Items) (cs : List (ℕ × Change)) (j : Jobs) → IsReady l j → IsReady (record l { cil = with_marks cs l.cil }) j
+ready_ended l cs j r = record {
+  numbered = r.numbered;
+  bounded = r.bounded;
+  worth = λ out none. omega (arith, r.worth out none, length_with_marks_ge cs l.cil);
+  room = r.room;
+}
 
 -- ---- steps that change no part
 shut_for_some : (reason : Reason) (o : Option Reason) → is_none (shut_for reason o) ≡ true → ⊥
@@ -330,3 +355,198 @@ module _ (s : State) (h : IsSound s) where
 
   pub sound_end : (dropped : Dropped) (answers : LogAnswers) → IsSound (end dropped answers s).state
   sound_end dropped answers = end_sound dropped answers s.items.flight refl
+
+-- ---- get
+-- a block that somebody has as it is, or nobody
+module _ (t b count : ℕ) (s : State) (h : IsSound s) (free : is_elsewhere s t b ≡ false) where
+  owned_more : (q : ℕ) → is_busy s q ≡ true → is_busy (with_owner b (Trans t count) s) q ≡ true
+  owned_more q busy =
+      let ns : List (ℕ × Owner) = put b (Trans t count) s.owners in
+      busy_by s.owners s.items q (is_busy_in ns s.items q) (λ there. busy_owned ns s.items q (is_in_put_old q b (Trans t count) s.owners there))
+      (busy_committed ns s.items q) (busy_flying ns s.items q) (busy_active ns s.items q) busy
+
+  owned_now : is_busy (with_owner b (Trans t count) s) b ≡ true
+  owned_now = busy_owned (put b (Trans t count) s.owners) s.items b (ap is_some (at_put_same b (Trans t count) s.owners))
+
+  unwritten_more : (q : ℕ) → IsUnwritten s.owners s.transactions s.items q → IsUnwritten (put b (Trans t count) s.owners) s.transactions s.items q
+  unwritten_more q u = record { owned = is_in_put_old q b (Trans t count) s.owners u.owned; unlisted = u.unlisted; unchanged = u.unchanged }
+
+  -- with these frames
+  pub sound_owner : (frames : Frames) → (is_busy s b ≡ true) ⊎ (busy_count s < 64) → AreKept (is_busy (with_owner b (Trans t count) s)) frames
+      → (is_none s.shut ≡ true → Each (IsUnwritten (put b (Trans t count) s.owners) s.transactions s.items) frames.fresh) → IsSound (with_owner b (Trans t count) (record s { frames = frames }))
+  sound_owner frames room kept unwritten = record {
+    log_small = h.log_small;
+    parts = parts_locked s.log_bytes s.owners s.transactions s.items h.parts t b count free room;
+    kept = kept;
+    ready = h.ready;
+    legs_left = h.legs_left;
+    fresh_owned = unwritten;
+  }
+
+  -- a busy block
+  pub sound_owner_busy : is_busy s b ≡ true → IsSound (with_owner b (Trans t count) s)
+  sound_owner_busy busy =
+      sound_owner s.frames (inl busy) (kept_on s h (with_owner b (Trans t count) s) owned_more)
+      (λ live. each_map (IsUnwritten s.owners s.transactions s.items) (IsUnwritten (put b (Trans t count) s.owners) s.transactions s.items) s.frames.fresh unwritten_more (h.fresh_owned live))
+
+  -- an idle block
+  pub sound_owner_idle : (content : List ℕ) → busy_count s < 64 → IsSound (with_owner b (Trans t count) (busied b content s))
+  sound_owner_idle content room =
+      let n : State = with_owner b (Trans t count) s in
+      let kept = kept_on s h n owned_more in
+      sound_owner (busied b content s).frames (inr room)
+      (record {
+        committed_rises = rises_put 0 b content s.frames.committed (omega arith) kept.committed_rises;
+        committed_busy = each_put (λ e. is_busy n e.0 ≡ true) b content s.frames.committed owned_now kept.committed_busy;
+        fresh_rises = kept.fresh_rises;
+        fresh_busy = kept.fresh_busy;
+      })
+      (λ live. each_map (IsUnwritten s.owners s.transactions s.items) (IsUnwritten (put b (Trans t count) s.owners) s.transactions s.items) s.frames.fresh unwritten_more (h.fresh_owned live))
+
+  -- a block that is neither
+  pub sound_owner_fresh : is_busy s b ≡ false → busy_count s < 64 → IsSound (with_owner b (Trans t count) (made_fresh b s))
+  sound_owner_fresh other room =
+      let n : State = with_owner b (Trans t count) s in
+      let kept = kept_on s h n owned_more in
+      let apart = or_parts (is_in b s.owners) (is_listed s.items b) other in
+      let new : IsUnwritten (put b (Trans t count) s.owners) s.transactions s.items b = record {
+        owned = ap is_some (at_put_same b (Trans t count) s.owners);
+        unlisted = apart.1;
+        unchanged = each_map (IsFair s.owners) (λ e. is_in b e.1.leg.changes ≡ false) s.transactions (λ e fair. unchanged_by s.owners e b apart.0 fair) h.parts.fair;
+      } in
+      sound_owner (made_fresh b s).frames (inr room)
+      (record {
+        committed_rises = kept.committed_rises;
+        committed_busy = kept.committed_busy;
+        fresh_rises = rises_keys_with 0 b s.frames.fresh (omega arith) kept.fresh_rises;
+        fresh_busy = each_with_member (λ q. is_busy n q ≡ true) b s.frames.fresh owned_now kept.fresh_busy;
+      })
+      (λ live. each_with_member (IsUnwritten (put b (Trans t count) s.owners) s.transactions s.items) b s.frames.fresh new
+        (each_map (IsUnwritten s.owners s.transactions s.items) (IsUnwritten (put b (Trans t count) s.owners) s.transactions s.items) s.frames.fresh unwritten_more (h.fresh_owned live)))
+
+  brought_sound : (idle : Option (List ℕ)) → is_busy s b ≡ false → busy_count s < 64 → IsSound (with_owner b (Trans t count) (brought b idle s))
+  brought_sound None other room = sound_owner_fresh other room
+  brought_sound (Some content) other room = sound_owner_idle content room
+
+  first_sound : (busy : Bool) → is_busy s b ≡ busy → (not busy && nat_le 64 (busy_count s)) ≡ false → IsSound (with_owner b (Trans t count) (if busy then s else brought b (at b s.frames.idle) s))
+  first_sound true is room = sound_owner_busy is
+  first_sound false is room = brought_sound (at b s.frames.idle) is (leb-false 64 (busy_count s) room)
+
+-- a block that a transaction has is locked once more, another is locked first
+pub sound_locked : (t b : ℕ) (own : Option ℕ) (s : State) → IsSound s → own_count t (at b s.owners) ≡ own → is_elsewhere s t b ≡ false → (not (is_busy s b) && nat_le 64 (busy_count s)) ≡ false → IsSound (locked t b own s)
+sound_locked t b (Some count) s h is free room = sound_owner_busy t b (count + 1) s h free (busy_owned s.owners s.items b (owned_there t b s.owners (ap is_some is)))
+sound_locked t b None s h is free room = first_sound t b 0 s h free (is_busy s b) refl room
+
+pub sound_get : (t b : ℕ) (s : State) → IsSound s → None ≡ first_of (get_refusals t b s) → IsSound (locked t b (own_count t (at b s.owners)) s)
+sound_get t b s h passes =
+    let first = passes_first (nat_le s.blocks b) Invalid ((is_some s.shut, Io) ∷ (at_end (own_count t (at b s.owners)), Invalid) ∷ (is_elsewhere s t b, Again) ∷ (not (is_busy s b) && nat_le 64 (busy_count s), NoBufs) ∷ []) passes in
+    let second = passes_first (is_some s.shut) Io ((at_end (own_count t (at b s.owners)), Invalid) ∷ (is_elsewhere s t b, Again) ∷ (not (is_busy s b) && nat_le 64 (busy_count s), NoBufs) ∷ []) first.1 in
+    let third = passes_first (at_end (own_count t (at b s.owners))) Invalid ((is_elsewhere s t b, Again) ∷ (not (is_busy s b) && nat_le 64 (busy_count s), NoBufs) ∷ []) second.1 in
+    let fourth = passes_first (is_elsewhere s t b) Again ((not (is_busy s b) && nat_le 64 (busy_count s), NoBufs) ∷ []) third.1 in
+    let fifth = passes_first (not (is_busy s b) && nat_le 64 (busy_count s)) NoBufs [] fourth.1 in
+    sound_locked t b (own_count t (at b s.owners)) s h refl fourth.0 fifth.0
+
+-- ---- log
+-- a leg with one more edit, which is charged within the unit
+pub edit_fair : (t b : ℕ) (content marked : List ℕ) (owners : List (ℕ × Owner)) (trans : Transaction) → IsFair owners (t, trans) → Owns owners t b
+    → charge (edited b [] marked trans.leg).changes ≤ trans.unit → IsFair owners (t, record trans { leg = edited b content marked trans.leg })
+edit_fair t b content marked owners trans fair own room =
+    let c : Change = record { edit = Some content; marks = union (change_of b trans.leg).marks marked; charged = union (change_of b trans.leg).charged marked } in
+    record {
+      unit = omega (arith, room, charge_alike b content [] marked trans.leg fair.rising);
+      rising = rises_put 0 b c trans.leg.changes (omega arith) fair.rising;
+      covered = each_put IsCovered b c trans.leg.changes (covered_edit b content marked trans.leg fair.covered) fair.covered;
+      owned = each_put (λ e. Owns owners t e.0) b c trans.leg.changes own fair.owned;
+    }
+
+pub sound_edited : (t b : ℕ) (content marked : List ℕ) (s : State) (trans : Transaction) → IsSound s → at t s.transactions ≡ Some trans → is_own s t b ≡ true
+    → charge (edited b [] marked trans.leg).changes ≤ trans.unit → IsSound (not_fresh b (with_leg t trans (edited b content marked trans.leg) s))
+sound_edited t b content marked s trans h is own room =
+    let leg : Leg = edited b content marked trans.leg in
+    let fair : IsFair s.owners (t, trans) = each_at (IsFair s.owners) t trans s.transactions is h.parts.fair in
+    let ts : List (ℕ × Transaction) = set_at t (record trans { leg = leg }) s.transactions in
+    record {
+      log_small = h.log_small;
+      parts = parts_leg s.log_bytes s.owners s.transactions s.items h.parts t trans leg is (edit_fair t b content marked s.owners trans fair own room);
+      kept = record {
+        committed_rises = h.kept.committed_rises;
+        committed_busy = h.kept.committed_busy;
+        fresh_rises = rises_keys_filter 0 (λ k. not (k == b)) s.frames.fresh h.kept.fresh_rises;
+        fresh_busy = each_filter (λ k. is_busy s k ≡ true) (λ k. not (k == b)) s.frames.fresh h.kept.fresh_busy;
+      };
+      ready = h.ready;
+      legs_left = λ live. each_set_at (λ e. 1 ≤ e.1.legs) t (record trans { leg = leg }) s.transactions (each_at (λ e. 1 ≤ e.1.legs) t trans s.transactions is (h.legs_left live)) (h.legs_left live);
+      fresh_owned = λ live.
+        each_map (λ k. IsUnwritten s.owners s.transactions s.items k × (k ≢ b)) (IsUnwritten s.owners ts s.items) (without_member b s.frames.fresh)
+        (λ k both. record {
+          owned = both.0.owned;
+          unlisted = both.0.unlisted;
+          unchanged =
+            each_set_at (λ e. is_in k e.1.leg.changes ≡ false) t (record trans { leg = leg }) s.transactions
+            (apart_edit k b content marked trans.leg both.1 (each_at (λ e. is_in k e.1.leg.changes ≡ false) t trans s.transactions is both.0.unchanged)) both.0.unchanged;
+        })
+        (each_without_member (IsUnwritten s.owners s.transactions s.items) b s.frames.fresh (h.fresh_owned live));
+    }
+
+pub sound_log : (t b first : ℕ) (bytes : List ℕ) (s : State) (trans : Transaction) → IsSound s → at t s.transactions ≡ Some trans → None ≡ first_of (log_refusals t b first bytes trans s)
+    → IsSound (not_fresh b (with_leg t trans (logged_leg b first bytes s.frames trans.leg) s))
+sound_log t b first bytes s trans h is passes =
+    let empty : Bool = (length bytes == 0) || nat_lt 4096 (first + length bytes) in
+    let partly : Bool = (is_fresh s b || is_stale b trans.leg) && not ((first == 0) && (length bytes == 4096)) in
+    let over : Bool = nat_lt trans.unit (charge (edited b [] (marks first (length bytes)) trans.leg).changes) in
+    let one = passes_first (not (is_own s t b)) Invalid ((empty, Invalid) ∷ (partly, Invalid) ∷ (over, NoSpace) ∷ []) passes in
+    let two = passes_first empty Invalid ((partly, Invalid) ∷ (over, NoSpace) ∷ []) one.1 in
+    let three = passes_first partly Invalid ((over, NoSpace) ∷ []) two.1 in
+    let four = passes_first over NoSpace [] three.1 in
+    sound_edited t b (overwritten first bytes (seen b trans.leg s.frames)) (marks first (length bytes)) s trans h is (not-false (is_own s t b) one.0)
+    (ltb-false trans.unit (charge (edited b [] (marks first (length bytes)) trans.leg).changes) four.0)
+
+-- ---- commit
+-- on a live mount a grant covers the charge
+pub charge_granted : (t : ℕ) (s : State) (trans : Transaction) → IsSound s → at t s.transactions ≡ Some trans → is_none s.shut ≡ true → charge trans.leg.changes ≤ trans.unit * trans.legs
+charge_granted t s trans h is live =
+    let fair : IsFair s.owners (t, trans) = each_at (IsFair s.owners) t trans s.transactions is h.parts.fair in
+    let legs : 1 ≤ trans.legs = each_at (λ e. 1 ≤ e.1.legs) t trans s.transactions is (h.legs_left live) in
+    let unit = fair.unit in
+    omega (arith, unit, le-mul_of_pos_right {m = trans.legs} trans.unit (omega (arith, legs)))
+
+clean_charge : (leg : Leg) → is_dirty leg ≡ false → charge leg.changes ≡ 0
+clean_charge leg clean = ap {B = ℕ} (λ (b : Bool). if b then 0 else 32 + sum_by change_cost leg.changes) (not-false (length leg.changes == 0) clean)
+
+module _ (dropped : Dropped) (t : ℕ) (s : State) (trans : Transaction) (h : IsSound s) (is : at t s.transactions ≡ Some trans) where
+  -- a leg that is given up, on a shut mount
+  pub sound_aborted : is_some s.shut ≡ true → IsSound (settled dropped (closed t (aborted t trans.leg s)))
+  sound_aborted shut =
+      sound_settling dropped (closed t (aborted t trans.leg s)) h.log_small (parts_aborted s.log_bytes s.owners s.transactions s.items h.parts t trans is)
+      (rises_filter 0 (λ e. not (is_lost trans.leg e.0)) s.frames.committed h.kept.committed_rises) (rises_with_lost trans.leg.changes trans.leg s.frames.fresh h.kept.fresh_rises) h.ready
+      (λ live. absurd (is_none_some s.shut live shut)) (λ live. absurd (is_none_some s.shut live shut))
+
+  -- a leg that is committed
+  pub sound_ended : charge trans.leg.changes ≤ trans.unit * trans.legs → IsSound (settled dropped (closed t (ended t trans.leg s)))
+  sound_ended within =
+      let n : State = closed t (ended t trans.leg s) in
+      sound_settling dropped n h.log_small (parts_ended s.log_bytes s.owners s.transactions s.items h.parts t trans is within)
+      (rises_with_edits trans.leg.changes s.frames.committed h.kept.committed_rises) h.kept.fresh_rises (ready_ended s.items trans.leg.changes s.jobs h.ready)
+      (λ live. each_without (λ e. 1 ≤ e.1.legs) t s.transactions (h.legs_left live))
+      (λ live.
+        each_map (IsUnwritten s.owners s.transactions s.items) (λ b. is_busy n b ≡ true → IsUnwritten n.owners n.transactions n.items b) s.frames.fresh
+        (λ b u busy.
+          let off = listed_parts (is_in b s.items.cil) (is_in b (flight_items s.items.flight)) (is_in b s.items.ail) u.unlisted in
+          let unmarked : is_in b n.items.cil ≡ false = not_marked trans.leg.changes s.items.cil b (each_at (λ e. is_in b e.1.leg.changes ≡ false) t trans s.transactions is u.unchanged) off.0 in
+          let unlisted : is_listed n.items b ≡ false = unlisted_by (is_in b n.items.cil) (is_in b (flight_items s.items.flight)) (is_in b s.items.ail) unmarked off.1 off.2 in
+          record {
+            owned = left_true (is_in b n.owners) (is_listed n.items b) unlisted busy;
+            unlisted = unlisted;
+            unchanged = each_without (λ e. is_in b e.1.leg.changes ≡ false) t s.transactions u.unchanged;
+          })
+        (h.fresh_owned live))
+
+  pub sound_commit : IsSound (commit dropped t s trans).state
+  sound_commit =
+      sound_either (is_dirty trans.leg && is_some s.shut) (gives (io_of (held_of trans.leg.holds)) (settled dropped (closed t (aborted t trans.leg s))))
+      (gives (Committed (commit_number trans.leg s) (held_of trans.leg.holds)) (settled dropped (closed t (ended t trans.leg s))))
+      (λ shut. sound_aborted (and_parts (is_dirty trans.leg) (is_some s.shut) shut).1)
+      (λ commits.
+        elim (and_cases (is_dirty trans.leg) (is_some s.shut) commits)
+        [ inl clean ↦ sound_ended (omega (arith, clean_charge trans.leg clean))
+        | inr live ↦ sound_ended (charge_granted t s trans h is (is_none_not s.shut live)) ])
