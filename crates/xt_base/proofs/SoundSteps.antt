@@ -1,7 +1,7 @@
 -- Each step of a mount keeps it sound: one lemma for each request and job.
 use Rattle.std.proofs.Common.{◌≡◌, ◌≢◌, ◌∙◌, ◌⊎◌, ◌+◌, ◌*◌, ◌<◌, ◌≤◌, ◌∷◌, Bool, List, None, Option, Some, [], ap, arith, cond, false, inl, inr, length, refl, subst, suc, sym, true, ℕ}
 use Rattle.std.proofs.Math.Nat.{le-mul_of_pos_right}
-use Rattle.std.proofs.lemmas.Bool.{and_cases, and_parts, cases_Bool, eqb-false, eqb-true, false_from_ne_true, leb-false, ltb-false, ne_eqb, not-false, not-true, or_parts}
+use Rattle.std.proofs.lemmas.Bool.{false≢true, and_cases, and_parts, cases_Bool, eqb-false, eqb-true, false_from_ne_true, leb-false, ltb-false, ne_eqb, not-false, not-true, or_parts}
 use Rattle.std.specs.Prelude.{filter, if◌then◌else◌, is_none, is_some, nat_le, nat_lt, not, sum_by, ◌&&◌, ◌==◌, ◌||◌}
 use Rattle.xt_base.proofs.BusyLemmas.{is_busy_in}
 use Rattle.xt_base.proofs.KeyLemmas.{each_with_member, each_without_member, is_in_put, is_in_put_old, rises_keys_filter, rises_keys_with}
@@ -12,7 +12,7 @@ use Rattle.xt_base.proofs.SoundParts.{busy_active, busy_by, busy_committed, busy
 use Rattle.xt_base.specs.declared.steps.Reply.{Reply}
 use Rattle.xt_base.specs.declared.steps.Reply.TheVariants.{Committed, Failed, Landed, Nothing, Okay, Refused, Wait}
 use Rattle.xt_base.specs.declared.steps.Reply.TheVariants as Reply
-use Rattle.xt_base.specs.Calls.{Outcome, commit_number, gives, held_of, io_of,  alloc, alloc_refusals, allocated, asks_ckpt, asks_flush, at_end, brought, busied, closed, commit, edited, first_of, force, force_to, force_to_refusals, get_refusals, is_elsewhere, is_flight, is_fresh, is_own, locked, log_refusals, logged_leg, made_fresh, new_trans, not_fresh, overwritten, push, seen, shut_down, shut_for, shutdown, unless, waits_for, with_leg, with_owner}
+use Rattle.xt_base.specs.Calls.{Outcome, commit_number, gives, held_of, io_of, alloc, alloc_refusals, allocated, asks_ckpt, asks_flush, at_end, brought, busied, closed, commit, edited, first_of, force, force_to, force_to_refusals, get_refusals, is_elsewhere, is_flight, is_fresh, is_own, locked, log_refusals, logged_leg, made_fresh, new_trans, not_fresh, overwritten, push, seen, shut_down, shut_for, shutdown, unless, waits_for, with_leg, with_owner}
 use Rattle.xt_base.specs.Chunks.{marks, union}
 use Rattle.xt_base.specs.Jobs.{activated, begin, begun, end, end_of, failed, finished, flown, is_ckpt, is_ok, is_outstanding, is_owed, is_serial, is_waiting, is_wanted, is_worth, job, landed, landed_items, next_text, posted, waits_on}
 use Rattle.xt_base.specs.Legs.{aborted, change_of, clean_leg, ended, is_dirty, is_lost, is_stale, own_count, with_edits, with_lost, with_marks}
@@ -33,10 +33,12 @@ use Rattle.xt_base.specs.declared.steps.Reason.{Reason}
 use Rattle.xt_base.specs.declared.steps.Reason.TheVariants.{ForceUmount, LogIoError}
 
 -- ---- outcomes
+-- one outcome or the other
 pub sound_either : (b : Bool) (x y : Outcome) → (b ≡ true → IsSound x.state) → (b ≡ false → IsSound y.state) → IsSound (if b then x else y).state
 sound_either true x y hx hy = hx refl
 sound_either false x y hx hy = hy refl
 
+-- refused and unchanged, or else what is done
 pub sound_unless : (r : Option Errno) (s : State) (o : Outcome) → IsSound s → (None ≡ r → IsSound o.state) → IsSound (unless r s o).state
 sound_unless None s o h passes = passes refl
 sound_unless (Some e) s o h passes = h
@@ -72,29 +74,26 @@ listed_parts false false true h = absurd (cc)
 unlisted_by : (c f a : Bool) → c ≡ false → f ≡ false → a ≡ false → (c || f || a) ≡ false
 unlisted_by c f a hc hf ha = ap (λ x. x || f || a) hc ∙ ap (λ x. x || a) hf ∙ ha
 
-not_true : false ≡ true → ⊥
-not_true h = cc
-
 none_flying : (o : Option Flight) (b : ℕ) → is_none o ≡ true → is_in b (flight_items o) ≡ true → ⊥
-none_flying None b none there = not_true there
-none_flying (Some f) b none there = not_true none
+none_flying None b none there = false≢true there
+none_flying (Some f) b none there = false≢true none
 
 -- what neither flew nor was active is not active
 not_active : (number : ℕ) (es : List (ℕ × List ℕ)) (ail : List (ℕ × ℕ)) (b : ℕ) → is_in b es ≡ false → is_in b ail ≡ false → is_in b (activated number es ail) ≡ false
 not_active number es ail b flew old =
     false_from_ne_true (is_in b (activated number es ail))
-    (λ there. elim (is_in_activated b number es ail there) [ inl now ↦ not_true (sym flew ∙ now) | inr was ↦ not_true (sym old ∙ was) ])
+    (λ there. elim (is_in_activated b number es ail there) [ inl now ↦ false≢true (sym flew ∙ now) | inr was ↦ false≢true (sym old ∙ was) ])
 
 -- what no leg changed and no item was of is no item after a commit
 not_marked : (cs : List (ℕ × Change)) (m : List (ℕ × List ℕ)) (b : ℕ) → is_in b cs ≡ false → is_in b m ≡ false → is_in b (with_marks cs m) ≡ false
 not_marked cs m b changed old =
     false_from_ne_true (is_in b (with_marks cs m))
-    (λ there. elim (is_in_with_marks b cs m there) [ inl now ↦ not_true (sym changed ∙ now) | inr was ↦ not_true (sym old ∙ was) ])
+    (λ there. elim (is_in_with_marks b cs m there) [ inl now ↦ false≢true (sym changed ∙ now) | inr was ↦ false≢true (sym old ∙ was) ])
 
 -- a block that nobody has was changed by nobody
 unchanged_by : (owners : List (ℕ × Owner)) (e : ℕ × Transaction) (b : ℕ) → is_in b owners ≡ false → IsFair owners e → is_in b e.1.leg.changes ≡ false
 unchanged_by owners e b other fair =
-    false_from_ne_true (is_in b e.1.leg.changes) (λ there. not_true (sym other ∙ owned_there e.0 b owners (each_in (λ q. Owns owners e.0 q) b e.1.leg.changes there fair.owned)))
+    false_from_ne_true (is_in b e.1.leg.changes) (λ there. false≢true (sym other ∙ owned_there e.0 b owners (each_in (λ q. Owns owners e.0 q) b e.1.leg.changes there fair.owned)))
 
 -- an edit changes no other block
 apart_edit : (k b : ℕ) (content marked : List ℕ) (leg : Leg) → k ≢ b → is_in k leg.changes ≡ false → is_in k (edited b content marked leg).changes ≡ false
@@ -115,6 +114,7 @@ shut_for_some : (reason : Reason) (o : Option Reason) → is_none (shut_for reas
 shut_for_some reason None h = absurd (cc)
 shut_for_some reason (Some first) h = absurd (cc)
 
+-- a mount is shut
 pub sound_shut_down : (reason : Reason) (s : State) → IsSound s → IsSound (shut_down reason s)
 sound_shut_down reason s h = record {
   log_small = h.log_small;
@@ -144,24 +144,30 @@ sound_jobs k s same h = record {
   fresh_owned = h.fresh_owned;
 }
 
+-- a checkpoint is asked
 pub sound_asks_ckpt : (s : State) → IsSound s → IsSound (asks_ckpt s)
 sound_asks_ckpt s h = sound_jobs (record s.jobs { asked_ckpt = s.jobs.asked_ckpt || not (length s.items.cil == 0) }) s refl h
 
+-- a flush is asked
 pub sound_asks_flush : (s : State) → IsSound s → IsSound (asks_flush s)
 sound_asks_flush s h = sound_jobs (record s.jobs { asked_flush = true }) s refl h
 
+-- a force
 pub sound_force : (s : State) → IsSound s → IsSound (force s).state
 sound_force s h =
     sound_either (is_some s.shut) (gives (Refused Io) s) (if length s.items.cil == 0 then gives (waits_for s.items.flight) s else gives (Wait s.items.open_number) (asks_ckpt s)) (λ shut. h)
     (λ live. sound_either (length s.items.cil == 0) (gives (waits_for s.items.flight) s) (gives (Wait s.items.open_number) (asks_ckpt s)) (λ none. h) (λ some. sound_asks_ckpt s h))
 
+-- a push
 pub sound_push : (s : State) → IsSound s → IsSound (push s).state
 sound_push s h = sound_either (is_some s.shut) (gives (Refused Io) s) (gives Okay (asks_flush s)) (λ shut. h) (λ live. sound_asks_flush s h)
 
+-- a shutdown
 pub sound_shutdown : (s : State) → IsSound s → IsSound (shutdown s).state
 sound_shutdown s h = sound_shut_down ForceUmount s h
 
 -- ---- mount
+-- a new mount with a log of at most 16 MiB
 pub sound_mount : (life log_bytes blocks : ℕ) → log_bytes ≤ 16777216 → IsSound (mount_of life log_bytes blocks)
 sound_mount life log_bytes blocks small = record {
   log_small = small;
@@ -190,17 +196,19 @@ sound_settling dropped s small parts committed fresh ready legs unwritten = reco
   ready = ready;
   legs_left = legs;
   fresh_owned = λ live.
-    each_map (λ b. (is_busy s b ≡ true → IsUnwritten s.owners s.transactions s.items b) × (is_busy s b ≡ true)) (IsUnwritten s.owners s.transactions s.items) (filter (is_busy s) s.frames.fresh) (λ b both. both.0 both.1)
-    (each_both (λ b. is_busy s b ≡ true → IsUnwritten s.owners s.transactions s.items b) (λ b. is_busy s b ≡ true) (filter (is_busy s) s.frames.fresh)
+      each_map (λ b. (is_busy s b ≡ true → IsUnwritten s.owners s.transactions s.items b) × (is_busy s b ≡ true)) (IsUnwritten s.owners s.transactions s.items) (filter (is_busy s) s.frames.fresh) (λ b both. both.0 both.1)
+      (each_both (λ b. is_busy s b ≡ true → IsUnwritten s.owners s.transactions s.items b) (λ b. is_busy s b ≡ true) (filter (is_busy s) s.frames.fresh)
       (each_filter (λ b. is_busy s b ≡ true → IsUnwritten s.owners s.transactions s.items b) (is_busy s) s.frames.fresh (unwritten live)) (each_passes (is_busy s) s.frames.fresh));
 }
 
+-- a sound mount settles
 pub sound_settled : (dropped : Dropped) (s : State) → IsSound s → IsSound (settled dropped s)
 sound_settled dropped s h =
     sound_settling dropped s h.log_small h.parts h.kept.committed_rises h.kept.fresh_rises h.ready h.legs_left
     (λ live. each_map (IsUnwritten s.owners s.transactions s.items) (λ b. is_busy s b ≡ true → IsUnwritten s.owners s.transactions s.items b) s.frames.fresh (λ b u busy. u) (h.fresh_owned live))
 
 -- ---- alloc
+-- a transaction opens, where its grant finds room
 pub sound_allocated : (unit count : ℕ) (perm : Bool) (s : State) → IsSound s → 1 ≤ count → used s + unit * count ≤ s.log_bytes → IsSound (allocated unit count perm s).state
 sound_allocated unit count perm s h some room = record {
   log_small = h.log_small;
@@ -209,26 +217,27 @@ sound_allocated unit count perm s h some room = record {
   ready = h.ready;
   legs_left = λ live. each_put (λ e. 1 ≤ e.1.legs) (s.last_trans + 1) (new_trans unit count perm) s.transactions some (h.legs_left live);
   fresh_owned = λ live.
-    each_map (IsUnwritten s.owners s.transactions s.items) (IsUnwritten s.owners (put (s.last_trans + 1) (new_trans unit count perm) s.transactions) s.items) s.frames.fresh
-    (λ b u. record {
-      owned = u.owned;
-      unlisted = u.unlisted;
-      unchanged = each_put (λ e. is_in b e.1.leg.changes ≡ false) (s.last_trans + 1) (new_trans unit count perm) s.transactions refl u.unchanged;
-    })
-    (h.fresh_owned live);
+      each_map (IsUnwritten s.owners s.transactions s.items) (IsUnwritten s.owners (put (s.last_trans + 1) (new_trans unit count perm) s.transactions) s.items) s.frames.fresh
+      (λ b u. record {
+        owned = u.owned;
+        unlisted = u.unlisted;
+        unchanged = each_put (λ e. is_in b e.1.leg.changes ≡ false) (s.last_trans + 1) (new_trans unit count perm) s.transactions refl u.unchanged;
+      })
+      (h.fresh_owned live);
 }
 
+-- an alloc, refused or not
 pub sound_alloc : (unit count : ℕ) (perm : Bool) (s : State) → IsSound s → IsSound (alloc unit count perm s).state
 sound_alloc unit count perm s h =
     let full : Bool = nat_lt s.log_bytes (used s + unit * count) in
     let bad : Bool = (unit == 0) || (count == 0) || nat_lt 8 count || (nat_lt 1 count && not perm) || nat_lt s.log_bytes (unit * count) in
     sound_unless (first_of (alloc_refusals unit count perm s)) s (if full then gives (Refused Again) (asks_flush (asks_ckpt s)) else allocated unit count perm s) h
     (λ passes.
-      sound_either full (gives (Refused Again) (asks_flush (asks_ckpt s))) (allocated unit count perm s) (λ lack. sound_asks_flush (asks_ckpt s) (sound_asks_ckpt s h))
-      (λ room.
-        let good = passes_first bad Invalid ((is_some s.shut, Io) ∷ (s.last_trans == greatest, NoSpace) ∷ (nat_le 32 (length s.transactions), Again) ∷ []) passes in
-        let some : (count == 0) ≡ false = (or_parts (unit == 0) (count == 0) (or_parts _ _ (or_parts _ _ (or_parts _ _ good.0).0).0).0).1 in
-        sound_allocated unit count perm s h (omega (arith, eqb-false count 0 some)) (ltb-false s.log_bytes (used s + unit * count) room)))
+    sound_either full (gives (Refused Again) (asks_flush (asks_ckpt s))) (allocated unit count perm s) (λ lack. sound_asks_flush (asks_ckpt s) (sound_asks_ckpt s h))
+    (λ room.
+    let good = passes_first bad Invalid ((is_some s.shut, Io) ∷ (s.last_trans == greatest, NoSpace) ∷ (nat_le 32 (length s.transactions), Again) ∷ []) passes in
+    let some : (count == 0) ≡ false = (or_parts (unit == 0) (count == 0) (or_parts _ _ (or_parts _ _ (or_parts _ _ good.0).0).0).0).1 in
+    sound_allocated unit count perm s h (omega (arith, eqb-false count 0 some)) (ltb-false s.log_bytes (used s + unit * count) room)))
 
 -- ---- post, begin
 ready_posted : (kind : JobKind) (s : State) → IsReady s.items s.jobs → is_wanted kind s ≡ true → IsReady s.items (posted kind s).jobs
@@ -245,6 +254,7 @@ ready_posted JobKind.Ckpt s r wanted =
     }
 ready_posted JobKind.Flush s r wanted = ready_jobs s.items s.jobs (posted JobKind.Flush s).jobs refl r
 
+-- a job that is owed is posted
 pub sound_posted : (kind : JobKind) (s : State) → IsSound s → is_owed kind s ≡ true → IsSound (posted kind s)
 sound_posted kind s h owed = record {
   log_small = h.log_small;
@@ -295,6 +305,7 @@ module _ (s : State) (h : IsSound s) where
     fresh_busy = each_map (λ b. is_busy s b ≡ true) (λ b. is_busy n b ≡ true) s.frames.fresh still h.kept.fresh_busy;
   }
 
+  -- the committed items become the flight of an outstanding checkpoint
   pub sound_flown : (text : List ℕ) → is_some s.jobs.ckpt ≡ true → is_none s.items.flight ≡ true → IsSound (flown text s)
   sound_flown text out none =
       let numbered = h.ready.numbered in
@@ -312,13 +323,14 @@ module _ (s : State) (h : IsSound s) where
         };
         legs_left = h.legs_left;
         fresh_owned = λ live.
-          each_map (IsUnwritten s.owners s.transactions s.items) (IsUnwritten s.owners s.transactions n.items) s.frames.fresh
-          (λ b u.
+            each_map (IsUnwritten s.owners s.transactions s.items) (IsUnwritten s.owners s.transactions n.items) s.frames.fresh
+            (λ b u.
             let off = listed_parts (is_in b s.items.cil) (is_in b (flight_items s.items.flight)) (is_in b s.items.ail) u.unlisted in
             record { owned = u.owned; unlisted = unlisted_by false (is_in b s.items.cil) (is_in b s.items.ail) refl off.0 off.2; unchanged = u.unchanged })
-          (h.fresh_owned live);
+            (h.fresh_owned live);
       }
 
+  -- the begin of a checkpoint job that waits
   pub sound_begin : (name : JobName) → is_waiting name s ≡ true → is_ckpt name.kind ≡ true → IsSound (begin s).state
   sound_begin name waits ckpt =
       let both = and_parts (is_outstanding name s) (not (is_ckpt name.kind && is_some s.items.flight)) waits in
@@ -327,12 +339,14 @@ module _ (s : State) (h : IsSound s) where
       sound_either (is_some s.shut) (gives Nothing (finished JobKind.Ckpt s)) (begun (next_text s) s) (λ shut. sound_finished s h) (λ live. sound_flown (next_text s) out none)
 
   -- ---- end
+  -- the flight is given up, and the mount is shut
   pub sound_failed : (dropped : Dropped) → IsSound (failed dropped s)
   sound_failed dropped =
       sound_settling dropped (finished JobKind.Ckpt (shut_down LogIoError (record s { items = record s.items { flight = None } }))) h.log_small
       (parts_failed s.log_bytes s.owners s.transactions s.items h.parts) h.kept.committed_rises h.kept.fresh_rises (ready_finished s.items (record s.items { flight = None }) s.jobs refl h.ready)
       (λ live. absurd (shut_for_some LogIoError s.shut live)) (λ live. absurd (shut_for_some LogIoError s.shut live))
 
+  -- the flight is on the log
   pub sound_landed : (dropped : Dropped) (f : Flight) → s.items.flight ≡ Some f → IsSound (landed dropped f s)
   sound_landed dropped f is =
       let ns : List (ℕ × Owner) = filter (λ e. not (waits_on f.number e.1)) s.owners in
@@ -340,19 +354,20 @@ module _ (s : State) (h : IsSound s) where
       sound_settling dropped (finished JobKind.Ckpt (record s { owners = ns; items = n })) h.log_small
       (parts_landed s.log_bytes s.owners s.transactions s.items h.parts f is) h.kept.committed_rises h.kept.fresh_rises (ready_finished s.items n s.jobs refl h.ready) h.legs_left
       (λ live.
-        each_map (IsUnwritten s.owners s.transactions s.items) (λ b. is_busy_in ns n b ≡ true → IsUnwritten ns s.transactions n b) s.frames.fresh
-        (λ b u busy.
-          let off = listed_parts (is_in b s.items.cil) (is_in b (flight_items s.items.flight)) (is_in b s.items.ail) u.unlisted in
-          let inactive : is_in b n.ail ≡ false = not_active f.number f.items s.items.ail b (sym (ap (λ o. is_in b (flight_items o)) is) ∙ off.1) off.2 in
-          let unlisted : is_listed n b ≡ false = unlisted_by (is_in b s.items.cil) false (is_in b n.ail) off.0 refl inactive in
-          record { owned = left_true (is_in b ns) (is_listed n b) unlisted busy; unlisted = unlisted; unchanged = u.unchanged })
-        (h.fresh_owned live))
+      each_map (IsUnwritten s.owners s.transactions s.items) (λ b. is_busy_in ns n b ≡ true → IsUnwritten ns s.transactions n b) s.frames.fresh
+      (λ b u busy.
+      let off = listed_parts (is_in b s.items.cil) (is_in b (flight_items s.items.flight)) (is_in b s.items.ail) u.unlisted in
+      let inactive : is_in b n.ail ≡ false = not_active f.number f.items s.items.ail b (sym (ap (λ o. is_in b (flight_items o)) is) ∙ off.1) off.2 in
+      let unlisted : is_listed n b ≡ false = unlisted_by (is_in b s.items.cil) false (is_in b n.ail) off.0 refl inactive in
+      record { owned = left_true (is_in b ns) (is_listed n b) unlisted busy; unlisted = unlisted; unchanged = u.unchanged })
+      (h.fresh_owned live))
 
   end_sound : (dropped : Dropped) (answers : LogAnswers) (o : Option Flight) → s.items.flight ≡ o → IsSound (end_of dropped answers s o).state
   end_sound dropped answers None is = h
   end_sound dropped answers (Some f) is =
       sound_either (is_ok answers.sync) (gives (Landed f.number) (landed dropped f s)) (gives (Failed f.number) (failed dropped s)) (λ ok. sound_landed dropped f is) (λ bad. sound_failed dropped)
 
+  -- the end of a checkpoint, whatever the log device answered
   pub sound_end : (dropped : Dropped) (answers : LogAnswers) → IsSound (end dropped answers s).state
   sound_end dropped answers = end_sound dropped answers s.items.flight refl
 
@@ -422,7 +437,7 @@ module _ (t b count : ℕ) (s : State) (h : IsSound s) (free : is_elsewhere s t 
         fresh_busy = each_with_member (λ q. is_busy n q ≡ true) b s.frames.fresh owned_now kept.fresh_busy;
       })
       (λ live. each_with_member (IsUnwritten (put b (Trans t count) s.owners) s.transactions s.items) b s.frames.fresh new
-        (each_map (IsUnwritten s.owners s.transactions s.items) (IsUnwritten (put b (Trans t count) s.owners) s.transactions s.items) s.frames.fresh unwritten_more (h.fresh_owned live)))
+      (each_map (IsUnwritten s.owners s.transactions s.items) (IsUnwritten (put b (Trans t count) s.owners) s.transactions s.items) s.frames.fresh unwritten_more (h.fresh_owned live)))
 
   brought_sound : (idle : Option (List ℕ)) → is_busy s b ≡ false → busy_count s < 64 → IsSound (with_owner b (Trans t count) (brought b idle s))
   brought_sound None other room = sound_owner_fresh other room
@@ -437,6 +452,7 @@ pub sound_locked : (t b : ℕ) (own : Option ℕ) (s : State) → IsSound s → 
 sound_locked t b (Some count) s h is free room = sound_owner_busy t b (count + 1) s h free (busy_owned s.owners s.items b (owned_there t b s.owners (ap is_some is)))
 sound_locked t b None s h is free room = first_sound t b 0 s h free (is_busy s b) refl room
 
+-- a get that nothing refuses
 pub sound_get : (t b : ℕ) (s : State) → IsSound s → None ≡ first_of (get_refusals t b s) → IsSound (locked t b (own_count t (at b s.owners)) s)
 sound_get t b s h passes =
     let first = passes_first (nat_le s.blocks b) Invalid ((is_some s.shut, Io) ∷ (at_end (own_count t (at b s.owners)), Invalid) ∷ (is_elsewhere s t b, Again) ∷ (not (is_busy s b) && nat_le 64 (busy_count s), NoBufs) ∷ []) passes in
@@ -459,6 +475,7 @@ edit_fair t b content marked owners trans fair own room =
       owned = each_put (λ e. Owns owners t e.0) b c trans.leg.changes own fair.owned;
     }
 
+-- a block that a transaction has is edited, within its unit
 pub sound_edited : (t b : ℕ) (content marked : List ℕ) (s : State) (trans : Transaction) → IsSound s → at t s.transactions ≡ Some trans → is_own s t b ≡ true
     → charge (edited b [] marked trans.leg).changes ≤ trans.unit → IsSound (not_fresh b (with_leg t trans (edited b content marked trans.leg) s))
 sound_edited t b content marked s trans h is own room =
@@ -477,17 +494,18 @@ sound_edited t b content marked s trans h is own room =
       ready = h.ready;
       legs_left = λ live. each_set_at (λ e. 1 ≤ e.1.legs) t (record trans { leg = leg }) s.transactions (each_at (λ e. 1 ≤ e.1.legs) t trans s.transactions is (h.legs_left live)) (h.legs_left live);
       fresh_owned = λ live.
-        each_map (λ k. IsUnwritten s.owners s.transactions s.items k × (k ≢ b)) (IsUnwritten s.owners ts s.items) (without_member b s.frames.fresh)
-        (λ k both. record {
-          owned = both.0.owned;
-          unlisted = both.0.unlisted;
-          unchanged =
-            each_set_at (λ e. is_in k e.1.leg.changes ≡ false) t (record trans { leg = leg }) s.transactions
-            (apart_edit k b content marked trans.leg both.1 (each_at (λ e. is_in k e.1.leg.changes ≡ false) t trans s.transactions is both.0.unchanged)) both.0.unchanged;
-        })
-        (each_without_member (IsUnwritten s.owners s.transactions s.items) b s.frames.fresh (h.fresh_owned live));
+          each_map (λ k. IsUnwritten s.owners s.transactions s.items k × (k ≢ b)) (IsUnwritten s.owners ts s.items) (without_member b s.frames.fresh)
+          (λ k both. record {
+            owned = both.0.owned;
+            unlisted = both.0.unlisted;
+            unchanged =
+                each_set_at (λ e. is_in k e.1.leg.changes ≡ false) t (record trans { leg = leg }) s.transactions
+                (apart_edit k b content marked trans.leg both.1 (each_at (λ e. is_in k e.1.leg.changes ≡ false) t trans s.transactions is both.0.unchanged)) both.0.unchanged;
+          })
+          (each_without_member (IsUnwritten s.owners s.transactions s.items) b s.frames.fresh (h.fresh_owned live));
     }
 
+-- a log request that nothing refuses
 pub sound_log : (t b first : ℕ) (bytes : List ℕ) (s : State) (trans : Transaction) → IsSound s → at t s.transactions ≡ Some trans → None ≡ first_of (log_refusals t b first bytes trans s)
     → IsSound (not_fresh b (with_leg t trans (logged_leg b first bytes s.frames trans.leg) s))
 sound_log t b first bytes s trans h is passes =
@@ -529,24 +547,26 @@ module _ (dropped : Dropped) (t : ℕ) (s : State) (trans : Transaction) (h : Is
       (rises_with_edits trans.leg.changes s.frames.committed h.kept.committed_rises) h.kept.fresh_rises (ready_ended s.items trans.leg.changes s.jobs h.ready)
       (λ live. each_without (λ e. 1 ≤ e.1.legs) t s.transactions (h.legs_left live))
       (λ live.
-        each_map (IsUnwritten s.owners s.transactions s.items) (λ b. is_busy n b ≡ true → IsUnwritten n.owners n.transactions n.items b) s.frames.fresh
-        (λ b u busy.
-          let off = listed_parts (is_in b s.items.cil) (is_in b (flight_items s.items.flight)) (is_in b s.items.ail) u.unlisted in
-          let unmarked : is_in b n.items.cil ≡ false = not_marked trans.leg.changes s.items.cil b (each_at (λ e. is_in b e.1.leg.changes ≡ false) t trans s.transactions is u.unchanged) off.0 in
-          let unlisted : is_listed n.items b ≡ false = unlisted_by (is_in b n.items.cil) (is_in b (flight_items s.items.flight)) (is_in b s.items.ail) unmarked off.1 off.2 in
-          record {
-            owned = left_true (is_in b n.owners) (is_listed n.items b) unlisted busy;
-            unlisted = unlisted;
-            unchanged = each_without (λ e. is_in b e.1.leg.changes ≡ false) t s.transactions u.unchanged;
-          })
-        (h.fresh_owned live))
+      each_map (IsUnwritten s.owners s.transactions s.items) (λ b. is_busy n b ≡ true → IsUnwritten n.owners n.transactions n.items b) s.frames.fresh
+      (λ b u busy.
+      let off = listed_parts (is_in b s.items.cil) (is_in b (flight_items s.items.flight)) (is_in b s.items.ail) u.unlisted in
+      let unmarked : is_in b n.items.cil ≡ false = not_marked trans.leg.changes s.items.cil b (each_at (λ e. is_in b e.1.leg.changes ≡ false) t trans s.transactions is u.unchanged) off.0 in
+      let unlisted : is_listed n.items b ≡ false = unlisted_by (is_in b n.items.cil) (is_in b (flight_items s.items.flight)) (is_in b s.items.ail) unmarked off.1 off.2 in
+      record {
+        owned = left_true (is_in b n.owners) (is_listed n.items b) unlisted busy;
+        unlisted = unlisted;
+        unchanged = each_without (λ e. is_in b e.1.leg.changes ≡ false) t s.transactions u.unchanged;
+      })
+      (h.fresh_owned live))
 
+  -- a commit, on a live mount or a shut one
   pub sound_commit : IsSound (commit dropped t s trans).state
   sound_commit =
       sound_either (is_dirty trans.leg && is_some s.shut) (gives (io_of (held_of trans.leg.holds)) (settled dropped (closed t (aborted t trans.leg s))))
       (gives (Committed (commit_number trans.leg s) (held_of trans.leg.holds)) (settled dropped (closed t (ended t trans.leg s))))
       (λ shut. sound_aborted (and_parts (is_dirty trans.leg) (is_some s.shut) shut).1)
       (λ commits.
-        elim (and_cases (is_dirty trans.leg) (is_some s.shut) commits)
-        [ inl clean ↦ sound_ended (omega (arith, clean_charge trans.leg clean))
-        | inr live ↦ sound_ended (charge_granted t s trans h is (is_none_not s.shut live)) ])
+      elim (and_cases (is_dirty trans.leg) (is_some s.shut) commits) [
+        | inl clean ↦ sound_ended (omega (arith, clean_charge trans.leg clean))
+        | inr live ↦ sound_ended (charge_granted t s trans h is (is_none_not s.shut live))
+      ])
