@@ -1,5 +1,5 @@
 -- How many blocks are busy: by the list of the busy blocks, each once.
-use Rattle.std.proofs.Common.{◌≡◌, ◌≢◌, ◌∙◌, ◌⊎◌, ◌+◌, ◌<◌, ◌≤◌, ◌∷◌, Bool, List, None, Option, Some, [], ap, arith, cond, false, inl, inr, length, map, refl, subst, suc, sym, true, ℕ}
+use Rattle.std.proofs.Common.{◌≡◌, ◌∙◌, ◌+◌, ◌≤◌, ◌∷◌, Bool, List, [], ap, arith, cond, false, inl, inr, length, refl, suc, sym, true, ℕ}
 use Rattle.std.proofs.lemmas.Bool.{cases_Bool, cases_eq, eq-eqb, ne_eqb, or_right}
 use Rattle.std.proofs.lemmas.List.Sums.{sum_by-cons}
 use Rattle.std.proofs.lemmas.Map.Made.{IsDistinct-from_count, length-le_from_is_member}
@@ -10,7 +10,7 @@ use Rattle.std.specs.Set.{unique_keys}
 use Rattle.xt_base.proofs.KeyLemmas.{is_in_first, is_in_later}
 use Rattle.xt_base.proofs.MapLemmas.{at_first, at_later}
 use Rattle.xt_base.proofs.RisingLemmas.{each_in, each_map, none_below}
-use Rattle.xt_base.specs.Maps.{at, has, is_in}
+use Rattle.xt_base.specs.Maps.{has, is_in}
 use Rattle.xt_base.specs.Sound.{AreSound, Each, IsRising, RisesFrom, RisesFromKeys}
 use Rattle.xt_base.specs.Space.{count_beside, flight_items, is_listed}
 use Rattle.xt_base.specs.State.{Items, Transaction}

@@ -1,11 +1,11 @@
 -- How many chunks a union of two sets has.
-use Rattle.std.proofs.Common.{◌≡◌, ◌≢◌, ◌∙◌, ◌⊎◌, ◌+◌, ◌<◌, ◌≤◌, ◌∷◌, ◌++◌, Bool, List, [], ap, arith, cond, false, inl, inr, length, refl, subst, suc, sym, true, zero, ℕ}
+use Rattle.std.proofs.Common.{◌≡◌, ◌∙◌, ◌⊎◌, ◌+◌, ◌<◌, ◌≤◌, ◌∷◌, ◌++◌, Bool, List, [], ap, arith, cond, false, inl, inr, length, refl, subst, suc, sym, true, zero, ℕ}
 use Rattle.std.proofs.lemmas.Bool.{cases_Bool, cases_eq, eq-eqb, eqb-true, or_cases, or_right}
 use Rattle.std.proofs.lemmas.Bool.Decides.{nat_tests}
 use Rattle.std.proofs.lemmas.Map.Made.{is_member-filter}
 use Rattle.std.specs.Cmp.{nat_eq_equiv}
 use Rattle.std.proofs.lemmas.List.Sums.{length-filter, sum_by-append, sum_by-cons}
-use Rattle.std.specs.Prelude.{count_by, filter, nat_lt, not, ◌&&◌, ◌==◌, ◌||◌}
+use Rattle.std.specs.Prelude.{count_by, nat_lt, not, ◌&&◌, ◌==◌, ◌||◌}
 use Rattle.xt_base.specs.Chunks.{below, chunks_where, union}
 use Rattle.xt_base.specs.Maps.{has}
 use Rattle.xt_base.specs.Sound.{Each}

@@ -1,13 +1,13 @@
 -- Which keys a map has after a change, and rising sets of numbers.
-use Rattle.std.proofs.Common.{◌≡◌, ◌≢◌, ◌∙◌, ◌⊎◌, ◌+◌, ◌<◌, ◌≤◌, ◌∷◌, Bool, List, None, Option, Some, [], ap, arith, cond, false, inl, inr, length, refl, subst, suc, sym, true, ℕ}
+use Rattle.std.proofs.Common.{◌≡◌, ◌≢◌, ◌∙◌, ◌⊎◌, ◌<◌, ◌≤◌, ◌∷◌, Bool, List, None, Option, Some, [], ap, arith, inl, inr, refl, subst, suc, sym, true, ℕ}
 use Rattle.std.proofs.lemmas.Bool.{cases_Bool, cases_eq, cases_order, eq-eqb, ne_eqb}
 use Rattle.std.proofs.lemmas.Bool.Decides.{nat_tests}
 use Rattle.std.specs.List.{cons_option}
 use Rattle.std.specs.Prelude.{IfSome, filter, filter_map, is_some, not, ◌==◌, ◌||◌}
-use Rattle.xt_base.proofs.MapLemmas.{at_first, at_later, at_put_other, at_put_same, at_set_other, at_set_same, at_tails, some_none, some_same, set_first, set_later, without_first, without_later}
-use Rattle.xt_base.proofs.RisingLemmas.{filter_drop, filter_pass, rises_weaker}
+use Rattle.xt_base.proofs.MapLemmas.{at_first, at_later, at_put_other, at_put_same, some_same, set_first, set_later, without_first, without_later}
+use Rattle.xt_base.proofs.RisingLemmas.{filter_drop, filter_pass}
 use Rattle.xt_base.specs.Maps.{at, has, is_in, put, set_at, with_member, without, without_member}
-use Rattle.xt_base.specs.Sound.{Each, RisesFrom, RisesFromKeys}
+use Rattle.xt_base.specs.Sound.{Each, RisesFromKeys}
 
 module _ {V : Type 0} where
   in_tails : (q : ℕ) (d e : ℕ × V) (xs ys : List (ℕ × V)) → d.0 ≡ e.0 → is_in q xs ≡ is_in q ys → is_in q (d ∷ xs) ≡ is_in q (e ∷ ys)

@@ -1,19 +1,19 @@
 -- What the end of a leg, and one more edit, do to owners, contents and item lists.
-use Rattle.std.proofs.Common.{◌≡◌, ◌≢◌, ◌∙◌, ◌⊎◌, ◌+◌, ◌<◌, ◌≤◌, ◌∷◌, Bool, List, None, Option, Some, [], ap, arith, cond, false, inl, inr, length, refl, subst, suc, sym, true, ℕ}
-use Rattle.std.proofs.lemmas.Bool.{false≢true, cases_Bool, cases_eq, eq-eqb, eqb-true, ne_eqb}
-use Rattle.std.specs.Prelude.{IfSome, filter_map, if◌then◌else◌, is_none, is_some, not, unwrap_or, ◌&&◌, ◌==◌, ◌||◌}
+use Rattle.std.proofs.Common.{◌≡◌, ◌≢◌, ◌∙◌, ◌⊎◌, ◌≤◌, ◌∷◌, Bool, List, None, Option, Some, [], ap, arith, false, inl, inr, length, refl, sym, true, ℕ}
+use Rattle.std.proofs.lemmas.Bool.{false≢true, cases_eq, eq-eqb, ne_eqb}
+use Rattle.std.specs.Prelude.{IfSome, filter_map, if◌then◌else◌, is_some, not, unwrap_or}
 use Rattle.xt_base.proofs.ChunkCounts.{has-union_within}
 use Rattle.xt_base.proofs.CostLemmas.{charge_logged}
-use Rattle.xt_base.proofs.KeyLemmas.{at_filter_map, is_in_cons_cases, is_in_first, is_in_later, is_in_put_cases, rises_keys_with}
+use Rattle.xt_base.proofs.KeyLemmas.{at_filter_map, is_in_first, is_in_later, is_in_put_cases, rises_keys_with}
 use Rattle.xt_base.proofs.MapLemmas.{length_put_ge, some_same}
 use Rattle.xt_base.proofs.RisingLemmas.{each_at, rises_put, rises_without}
 use Rattle.xt_base.specs.Calls.{edited}
 use Rattle.xt_base.specs.Chunks.{union}
 use Rattle.xt_base.specs.Legs.{change_of, is_stale, joined_marks, own_count, owned_by, owner_aborted, owner_after, with_edit, with_edits, with_lost, with_marks}
-use Rattle.xt_base.specs.Maps.{at, has, is_in, put, with_member, without}
-use Rattle.xt_base.specs.Sound.{Each, IsCovered, IsFair, IsRising, Owns, RisesFrom, RisesFromKeys}
+use Rattle.xt_base.specs.Maps.{at, has, is_in, put, with_member}
+use Rattle.xt_base.specs.Sound.{Each, IsCovered, IsRising, Owns, RisesFromKeys}
 use Rattle.xt_base.specs.Space.{charge}
-use Rattle.xt_base.specs.State.{Change, Leg, Transaction}
+use Rattle.xt_base.specs.State.{Change, Leg}
 use Rattle.xt_base.specs.declared.steps.Owner.{Owner}
 use Rattle.xt_base.specs.declared.steps.Owner.TheVariants.{Held, Stale, Trans}
 

@@ -1,12 +1,11 @@
 -- Maps as lists of entries: what one entry does to each word, what a key has after a change, and lengths.
-use Rattle.std.proofs.Common.{◌≡◌, ◌≢◌, ◌∙◌, ◌⊎◌, ◌+◌, ◌<◌, ◌≤◌, ◌∷◌, ◌++◌, Bool, List, None, Option, Some, [], ap, arith, cond, false, inl, inr, length, refl, subst, suc, sym, true, ℕ}
+use Rattle.std.proofs.Common.{◌≡◌, ◌≢◌, ◌∙◌, ◌+◌, ◌<◌, ◌≤◌, ◌∷◌, List, None, Some, [], ap, arith, cond, inl, inr, length, refl, sym, ℕ}
 use Rattle.std.proofs.lemmas.Bool.{cases_eq, cases_order}
 use Rattle.std.proofs.lemmas.Bool.Decides.{nat_tests}
 use Rattle.std.proofs.lemmas.Map.{length-set_value}
 use Rattle.std.specs.BTreeMap.{is_at}
-use Rattle.std.specs.Ordering.{match_ordering, nat_cmp}
-use Rattle.std.specs.declared.cmp.Ordering.{Ordering}
-use Rattle.xt_base.specs.Maps.{at, is_in, put, set_at, without}
+use Rattle.std.specs.Ordering.{nat_cmp}
+use Rattle.xt_base.specs.Maps.{at, put, set_at, without}
 
 module _ {A : Type 0} where
   -- a value that is there is one

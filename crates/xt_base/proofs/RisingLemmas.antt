@@ -1,12 +1,12 @@
 -- Rising maps: what keeps them rising, a fact of each entry, and sums over entries.
-use Rattle.std.proofs.Common.{◌≡◌, ◌≢◌, ◌∙◌, ◌⊎◌, ◌+◌, ◌<◌, ◌≤◌, ◌∷◌, ◌++◌, Bool, List, None, Option, Some, [], ap, arith, cond, false, inl, inr, length, refl, subst, suc, sym, true, ℕ}
+use Rattle.std.proofs.Common.{◌≡◌, ◌≢◌, ◌∙◌, ◌+◌, ◌<◌, ◌≤◌, ◌∷◌, ◌++◌, Bool, List, None, Option, Some, [], ap, arith, cond, false, inl, inr, length, refl, subst, suc, sym, true, ℕ}
 use Rattle.std.proofs.lemmas.Bool.{cases_Bool, cases_eq, cases_order}
 use Rattle.std.proofs.lemmas.List.Sums.{sum_by-cons}
 use Rattle.std.specs.List.{cons_option}
 use Rattle.std.specs.Prelude.{IfSome, filter, filter_map, is_some, sum_by}
 use Rattle.xt_base.proofs.MapLemmas.{at_first, at_later, put_less, put_more, put_same, set_first, set_later, some_none, some_same, without_first, without_later}
 use Rattle.xt_base.specs.Maps.{at, is_in, put, set_at, without}
-use Rattle.xt_base.specs.Sound.{Each, IsRising, RisesFrom}
+use Rattle.xt_base.specs.Sound.{Each, RisesFrom}
 
 module _ {A : Type 0} where
   -- ---- a fact of each

@@ -1,21 +1,21 @@
 -- Each change of the owners, the open transactions and the item lists keeps them sound.
-use Rattle.std.proofs.Common.{◌≡◌, ◌≢◌, ◌∙◌, ◌⊎◌, ◌+◌, ◌*◌, ◌<◌, ◌≤◌, ◌∷◌, Bool, List, None, Option, Some, [], ap, arith, cond, false, inl, inr, length, refl, subst, suc, sym, true, ℕ}
+use Rattle.std.proofs.Common.{◌≡◌, ◌≢◌, ◌∙◌, ◌⊎◌, ◌+◌, ◌*◌, ◌<◌, ◌≤◌, ◌∷◌, Bool, List, None, Option, Some, [], ap, arith, false, inl, inr, length, refl, subst, sym, true, ℕ}
 use Rattle.std.proofs.lemmas.Bool.{cases_eq, eq-eqb, false≢true, ne_eqb, or_left, or_right}
 use Rattle.std.specs.Prelude.{filter, filter_map, if◌then◌else◌, is_none, is_some, not, sum_by, ◌&&◌, ◌==◌, ◌||◌}
 use Rattle.xt_base.proofs.BusyLemmas.{fewer_busy, is_busy_in, one_more_busy}
 use Rattle.xt_base.proofs.CostLemmas.{cost-with_marks}
-use Rattle.xt_base.proofs.KeyLemmas.{at_filter, is_in_cons_cases, is_in_filter, is_in_filter_map, is_in_first, is_in_later, is_in_put_cases, is_in_put_old, is_in_without}
+use Rattle.xt_base.proofs.KeyLemmas.{at_filter, is_in_filter, is_in_filter_map, is_in_first, is_in_later, is_in_put_cases, is_in_without}
 use Rattle.xt_base.proofs.LegLemmas.{is_in_with_marks, keeps_owner_aborted, keeps_owner_after, own_itself, own_one, own_trans, owned_there, owns_aborted, owns_after, rises_with_marks}
 use Rattle.xt_base.proofs.MapLemmas.{at_put_other, at_put_same}
 use Rattle.xt_base.proofs.RisingLemmas.{each_at, each_filter, each_in, each_map, each_other, each_put, each_set_at, rises_filter, rises_filter_map, rises_put, rises_set_at, rises_without, sum_filter_le, sum_put_le, sum_set_at, sum_without, weight_at}
 use Rattle.xt_base.specs.Jobs.{activated, landed_items, waits_on}
 use Rattle.xt_base.specs.Legs.{own_count, owner_aborted, owner_after, with_marks}
 use Rattle.xt_base.specs.Maps.{at, is_in, put, set_at, without}
-use Rattle.xt_base.specs.Sound.{AllBelow, AreSound, Each, IsBetween, IsFair, IsRising, Owns, RisesFrom}
-use Rattle.xt_base.specs.Space.{charge, cost, count_beside, flight_items, granted, is_listed, is_needed, still_needed}
+use Rattle.xt_base.specs.Sound.{AllBelow, AreSound, Each, IsBetween, IsFair, IsRising, Owns}
+use Rattle.xt_base.specs.Space.{charge, cost, count_beside, flight_items, granted, is_listed, is_needed}
 use Rattle.xt_base.specs.State.{Flight, Items, Leg, Transaction}
 use Rattle.xt_base.specs.declared.steps.Owner.{Owner}
-use Rattle.xt_base.specs.declared.steps.Owner.TheVariants.{Held, Stale, Trans}
+use Rattle.xt_base.specs.declared.steps.Owner.TheVariants.{Trans}
 
 -- ---- busy by one of four
 by_four : (o c f a x : Bool) → (o ≡ true → x ≡ true) → (c ≡ true → x ≡ true) → (f ≡ true → x ≡ true) → (a ≡ true → x ≡ true) → (o || (c || f || a)) ≡ true → x ≡ true

@@ -1,7 +1,7 @@
 -- Each step of a mount keeps it sound: one lemma for each request and job.
-use Rattle.std.proofs.Common.{◌≡◌, ◌≢◌, ◌∙◌, ◌⊎◌, ◌+◌, ◌*◌, ◌<◌, ◌≤◌, ◌∷◌, Bool, List, None, Option, Some, [], ap, arith, cond, false, inl, inr, length, refl, subst, suc, sym, true, ℕ}
+use Rattle.std.proofs.Common.{◌≡◌, ◌≢◌, ◌∙◌, ◌⊎◌, ◌+◌, ◌*◌, ◌<◌, ◌≤◌, ◌∷◌, Bool, List, None, Option, Some, [], ap, arith, false, inl, inr, length, refl, sym, true, ℕ}
 use Rattle.std.proofs.Math.Nat.{le-mul_of_pos_right}
-use Rattle.std.proofs.lemmas.Bool.{false≢true, and_cases, and_parts, cases_Bool, eqb-false, eqb-true, false_from_ne_true, leb-false, ltb-false, ne_eqb, not-false, not-true, or_parts}
+use Rattle.std.proofs.lemmas.Bool.{false≢true, and_cases, and_parts, eqb-false, false_from_ne_true, leb-false, ltb-false, ne_eqb, not-false, not-true, or_parts}
 use Rattle.std.specs.Prelude.{filter, if◌then◌else◌, is_none, is_some, nat_le, nat_lt, not, sum_by, ◌&&◌, ◌==◌, ◌||◌}
 use Rattle.xt_base.proofs.BusyLemmas.{is_busy_in}
 use Rattle.xt_base.proofs.KeyLemmas.{each_with_member, each_without_member, is_in_put, is_in_put_old, rises_keys_filter, rises_keys_with}
@@ -9,20 +9,17 @@ use Rattle.xt_base.proofs.LegLemmas.{charge_alike, covered_edit, is_in_with_mark
 use Rattle.xt_base.proofs.MapLemmas.{at_put_same}
 use Rattle.xt_base.proofs.RisingLemmas.{each_at, each_both, each_filter, each_in, each_map, each_passes, each_put, each_set_at, each_without, rises_filter, rises_put}
 use Rattle.xt_base.proofs.SoundParts.{busy_active, busy_by, busy_committed, busy_flying, busy_owned, is_in_activated, parts_aborted, parts_empty, parts_ended, parts_failed, parts_flown, parts_landed, parts_leg, parts_locked, parts_opened}
-use Rattle.xt_base.specs.declared.steps.Reply.{Reply}
 use Rattle.xt_base.specs.declared.steps.Reply.TheVariants.{Committed, Failed, Landed, Nothing, Okay, Refused, Wait}
-use Rattle.xt_base.specs.declared.steps.Reply.TheVariants as Reply
-use Rattle.xt_base.specs.Calls.{Outcome, commit_number, gives, held_of, io_of, alloc, alloc_refusals, allocated, asks_ckpt, asks_flush, at_end, brought, busied, closed, commit, edited, first_of, force, force_to, force_to_refusals, get_refusals, is_elsewhere, is_flight, is_fresh, is_own, locked, log_refusals, logged_leg, made_fresh, new_trans, not_fresh, overwritten, push, seen, shut_down, shut_for, shutdown, unless, waits_for, with_leg, with_owner}
+use Rattle.xt_base.specs.Calls.{Outcome, commit_number, gives, held_of, io_of, alloc, alloc_refusals, allocated, asks_ckpt, asks_flush, at_end, brought, busied, closed, commit, edited, first_of, force, get_refusals, is_elsewhere, is_fresh, is_own, locked, log_refusals, logged_leg, made_fresh, new_trans, not_fresh, overwritten, push, seen, shut_down, shut_for, shutdown, unless, waits_for, with_leg, with_owner}
 use Rattle.xt_base.specs.Chunks.{marks, union}
-use Rattle.xt_base.specs.Jobs.{activated, begin, begun, end, end_of, failed, finished, flown, is_ckpt, is_ok, is_outstanding, is_owed, is_serial, is_waiting, is_wanted, is_worth, job, landed, landed_items, next_text, posted, waits_on}
-use Rattle.xt_base.specs.Legs.{aborted, change_of, clean_leg, ended, is_dirty, is_lost, is_stale, own_count, with_edits, with_lost, with_marks}
-use Rattle.xt_base.specs.Maps.{at, has, is_in, put, set_at, with_member, without, without_member}
+use Rattle.xt_base.specs.Jobs.{activated, begin, begun, end, end_of, failed, finished, flown, is_ckpt, is_ok, is_outstanding, is_owed, is_serial, is_waiting, is_wanted, job, landed, landed_items, next_text, posted, waits_on}
+use Rattle.xt_base.specs.Legs.{aborted, change_of, ended, is_dirty, is_lost, is_stale, own_count, with_marks}
+use Rattle.xt_base.specs.Maps.{at, is_in, put, set_at, without_member}
 use Rattle.xt_base.specs.Settle.{Dropped, settled}
-use Rattle.xt_base.specs.Sound.{AreKept, AreSound, Each, IsCovered, IsFair, IsReady, IsRising, IsSound, IsUnwritten, Owns, RisesFrom, RisesFromKeys}
-use Rattle.xt_base.specs.Space.{busy_count, change_cost, charge, cost, flight_items, greatest, is_busy, is_listed, used}
+use Rattle.xt_base.specs.Sound.{AreKept, AreSound, Each, IsCovered, IsFair, IsReady, IsRising, IsSound, IsUnwritten, Owns, RisesFromKeys}
+use Rattle.xt_base.specs.Space.{busy_count, change_cost, charge, flight_items, greatest, is_busy, is_listed, used}
 use Rattle.xt_base.specs.State.{Change, Flight, Frames, Items, Jobs, Leg, State, Transaction, mount_of}
 use Rattle.xt_base.specs.declared.names.JobKind.{JobKind}
-use Rattle.xt_base.specs.declared.names.JobKind.TheVariants as JobKind
 use Rattle.xt_base.specs.declared.names.JobName.{JobName}
 use Rattle.xt_base.specs.declared.steps.Errno.{Errno}
 use Rattle.xt_base.specs.declared.steps.Errno.TheVariants.{Again, Invalid, Io, NoBufs, NoSpace}
