@@ -7,3 +7,4 @@ pub mod BusyLemmas
 pub mod LegLemmas
 pub mod SoundParts
 pub mod SoundSteps
+pub mod SoundBounds
