@@ -1,3 +1,6 @@
+pub mod ChunkLemmas
+pub mod PlaceLemmas
+pub mod RankLemmas
 pub mod MapLemmas
 pub mod RisingLemmas
 pub mod KeyLemmas

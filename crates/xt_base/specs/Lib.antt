@@ -1,5 +1,7 @@
 pub mod Maps
+pub mod Places
 pub mod Chunks
+pub mod ChunkWords
 pub mod State
 pub mod Space
 pub mod Settle

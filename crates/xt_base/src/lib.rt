@@ -2,6 +2,9 @@
 //! with the definitions of one mount in `specs/`.
 #![tactic(auto)]
 
+pub mod chunks;
 pub mod content;
+pub mod map;
 pub mod names;
+pub mod set;
 pub mod steps;

@@ -1,0 +1,160 @@
+-- Sets of chunks, by their tests.
+use Rattle.std.proofs.Common.{◌≡◌, ◌∙◌, ℕ, zero, suc, ◌+◌, ◌*◌, ◌/◌, ◌%◌, ◌^◌, ◌<◌, ◌≤◌, List, [], ◌∷◌, ◌++◌, Bool, true, false, sym, ap, refl, length, arith, inl, inr, ◌⊎◌, subst, length-append}
+use Rattle.std.specs.Prelude.{filter, ◌==◌, ◌&&◌, ◌||◌, nat_lt, nat_eq, max, bit_or, count_ones}
+use Rattle.std.specs.List.{list_any}
+use Rattle.std.specs.Set.{is_member}
+use Rattle.std.specs.Int.{bit_at, w32}
+use Rattle.std.specs.Cmp.{nat_eq_equiv}
+use Rattle.std.proofs.lemmas.List.Elements.{filter-append}
+use Rattle.std.proofs.lemmas.Map.Made.{is_member-filter}
+use Rattle.std.proofs.lemmas.Nat.{mod-pow-add, ones_cat, mod_below, pow_pos}
+use Rattle.std.proofs.lemmas.Nat.Bits.{bit_at-lt, bit_at_or, bit_at_set_same, bit_at_set_other, bit_at-zero}
+use Rattle.std.proofs.lemmas.Bool.Decides.{nat_tests}
+use Rattle.std.proofs.lemmas.Bool.{cases_eq}
+use Rattle.std.proofs.Math.Nat.{mod-eq_of_lt, mod-one}
+use Rattle.xt_base.specs.Chunks.{below, chunks_where, places_of, union}
+use Rattle.xt_base.specs.Maps.{has}
+use lib.Count.{ones}
+
+-- tests that agree below n keep the same numbers
+alike_below : (n : ℕ) (p q : ℕ → Bool) → ((k : ℕ) → k < n → p k ≡ q k) → filter p (below n) ≡ filter q (below n)
+alike_below zero p q same = refl
+alike_below (suc n) p q same =
+    filter-append p (below n) (n ∷ []) ∙ ap (λ xs. xs ++ filter p (n ∷ [])) (alike_below n p q (λ k h. same k (omega arith)))
+    ∙ ap (λ b. filter q (below n) ++ filter (λ _. b) (n ∷ [])) (same n (omega arith)) ∙ sym (filter-append q (below n) (n ∷ []))
+
+-- sets whose tests agree are one set
+pub alike : (p q : ℕ → Bool) → ((k : ℕ) → k < 32 → p k ≡ q k) → chunks_where p ≡ chunks_where q
+unfolding chunks_where
+alike p q same = alike_below 32 p q same
+
+or_assoc : (a b c : Bool) → (a || (b || c)) ≡ ((a || b) || c)
+or_assoc true b c = refl
+or_assoc false b c = refl
+
+-- one number more
+any-append : (k n : ℕ) (xs : List ℕ) → is_member nat_eq (xs ++ n ∷ []) k ≡ (is_member nat_eq xs k || (k == n))
+any-append k n [] = grind (arith, nat_tests)
+any-append k n (x ∷ xs) =
+    ap (λ b. (k == x) || b) (any-append k n xs) ∙ or_assoc (k == x) (is_member nat_eq xs k) (k == n)
+
+-- the numbers below n
+pub has-below : (n k : ℕ) → has (below n) k ≡ nat_lt k n
+has-below zero k = grind (arith, nat_tests)
+has-below (suc n) k = any-append k n (below n) ∙ ap (λ b. b || (k == n)) (has-below n k) ∙ grind (arith, nat_tests)
+
+same_number : (k x : ℕ) → nat_eq k x ≡ true → k ≡ x
+same_number k x e = grind (arith, nat_tests)
+
+less : (k : ℕ) → k < 32 → nat_lt k 32 ≡ true
+less k h = grind (arith, nat_tests)
+
+-- a chunk is in the set exactly where the test holds
+pub has-chunks_where : (p : ℕ → Bool) (k : ℕ) → has (chunks_where p) k ≡ (nat_lt k 32 && p k)
+unfolding chunks_where
+has-chunks_where p k =
+    is_member-filter nat_eq_equiv p k (λ x e. ap p (same_number k x e)) (below 32) ∙ ap (λ b. b && p k) (has-below 32 k)
+
+-- no chunk
+pub places_of-zero : places_of 0 ≡ []
+unfolding chunks_where
+places_of-zero = refl
+
+-- a bit of either word
+bit_test : (a b : ℕ) → a < 2 → b < 2 → (max a b == 1) ≡ ((a == 1) || (b == 1))
+bit_test a b ha hb = grind (arith, nat_tests)
+
+-- a chunk of a word's set
+pub has-places_of : (bits k : ℕ) → k < 32 → has (places_of bits) k ≡ (bit_at bits k == 1)
+has-places_of bits k h = has-chunks_where (λ k. bit_at bits k == 1) k ∙ ap (λ b. b && (bit_at bits k == 1)) (less k h)
+
+-- the bits of either word are the chunks of either set
+pub places_of-or : (a b : ℕ) → places_of (bit_or a b) ≡ union (places_of a) (places_of b)
+places_of-or a b =
+    alike (λ k. bit_at (bit_or a b) k == 1) (λ k. has (places_of a) k || has (places_of b) k)
+    (λ k h. ap (λ v. v == 1) (bit_at_or a b k) ∙ bit_test (bit_at a k) (bit_at b k) (bit_at-lt a k) (bit_at-lt b k)
+    ∙ sym (ap (λ t. t || has (places_of b) k) (has-places_of a k h) ∙ ap (λ t. (bit_at a k == 1) || t) (has-places_of b k h)))
+
+-- a number below 2
+zero_or_one : (b : ℕ) → b < 2 → (b ≡ 0) ⊎ (b ≡ 1)
+zero_or_one zero h = inl refl
+zero_or_one (suc b) h = inr (omega arith)
+
+-- what one bit adds to a count
+one_bit : (b k : ℕ) → b < 2 → length (filter (λ _. b == 1) (k ∷ [])) ≡ ones b
+unfolding count_ones
+one_bit b k h =
+    elim (zero_or_one b h) [
+      | inl e ↦ subst (λ v. length (filter (λ _. v == 1) (k ∷ [])) ≡ ones v) (sym e) refl
+      | inr e ↦ subst (λ v. length (filter (λ _. v == 1) (k ∷ [])) ≡ ones v) (sym e) refl
+    ]
+
+-- the ones among the low n bits
+count_below : (n bits : ℕ) → length (filter (λ k. bit_at bits k == 1) (below n)) ≡ ones (bits % 2 ^ n)
+unfolding count_ones
+count_below zero bits = ap ones (sym (mod-one bits))
+count_below (suc n) bits =
+    let cut = filter-append (λ k. bit_at bits k == 1) (below n) (n ∷ []) in
+    let more : bits % 2 ^ suc n ≡ bit_at bits n * 2 ^ n + bits % 2 ^ n = ap (λ k. bits % 2 ^ k) (omega arith) ∙ mod-pow-add bits 1 n in
+    let split = ones_cat n (bit_at bits n) (bits % 2 ^ n) (mod_below bits (2 ^ n) (pow_pos n)) in
+    ap length cut ∙ length-append (filter (λ k. bit_at bits k == 1) (below n)) (filter (λ k. bit_at bits k == 1) (n ∷ []))
+    ∙ omega (arith, count_below n bits, one_bit (bit_at bits n) n (bit_at-lt bits n), ap ones more, split)
+
+-- how many chunks a word stands for
+pub length-places_of : (bits : ℕ) → bits < 2 ^ 32 → length (places_of bits) ≡ ones bits
+unfolding chunks_where
+length-places_of bits h = count_below 32 bits ∙ ap ones (mod-eq_of_lt h)
+
+is_less : (i k : ℕ) → i < k → nat_lt i k ≡ true
+is_less i k h = grind (arith, nat_tests)
+
+-- the tests of all numbers below k, and none from there on
+pub record HasBelow (test : ℕ → Bool) (bits k : ℕ) : Type 0 where
+  pub tests : (i : ℕ) → (bit_at bits i == 1) ≡ (nat_lt i k && test i)
+
+-- no number yet
+pub has_none : (test : ℕ → Bool) → HasBelow test 0 0
+has_none test = record { tests = λ i. grind (arith, nat_tests, bit_at-zero i) }
+
+and_false : (a b : Bool) → (a && false) ≡ (b && false)
+and_false true true = refl
+and_false true false = refl
+and_false false true = refl
+and_false false false = refl
+
+within : (i k : ℕ) (b : Bool) → i < k → (nat_lt i k && b) ≡ b
+within i k b h = ap (λ t. t && b) (is_less i k h)
+
+-- below one number more
+below_same : (k : ℕ) (b : Bool) → b ≡ true → (nat_lt k (k + 1) && b) ≡ true
+below_same k true e = grind (arith, nat_tests)
+below_same k false e = cc
+
+below_other : (i k : ℕ) (b : Bool) → (i ≡ k → ⊥) → (nat_lt i k && b) ≡ (nat_lt i (k + 1) && b)
+below_other i k b n = ap (λ t. t && b) (grind (arith, nat_tests))
+
+below_unset : (i k : ℕ) (test : ℕ → Bool) → test k ≡ false → (nat_lt i k && test i) ≡ (nat_lt i (k + 1) && test i)
+below_unset i k test fails =
+    elim (cases_eq i k) [
+      | inl e ↦ subst (λ b. (nat_lt i k && b) ≡ (nat_lt i (k + 1) && b)) (sym (ap test e ∙ fails)) (and_false (nat_lt i k) (nat_lt i (k + 1)))
+      | inr n ↦ below_other i k (test i) n
+    ]
+
+-- a number that is tested and set
+pub has_set : (test : ℕ → Bool) (bits k : ℕ) → k < 32 → test k ≡ true → HasBelow test bits k → HasBelow test (bit_or bits (1 * 2 ^ k % 2 ^ 32)) (k + 1)
+has_set test bits k lt holds before =
+    record {
+      tests = λ i. elim (cases_eq i k) [
+        | inl e ↦ subst (λ j. (bit_at (bit_or bits (1 * 2 ^ k % 2 ^ 32)) j == 1) ≡ (nat_lt j (k + 1) && test j)) (sym e)
+            (ap (λ v. v == 1) (bit_at_set_same w32 bits k lt) ∙ sym (below_same k (test k) holds))
+        | inr n ↦ ap (λ v. v == 1) (bit_at_set_other w32 bits k lt i n) ∙ before.tests i ∙ below_other i k (test i) n
+      ];
+    }
+
+-- a number that is tested and not set
+pub has_unset : (test : ℕ → Bool) (bits k : ℕ) → test k ≡ false → HasBelow test bits k → HasBelow test bits (k + 1)
+has_unset test bits k fails before = record { tests = λ i. before.tests i ∙ below_unset i k test fails }
+
+-- all 32 tests done
+pub has_all : (test : ℕ → Bool) (bits k : ℕ) → 32 ≤ k → HasBelow test bits k → places_of bits ≡ chunks_where test
+has_all test bits k all done = alike (λ i. bit_at bits i == 1) test (λ i h. done.tests i ∙ within i k (test i) (omega arith))

@@ -1,0 +1,57 @@
+-- The bytes of items, and how long a text is.
+use Rattle.std.proofs.Common.{◌≡◌, ◌∙◌, ℕ, ◌+◌, List, [], ◌∷◌, ◌++◌, length, sym, ap, refl, arith, append_assoc, sum_by, All}
+use Rattle.std.specs.List.{flat_map, AllByRecursion}
+use Rattle.std.specs.Int.{to_be_bytes, w32, w64}
+use Rattle.std.specs.Prelude.{codes, if◌then◌else◌, ◌==◌}
+use Rattle.std.proofs.lemmas.List.{length-append}
+use Rattle.std.proofs.lemmas.List.Elements.{recursion_from_All}
+use Rattle.std.proofs.lemmas.List.Sums.{sum_by-cons}
+use Rattle.xt_base.specs.Chunks.{word_of}
+use Rattle.xt_base.specs.Text.{item_text, text_with}
+use Rattle.xt_ckpt.specs.declared.item.Item.{Item}
+use Rattle.xt_ckpt.specs.Items.{item_bytes, item_len, checkpoint_text, checkpoint_len, HasForm}
+
+-- four parts behind what stands there are one part behind it
+regroup : (old a b c d : List ℕ) → (((old ++ a) ++ b) ++ c) ++ d ≡ old ++ (((a ++ b) ++ c) ++ d)
+regroup old a b c d = simp append_assoc
+
+-- the four fields of an item, one put behind another
+pub item_put : (old one two three four set content : List ℕ) (block word flag : ℕ)
+    → one ≡ old ++ to_be_bytes w64 block → word ≡ word_of set → two ≡ one ++ to_be_bytes w32 word
+    → flag ≡ (if length set == 0 then 1 else 0) → three ≡ two ++ to_be_bytes w32 flag → four ≡ three ++ content
+    → four ≡ old ++ item_text block set content
+item_put old one two three four set content block word flag e1 ew e2 ef e3 e4 =
+    e4
+    ∙ ap (λ x. x ++ content) (e3 ∙ ap (λ x. x ++ to_be_bytes w32 flag) (e2 ∙ ap (λ x. x ++ to_be_bytes w32 word) e1))
+    ∙ regroup old (to_be_bytes w64 block) (to_be_bytes w32 word) (to_be_bytes w32 flag) content
+    ∙ ap (λ w. old ++ (to_be_bytes w64 block ++ to_be_bytes w32 w ++ to_be_bytes w32 flag ++ content)) ew
+    ∙ ap (λ f. old ++ (to_be_bytes w64 block ++ to_be_bytes w32 (word_of set) ++ to_be_bytes w32 f ++ content)) ef
+
+-- an item takes 16 bytes, and its content
+length-item : (block : ℕ) (set content : List ℕ) → length (item_text block set content) ≡ 16 + length content
+length-item block set content = omega arith
+
+-- the items take what they cost
+length-items : (items : List Item) → AllByRecursion HasForm items → length (flat_map item_bytes items) ≡ sum_by item_len items
+length-items [] form = refl
+length-items (i ∷ is) form =
+    let rest = length-items is form.1 in
+    let here = length-item i.block i.chunks i.content.items in
+    length-append (item_bytes i) (flat_map item_bytes is) ∙ omega (arith, rest, here, form.0) ∙ sym (sum_by-cons item_len i is)
+
+-- a text is 32 bytes longer than its items
+length-text_with : (number count : ℕ) (body : List ℕ) → length (text_with number count body) ≡ 32 + length body
+length-text_with number count body =
+    let end = codes "XCE1" in
+    let words = to_be_bytes w32 count in
+    let last = to_be_bytes w64 number in
+    let a = length-append (body ++ end ++ words) last in
+    let b = length-append (body ++ end) words in
+    let d = length-append body end in
+    omega (arith, a, b, d)
+
+-- the length of a text is its cost
+pub length_text : (number : ℕ) (items : List Item) → All HasForm items → length (checkpoint_text number items) ≡ checkpoint_len items
+length_text number items form =
+    length-text_with number (length items) (flat_map item_bytes items)
+    ∙ ap (λ n. 32 + n) (length-items items (recursion_from_All HasForm items form))

@@ -1,0 +1,35 @@
+-- A text that is cut every 4,096 bytes.
+use Rattle.std.proofs.Common.{◌≡◌, ◌∙◌, ℕ, zero, suc, ◌+◌, ◌-◌, ◌/◌, ◌<◌, ◌≤◌, List, [], ◌∷◌, ◌++◌, length, take, drop, min, sym, ap, refl, arith, append_assoc}
+use Rattle.std.proofs.lemmas.List.{length-drop, nil_from_length, append-nil, take_min, drop_min}
+use Rattle.xt_base.specs.Text.{first_pieces, piece_count, pieces}
+
+-- what is not empty has one piece more than what is behind its first
+count_more : (n : ℕ) → 0 < n → (n + 4095) / 4096 ≡ suc ((n - 4096 + 4095) / 4096)
+count_more n h = omega arith
+
+-- the pieces of what is not empty
+pieces-more : (text : List ℕ) → 0 < length text → pieces text ≡ take 4096 text ∷ pieces (drop 4096 text)
+pieces-more text h =
+    let count : piece_count text ≡ suc (piece_count (drop 4096 text)) = count_more (length text) h ∙ ap (λ n. suc ((n + 4095) / 4096)) (sym (length-drop 4096 text)) in
+    ap (λ n. first_pieces n text) count
+
+-- one more piece is cut off
+pub cut_more : (done : List (List ℕ)) (rest : List ℕ) (all : List (List ℕ)) → 0 < length rest → done ++ pieces rest ≡ all
+    → (done ++ take (min 4096 (length rest)) rest ∷ []) ++ pieces (drop (min 4096 (length rest)) rest) ≡ all
+cut_more done rest all h e =
+    rw (take_min 4096 rest, drop_min 4096 rest, append_assoc done (take 4096 rest ∷ []) (pieces (drop 4096 rest)))
+    (ap (λ ps. done ++ ps) (sym (pieces-more rest h)) ∙ e)
+
+-- nothing is left to cut
+pub cut_all : (done : List (List ℕ)) (rest : List ℕ) (all : List (List ℕ)) → length rest ≡ 0 → done ++ pieces rest ≡ all → done ≡ all
+cut_all done rest all h e =
+    sym (append-nil done) ∙ ap (λ xs. done ++ pieces xs) (sym (nil_from_length rest h)) ∙ e
+
+-- how many pieces there are
+length-first_pieces : (n : ℕ) (text : List ℕ) → length (first_pieces n text) ≡ n
+length-first_pieces zero text = refl
+length-first_pieces (suc n) text = ap suc (length-first_pieces n (drop 4096 text))
+
+-- a text of at most 263,200 bytes has at most 65
+pub few : (text : List ℕ) → length text ≤ 263200 → length (pieces text) ≤ 65
+few text h = omega (arith, length-first_pieces (piece_count text) text)

@@ -1,0 +1,33 @@
+-- Items of a checkpoint, and what a list of them has to obey.
+use Rattle.std.specs.Prelude.{List, [], flat_map, length, map, suc, sum_by, ℕ, ◌*◌, ◌+◌, ◌≡◌, ◌≤◌, ◌∷◌}
+use Rattle.xt_base.specs.Text.{item_text, text_with}
+use Rattle.xt_ckpt.specs.declared.item.Item.{Item}
+
+-- the bytes of one item in a text
+abbrev pub item_bytes : Item → List ℕ
+item_bytes item = item_text item.block item.chunks item.content.items
+
+-- the text of a checkpoint
+abbrev pub checkpoint_text : ℕ → List Item → List ℕ
+checkpoint_text number items = text_with number (length items) (flat_map item_bytes items)
+
+-- what an item costs in bytes of the log: 16, and 128 for each chunk
+abbrev pub item_len : Item → ℕ
+item_len item = 16 + 128 * length item.chunks
+
+-- what a checkpoint costs: the length of its text
+abbrev pub checkpoint_len : List Item → ℕ
+checkpoint_len items = 32 + sum_by item_len items
+
+-- an item has 128 bytes for each chunk
+abbrev pub HasForm : Item → Type 0
+HasForm item = length item.content.items ≡ 128 * length item.chunks
+
+-- numbers that rise, from `least` on
+abbrev pub RisesFrom : ℕ → List ℕ → Type 0
+RisesFrom least [] = Unit {0}
+RisesFrom least (n ∷ ns) = (least ≤ n) × RisesFrom (suc n) ns
+
+-- the blocks of the items rise
+abbrev pub BlocksRise : List Item → Type 0
+BlocksRise items = RisesFrom 0 (map (λ item. item.block) items)

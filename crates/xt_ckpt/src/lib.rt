@@ -1,0 +1,5 @@
+//! The text of a checkpoint: written from its items, and read again.
+#![tactic(auto)]
+
+pub mod item;
+pub mod writing;

@@ -1,0 +1,127 @@
+//! The writer: the text of a checkpoint, cut into pieces that share one buffer.
+
+ghost use Rattle.std.specs.Prelude.{◌≡◌, ◌++◌, ◌==◌, ◌≤◌, All, length, flat_map, if◌then◌else◌, IfOk, IfErr, OnOk};
+ghost use Rattle.std.specs.Int.{w32, w64, to_be_bytes};
+ghost use Rattle.xt_base.specs.Text.{pieces as pieces_of};
+ghost use Rattle.xt_base.specs.declared.steps.Errno.TheVariants.{NoMemory};
+ghost use Rattle.xt_ckpt.specs.Items.{item_bytes, checkpoint_text, checkpoint_len, item_len, HasForm, BlocksRise};
+
+use crate::item::Item;
+use bytes::Bytes;
+use std::alloc::{AllocError, Global};
+use xt_base::chunks::Chunks;
+use xt_base::content::BLOCK_BYTES;
+use xt_base::names::CkptNo;
+use xt_base::steps::Errno;
+
+/// The first four bytes of a text, `XCP1`.
+pub const START: [u8; 4] = *b"XCP1";
+
+/// The four bytes behind its items, `XCE1`.
+pub const END: [u8; 4] = *b"XCE1";
+
+/// How many bytes an item takes in a text: 16, and 128 for each chunk.
+fn item_len(item: &Item) -> usize
+    ensures value { result ≡ item_len item.now }
+    ensures range { result ≤ 4112 }
+{
+    16 + 128 * item.chunks.count() as usize
+}
+
+/// The length of the text of a checkpoint in bytes, which is its cost: 32, and for each
+/// item 16 and 128 for each chunk. At most 263,200.
+pub fn checkpoint_len(items: &[Item]) -> usize
+    requires { length items.now ≤ 64 }
+    ensures value { result ≡ checkpoint_len items.now }
+    ensures range { result ≤ 263200 }
+{
+    let mut len = 32;
+    for item in items {
+        len += item_len(item);
+    }
+    len
+}
+
+/// 1 where there is no chunk, else 0.
+fn cancel_flag(chunks: Chunks) -> u32
+    ensures { result ≡ (if length chunks == 0 then 1 else 0) }
+{
+    if chunks.is_empty() { 1 } else { 0 }
+}
+
+fn put_item(out: &mut Vec<u8>, item: &Item) -> Result<(), AllocError>
+    ensures { OnOk result (out.new.items ≡ out.old.items ++ item_bytes item.now) }
+{
+    out.extend_from_slice(&item.block.0.to_be_bytes())?;
+    out.extend_from_slice(&item.chunks.word().to_be_bytes())?;
+    out.extend_from_slice(&cancel_flag(item.chunks).to_be_bytes())?;
+    out.extend_from_slice(&item.content)?;
+    Ok(())
+}
+
+fn put_items(out: &mut Vec<u8>, items: &[Item]) -> Result<(), AllocError>
+    ensures { OnOk result (out.new.items ≡ out.old.items ++ flat_map item_bytes items.now) }
+{
+    for item in items {
+        put_item(out, item)?;
+    }
+    Ok(())
+}
+
+/// The whole text, in a buffer of just its length.
+#[tactic(auto, using(crate::proofs::Lengths::length_text))]
+fn write_text(alloc: Global, no: CkptNo, items: &[Item]) -> Result<Vec<u8>, AllocError>
+    requires count { length items.now ≤ 64 }
+    requires form { All HasForm items.now }
+    ensures text { IfOk result (λ text. text.items ≡ checkpoint_text no items.now) }
+    ensures range { IfOk result (λ text. length (checkpoint_text no items.now) ≤ 263200) }
+{
+    let count = items.len() as u32;
+    let mut out = Vec::with_capacity(alloc, checkpoint_len(items))?;
+    out.extend_from_slice(&START)?;
+    out.extend_from_slice(&no.0.to_be_bytes())?;
+    out.extend_from_slice(&count.to_be_bytes())?;
+    put_items(&mut out, items)?;
+    out.extend_from_slice(&END)?;
+    out.extend_from_slice(&count.to_be_bytes())?;
+    out.extend_from_slice(&no.0.to_be_bytes())?;
+    Ok(out)
+}
+
+/// Cuts a text every 4,096 bytes. No byte is copied: the pieces share the buffer.
+fn cut(alloc: Global, text: Bytes) -> Result<Vec<Bytes>, AllocError>
+    ensures { IfOk result (λ pieces. pieces.items ≡ pieces_of text) }
+{
+    let mut pieces = Vec::with_capacity(alloc, text.len().div_ceil(BLOCK_BYTES))?;
+    let mut rest = text;
+    while !rest.is_empty() {
+        let piece = rest.split_to(BLOCK_BYTES.min(rest.len()))?;
+        pieces.push(piece)?;
+    }
+    Ok(pieces)
+}
+
+#[tactic(auto, using(crate::proofs::Pieces::few))]
+fn write_pieces(alloc: Global, no: CkptNo, items: &[Item]) -> Result<Vec<Bytes>, AllocError>
+    requires count { length items.now ≤ 64 }
+    requires form { All HasForm items.now }
+    ensures text { IfOk result (λ pieces. pieces.items ≡ pieces_of (checkpoint_text no items.now)) }
+    ensures few { IfOk result (λ pieces. length pieces.items ≤ 65) }
+{
+    let text = write_text(alloc, no, items)?;
+    cut(alloc, Bytes::from_vec(text)?)
+}
+
+/// The text of a checkpoint, cut every 4,096 bytes, the last piece shorter or whole. The
+/// pieces share one buffer. The one error is `NoMemory`.
+pub fn write_checkpoint(alloc: Global, no: CkptNo, items: &[Item]) -> Result<Vec<Bytes>, Errno>
+    requires number { 1 ≤ no }
+    requires count { (1 ≤ length items.now) × (length items.now ≤ 64) }
+    requires form { All HasForm items.now }
+    requires rising { BlocksRise items.now }
+    ensures text { IfOk result (λ pieces. pieces.items ≡ pieces_of (checkpoint_text no items.now)) }
+    ensures few { IfOk result (λ pieces. length pieces.items ≤ 65) }
+    ensures memory { IfErr result (λ e. e ≡ NoMemory) }
+{
+    write_pieces(alloc, no, items).map_err(|_| Errno::NoMemory)
+}
