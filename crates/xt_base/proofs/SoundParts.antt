@@ -298,10 +298,10 @@ module _ (log_bytes : ℕ) (owners : List (ℕ × Owner)) (ts : List (ℕ × Tra
 
   -- ---- a checkpoint begins
   -- a checkpoint begins
-  pub parts_flown : (text : List ℕ) → is_none l.flight ≡ true
-      → AreSound log_bytes owners ts (record l { open_number = l.open_number + 1; cil = []; flight = Some (record { number = l.open_number; items = l.cil; text = text }) })
-  parts_flown text none =
-      let n : Items = record l { open_number = l.open_number + 1; cil = []; flight = Some (record { number = l.open_number; items = l.cil; text = text }) } in
+  pub parts_flown : (pieces : List (List ℕ)) → is_none l.flight ≡ true
+      → AreSound log_bytes owners ts (record l { open_number = l.open_number + 1; cil = []; flight = Some (record { number = l.open_number; items = l.cil; pieces = pieces }) })
+  parts_flown pieces none =
+      let n : Items = record l { open_number = l.open_number + 1; cil = []; flight = Some (record { number = l.open_number; items = l.cil; pieces = pieces }) } in
       let space = h.space in
       let few = h.busy in
       record {

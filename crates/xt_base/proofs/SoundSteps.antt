@@ -2,7 +2,7 @@
 use Rattle.std.proofs.Common.{◌≡◌, ◌≢◌, ◌∙◌, ◌⊎◌, ◌+◌, ◌*◌, ◌<◌, ◌≤◌, ◌∷◌, Bool, List, None, Option, Some, [], ap, arith, false, inl, inr, length, refl, sym, true, ℕ}
 use Rattle.std.proofs.Math.Nat.{le-mul_of_pos_right}
 use Rattle.std.proofs.lemmas.Bool.{false≢true, and_cases, and_parts, eqb-false, false_from_ne_true, leb-false, ltb-false, ne_eqb, not-false, not-true, or_parts}
-use Rattle.std.specs.Prelude.{filter, if◌then◌else◌, is_none, is_some, nat_le, nat_lt, not, sum_by, ◌&&◌, ◌==◌, ◌||◌}
+use Rattle.std.specs.Prelude.{filter, if◌then◌else◌, is_none, is_some, nat_le, nat_lt, not, sum_by, ◌&&◌, ◌/◌, ◌==◌, ◌||◌}
 use Rattle.xt_base.proofs.BusyLemmas.{is_busy_in}
 use Rattle.xt_base.proofs.KeyLemmas.{each_with_member, each_without_member, is_in_put, is_in_put_old, rises_keys_filter, rises_keys_with}
 use Rattle.xt_base.proofs.LegLemmas.{charge_alike, covered_edit, is_in_with_marks, length_with_marks_ge, owned_there, rises_with_edits, rises_with_lost}
@@ -12,12 +12,12 @@ use Rattle.xt_base.proofs.SoundParts.{busy_active, busy_by, busy_committed, busy
 use Rattle.xt_base.specs.declared.steps.Reply.TheVariants.{Committed, Failed, Landed, Nothing, Okay, Refused, Wait}
 use Rattle.xt_base.specs.Calls.{Outcome, commit_number, gives, held_of, io_of, alloc, alloc_refusals, allocated, asks_ckpt, asks_flush, at_end, brought, busied, closed, commit, edited, first_of, force, get_refusals, is_elsewhere, is_fresh, is_own, locked, log_refusals, logged_leg, made_fresh, new_trans, not_fresh, overwritten, push, seen, shut_down, shut_for, shutdown, unless, waits_for, with_leg, with_owner}
 use Rattle.xt_base.specs.Chunks.{marks, union}
-use Rattle.xt_base.specs.Jobs.{activated, begin, begun, end, end_of, failed, finished, flown, is_ckpt, is_ok, is_outstanding, is_owed, is_serial, is_waiting, is_wanted, job, landed, landed_items, next_text, posted, waits_on}
+use Rattle.xt_base.specs.Jobs.{activated, begin, begun, end, end_of, failed, finished, flown, is_ckpt, is_ok, is_outstanding, is_owed, is_serial, is_waiting, is_wanted, job, landed, landed_items, next_pieces, posted, waits_on}
 use Rattle.xt_base.specs.Legs.{aborted, change_of, ended, is_dirty, is_lost, is_stale, own_count, with_marks}
 use Rattle.xt_base.specs.Maps.{at, is_in, put, set_at, without_member}
 use Rattle.xt_base.specs.Settle.{Dropped, settled}
 use Rattle.xt_base.specs.Sound.{AreKept, AreSound, Each, IsCovered, IsFair, IsReady, IsRising, IsSound, IsUnwritten, Owns, RisesFromKeys}
-use Rattle.xt_base.specs.Space.{busy_count, change_cost, charge, flight_items, greatest, is_busy, is_listed, used}
+use Rattle.xt_base.specs.Space.{busy_count, change_cost, charge, cost, flight_items, greatest, is_busy, is_listed, used}
 use Rattle.xt_base.specs.State.{Change, Flight, Frames, Items, Jobs, Leg, State, Transaction, mount_of}
 use Rattle.xt_base.specs.declared.names.JobKind.{JobKind}
 use Rattle.xt_base.specs.declared.names.JobName.{JobName}
@@ -165,8 +165,8 @@ sound_shutdown s h = sound_shut_down ForceUmount s h
 
 -- ---- mount
 -- a new mount with a log of at most 16 MiB
-pub sound_mount : (life log_bytes blocks : ℕ) → log_bytes ≤ 16777216 → IsSound (mount_of life log_bytes blocks)
-sound_mount life log_bytes blocks small = record {
+pub sound_mount : (slot life log_bytes blocks : ℕ) → log_bytes ≤ 16777216 → IsSound (mount_of slot life log_bytes blocks)
+sound_mount slot life log_bytes blocks small = record {
   log_small = small;
   parts = parts_empty log_bytes;
   kept = record { committed_rises = tt; committed_busy = tt; fresh_rises = tt; fresh_busy = tt };
@@ -239,9 +239,13 @@ sound_alloc unit count perm s h =
 -- ---- post, begin
 ready_posted : (kind : JobKind) (s : State) → IsReady s.items s.jobs → is_wanted kind s ≡ true → IsReady s.items (posted kind s).jobs
 ready_posted JobKind.Ckpt s r wanted =
-    let parts = and_parts _ _ (and_parts _ _ wanted).0 in
-    let some : (length s.items.cil == 0) ≡ false = not-true (length s.items.cil == 0) parts.1 in
-    let left : (s.items.open_number == greatest) ≡ false = not-true (s.items.open_number == greatest) (and_parts _ _ parts.0).1 in
+    let last : Bool = s.items.open_number == greatest in
+    let empty : Bool = length s.items.cil == 0 in
+    let least : ℕ = if s.jobs.asked_ckpt then 0 else s.log_bytes / 8 in
+    let three : (is_none s.items.flight && not last && not empty) ≡ true = (and_parts (is_none s.items.flight && not last && not empty) (nat_le least (cost s.items.cil)) wanted).0 in
+    let two : (is_none s.items.flight && not last) ≡ true = (and_parts (is_none s.items.flight && not last) (not empty) three).0 in
+    let some : empty ≡ false = not-true empty (and_parts (is_none s.items.flight && not last) (not empty) three).1 in
+    let left : last ≡ false = not-true last (and_parts (is_none s.items.flight) (not last) two).1 in
     let bounded = r.bounded in
     record {
       numbered = r.numbered;
@@ -303,14 +307,14 @@ module _ (s : State) (h : IsSound s) where
   }
 
   -- the committed items become the flight of an outstanding checkpoint
-  pub sound_flown : (text : List ℕ) → is_some s.jobs.ckpt ≡ true → is_none s.items.flight ≡ true → IsSound (flown text s)
-  sound_flown text out none =
+  pub sound_flown : (pieces : List (List ℕ)) → is_some s.jobs.ckpt ≡ true → is_none s.items.flight ≡ true → IsSound (flown pieces s)
+  sound_flown pieces out none =
       let numbered = h.ready.numbered in
       let room = h.ready.room out none in
-      let n : State = flown text s in
+      let n : State = flown pieces s in
       record {
         log_small = h.log_small;
-        parts = parts_flown s.log_bytes s.owners s.transactions s.items h.parts text none;
+        parts = parts_flown s.log_bytes s.owners s.transactions s.items h.parts pieces none;
         kept = kept_on n (λ b busy. busy_by s.owners s.items b (is_busy n b) (busy_owned n.owners n.items b) (busy_flying n.owners n.items b) (λ there. absurd (none_flying s.items.flight b none there)) (busy_active n.owners n.items b) busy);
         ready = record {
           numbered = omega arith;
@@ -333,7 +337,7 @@ module _ (s : State) (h : IsSound s) where
       let both = and_parts (is_outstanding name s) (not (is_ckpt name.kind && is_some s.items.flight)) waits in
       let out : is_some s.jobs.ckpt ≡ true = ckpt_there name.kind name.serial s.jobs ckpt (and_parts (name.life == s.life) (is_serial name.serial (job name.kind s.jobs)) both.0).1 in
       let none : is_none s.items.flight ≡ true = is_none_not s.items.flight (second_false (is_ckpt name.kind) (is_some s.items.flight) ckpt (not-true (is_ckpt name.kind && is_some s.items.flight) both.1)) in
-      sound_either (is_some s.shut) (gives Nothing (finished JobKind.Ckpt s)) (begun (next_text s) s) (λ shut. sound_finished s h) (λ live. sound_flown (next_text s) out none)
+      sound_either (is_some s.shut) (gives Nothing (finished JobKind.Ckpt s)) (begun (next_pieces s) s) (λ shut. sound_finished s h) (λ live. sound_flown (next_pieces s) out none)
 
   -- ---- end
   -- the flight is given up, and the mount is shut
