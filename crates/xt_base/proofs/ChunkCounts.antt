@@ -1,11 +1,11 @@
 -- How many chunks a union of two sets has.
-use Rattle.std.proofs.Common.{◌≡◌, ◌≢◌, ◌∙◌, ◌⊎◌, ◌+◌, ◌<◌, ◌≤◌, ◌∷◌, ◌++◌, Bool, List, [], ap, arith, cond, false, inl, inr, length, refl, subst, suc, sym, true, zero, ℕ}
-use Rattle.std.proofs.lemmas.Bool.{cases_Bool, cases_eq, eq-eqb, eqb-true, or_right}
+use Rattle.std.proofs.Common.{◌≡◌, ◌∙◌, ◌⊎◌, ◌+◌, ◌<◌, ◌≤◌, ◌∷◌, ◌++◌, Bool, List, [], ap, arith, cond, false, inl, inr, length, refl, subst, suc, sym, true, zero, ℕ}
+use Rattle.std.proofs.lemmas.Bool.{cases_Bool, cases_eq, eq-eqb, eqb-true, or_cases, or_right}
 use Rattle.std.proofs.lemmas.Bool.Decides.{nat_tests}
 use Rattle.std.proofs.lemmas.Map.Made.{is_member-filter}
 use Rattle.std.specs.Cmp.{nat_eq_equiv}
 use Rattle.std.proofs.lemmas.List.Sums.{length-filter, sum_by-append, sum_by-cons}
-use Rattle.std.specs.Prelude.{count_by, filter, nat_lt, not, ◌&&◌, ◌==◌, ◌||◌}
+use Rattle.std.specs.Prelude.{count_by, nat_lt, not, ◌&&◌, ◌==◌, ◌||◌}
 use Rattle.xt_base.specs.Chunks.{below, chunks_where, union}
 use Rattle.xt_base.specs.Maps.{has}
 use Rattle.xt_base.specs.Sound.{Each}
@@ -17,11 +17,18 @@ weigh_either true true r h = omega arith
 weigh_either true false true h = omega arith
 weigh_either true false false h = elim (h refl) [ inl a ↦ absurd (cc) | inr a ↦ absurd (cc) ]
 
+-- a test that holds only where one of two others does counts no more than both
 pub count_by_either : (p q r : ℕ → Bool) (xs : List ℕ) → ((k : ℕ) → p k ≡ true → (q k ≡ true) ⊎ (r k ≡ true)) → count_by p xs ≤ count_by q xs + count_by r xs
 count_by_either p q r [] h = omega arith
 count_by_either p q r (x ∷ xs) h =
-    omega (arith, count_by_either p q r xs h, weigh_either (p x) (q x) (r x) (h x),
-      sum_by-cons (λ k. cond (p k) 1 0) x xs, sum_by-cons (λ k. cond (q k) 1 0) x xs, sum_by-cons (λ k. cond (r k) 1 0) x xs)
+    omega (
+      arith,
+      count_by_either p q r xs h,
+      weigh_either (p x) (q x) (r x) (h x),
+      sum_by-cons (λ k. cond (p k) 1 0) x xs,
+      sum_by-cons (λ k. cond (q k) 1 0) x xs,
+      sum_by-cons (λ k. cond (r k) 1 0) x xs,
+    )
 
 weigh_split : (p q : Bool) → cond (p || q) 1 0 ≡ cond p 1 0 + cond (q && not p) 1 0
 weigh_split false false = omega arith
@@ -33,9 +40,16 @@ weigh_split true true = omega arith
 pub count_by_split : (p q : ℕ → Bool) (xs : List ℕ) → count_by (λ k. p k || q k) xs ≡ count_by p xs + count_by (λ k. q k && not (p k)) xs
 count_by_split p q [] = omega arith
 count_by_split p q (x ∷ xs) =
-    omega (arith, count_by_split p q xs, weigh_split (p x) (q x),
-      sum_by-cons (λ k. cond (p k || q k) 1 0) x xs, sum_by-cons (λ k. cond (p k) 1 0) x xs, sum_by-cons (λ k. cond (q k && not (p k)) 1 0) x xs)
+    omega (
+      arith,
+      count_by_split p q xs,
+      weigh_split (p x) (q x),
+      sum_by-cons (λ k. cond (p k || q k) 1 0) x xs,
+      sum_by-cons (λ k. cond (p k) 1 0) x xs,
+      sum_by-cons (λ k. cond (q k && not (p k)) 1 0) x xs,
+    )
 
+-- tests that agree on each element count alike
 pub count_by_same : (p q : ℕ → Bool) (xs : List ℕ) → Each (λ k. p k ≡ q k) xs → count_by p xs ≡ count_by q xs
 count_by_same p q [] all = refl
 count_by_same p q (x ∷ xs) all =
@@ -52,13 +66,10 @@ count_equal x zero = grind (arith, nat_tests)
 count_equal x (suc n) = omega (arith, count_below_more (λ k. k == x) n, count_equal x n, step_equal x n)
 
 count_equal_le : (x n : ℕ) → count_by (λ k. k == x) (below n) ≤ 1
-count_equal_le x n = elim (cases_Bool (nat_lt x n))
-    [ inl lt ↦ omega (arith, count_equal x n, ap {B = ℕ} (λ b. cond b 1 0) lt)
-    | inr ge ↦ omega (arith, count_equal x n, ap {B = ℕ} (λ b. cond b 1 0) ge) ]
-
-either_cases : (a b : Bool) → (a || b) ≡ true → (a ≡ true) ⊎ (b ≡ true)
-either_cases true b h = inl refl
-either_cases false b h = inr h
+count_equal_le x n = elim (cases_Bool (nat_lt x n)) [
+  | inl lt ↦ omega (arith, count_equal x n, ap {B = ℕ} (λ b. cond b 1 0) lt)
+  | inr ge ↦ omega (arith, count_equal x n, ap {B = ℕ} (λ b. cond b 1 0) ge)
+]
 
 none_counted : (xs : List ℕ) → count_by (λ k. false) xs ≡ 0
 none_counted [] = refl
@@ -68,18 +79,20 @@ none_counted (x ∷ xs) = omega (arith, none_counted xs, sum_by-cons (λ (k : �
 pub count_has-le : (xs : List ℕ) (n : ℕ) → count_by (has xs) (below n) ≤ length xs
 count_has-le [] n = omega (arith, none_counted (below n))
 count_has-le (x ∷ xs) n =
-    omega (arith, count_by_either (has (x ∷ xs)) (λ k. k == x) (has xs) (below n) (λ k h. either_cases (k == x) (has xs k) h), count_equal_le x n, count_has-le xs n)
+    omega (arith, count_by_either (has (x ∷ xs)) (λ k. k == x) (has xs) (below n) (λ k h. or_cases (k == x) (has xs k) h), count_equal_le x n, count_has-le xs n)
 
 length-chunks_where : (p : ℕ → Bool) → length (chunks_where p) ≡ count_by p (below 32)
 unfolding chunks_where
 length-chunks_where p = length-filter p (below 32)
 
+-- a union with a set counts no more than with one that covers it
 pub length-union_within : (a b c : List ℕ) → ((k : ℕ) → has b k ≡ true → has c k ≡ true) → length (union a b) ≤ length a + length c
 length-union_within a b c within =
     let either : (k : ℕ) → (has a k || has b k) ≡ true → (has a k ≡ true) ⊎ (has c k ≡ true) =
-        λ k h. elim (either_cases (has a k) (has b k) h) [ inl first ↦ inl first | inr second ↦ inr (within k second) ] in
+    λ k h. elim (or_cases (has a k) (has b k) h) [ inl first ↦ inl first | inr second ↦ inr (within k second) ] in
     omega (arith, length-chunks_where (λ k. has a k || has b k), count_by_either (λ k. has a k || has b k) (has a) (has c) (below 32) either, count_has-le a 32, count_has-le c 32)
 
+-- a union has at most as many chunks as both sets
 pub length-union : (a b : List ℕ) → length (union a b) ≤ length a + length b
 length-union a b = length-union_within a b b (λ k h. h)
 
@@ -91,6 +104,7 @@ each_append : (P : ℕ → Type 0) (xs : List ℕ) (y : ℕ) → Each P xs → P
 each_append P [] y all h = (h, tt)
 each_append P (x ∷ xs) y all h = (all.0, each_append P xs y all.1 h)
 
+-- what holds of each number below n holds of each in their list
 pub each_below : (P : ℕ → Type 0) (n : ℕ) → ((k : ℕ) → k < n → P k) → Each P (below n)
 each_below P zero h = tt
 each_below P (suc n) h = each_append P (below n) n (each_below P n (λ k lt. h k (omega (arith, lt)))) (h n (omega arith))
@@ -98,9 +112,10 @@ each_below P (suc n) h = each_append P (below n) n (each_below P n (λ k lt. h k
 has_append : (xs : List ℕ) (y k : ℕ) → has xs k ≡ true → has (xs ++ y ∷ []) k ≡ true
 has_append [] y k h = absurd (cc)
 has_append (x ∷ xs) y k h =
-    elim (either_cases (k == x) (has xs k) h)
-    [ inl first ↦ ap (λ b. b || has (xs ++ y ∷ []) k) first
-    | inr later ↦ or_right (k == x) (has (xs ++ y ∷ []) k) (has_append xs y k later) ]
+    elim (or_cases (k == x) (has xs k) h) [
+      | inl first ↦ ap (λ b. b || has (xs ++ y ∷ []) k) first
+      | inr later ↦ or_right (k == x) (has (xs ++ y ∷ []) k) (has_append xs y k later)
+    ]
 
 has_last : (xs : List ℕ) (k : ℕ) → has (xs ++ k ∷ []) k ≡ true
 has_last [] k = ap (λ b. b || false) (eq-eqb k k refl)
@@ -109,10 +124,12 @@ has_last (x ∷ xs) k = or_right (k == x) (has (xs ++ k ∷ []) k) (has_last xs 
 has_below : (k n : ℕ) → k < n → has (below n) k ≡ true
 has_below k zero lt = absurd (omega (arith, lt))
 has_below k (suc n) lt =
-    elim (cases_eq k n)
-    [ inl same ↦ subst (λ (x : ℕ). has (below n ++ n ∷ []) x ≡ true) (sym same) (has_last (below n) n)
-    | inr other ↦ has_append (below n) n k (has_below k n (omega (arith, lt, other))) ]
+    elim (cases_eq k n) [
+      | inl same ↦ subst (λ (x : ℕ). has (below n ++ n ∷ []) x ≡ true) (sym same) (has_last (below n) n)
+      | inr other ↦ has_append (below n) n k (has_below k n (omega (arith, lt, other)))
+    ]
 
+-- the set of the chunks that a test holds of has a chunk exactly if the test holds of it
 pub has-chunks_where : (p : ℕ → Bool) (k : ℕ) → k < 32 → has (chunks_where p) k ≡ p k
 unfolding chunks_where
 has-chunks_where p k lt =
@@ -122,8 +139,14 @@ has-chunks_where p k lt =
 pub length-union_newly : (p : ℕ → Bool) (more : List ℕ) → length (union (chunks_where p) more) ≡ length (chunks_where p) + length (newly (chunks_where p) more)
 length-union_newly p more =
     let old : List ℕ = chunks_where p in
-    omega (arith, length-chunks_where (λ k. has old k || has more k), length-chunks_where p, length-chunks_where (λ k. has more k && not (has old k)),
-      count_by_split (has old) (has more) (below 32), count_by_same (has old) p (below 32) (each_below (λ k. has old k ≡ p k) 32 (has-chunks_where p)))
+    omega (
+      arith,
+      length-chunks_where (λ k. has old k || has more k),
+      length-chunks_where p,
+      length-chunks_where (λ k. has more k && not (has old k)),
+      count_by_split (has old) (has more) (below 32),
+      count_by_same (has old) p (below 32) (each_below (λ k. has old k ≡ p k) 32 (has-chunks_where p)),
+    )
 
 has-chunks : (p : ℕ → Bool) (k : ℕ) → has (chunks_where p) k ≡ (has (below 32) k && p k)
 unfolding chunks_where

@@ -1,17 +1,16 @@
 -- Costs of item lists and charges of legs: what a commit adds to the list was charged, and what one more edit charges.
-use Rattle.std.proofs.Common.{◌≡◌, ◌≢◌, ◌∙◌, ◌⊎◌, ◌+◌, ◌*◌, ◌<◌, ◌≤◌, ◌∷◌, Bool, List, None, Option, Some, [], ap, arith, cond, false, inl, inr, length, refl, subst, suc, sym, true, ℕ}
+use Rattle.std.proofs.Common.{◌≡◌, ◌+◌, ◌*◌, ◌<◌, ◌≤◌, ◌∷◌, Bool, List, None, Option, Some, [], ap, arith, cond, false, length, refl, subst, suc, sym, true, ℕ}
 use Rattle.std.proofs.lemmas.Bool.{ne_eqb}
 use Rattle.std.proofs.lemmas.List.Sums.{sum_by-cons}
 use Rattle.std.specs.Prelude.{if◌then◌else◌, is_none, is_some, sum_by, unwrap_or, ◌==◌}
 use Rattle.xt_base.proofs.ChunkCounts.{length-union_newly, length-union_within, newly}
-use Rattle.xt_base.proofs.KeyLemmas.{is_in_put_cases}
 use Rattle.xt_base.proofs.MapLemmas.{length_put_ge, length_put_positive}
 use Rattle.xt_base.proofs.RisingLemmas.{rises_put, sum_put, weight_at}
 use Rattle.xt_base.specs.Calls.{edited}
 use Rattle.xt_base.specs.Chunks.{chunks_where, union}
 use Rattle.xt_base.specs.Legs.{change_of, joined_marks, with_marks}
 use Rattle.xt_base.specs.Maps.{at, is_in, put}
-use Rattle.xt_base.specs.Sound.{Each, IsCovered, IsRising, RisesFrom}
+use Rattle.xt_base.specs.Sound.{Each, IsCovered, IsRising}
 use Rattle.xt_base.specs.Space.{change_cost, charge, cost, item_cost}
 use Rattle.xt_base.specs.State.{Change, Leg}
 
@@ -20,9 +19,11 @@ suc_zero : (n : ℕ) → (suc n == 0) ≡ false
 suc_zero n = ne_eqb (suc n) 0 (λ h. omega (arith, h))
 
 -- ---- the cost of a list
+-- the cost of a list with an item
 pub cost-cons : (e : ℕ × List ℕ) (es : List (ℕ × List ℕ)) → cost (e ∷ es) ≡ 32 + sum_by item_cost (e ∷ es)
 cost-cons e es = ap {B = ℕ} (λ b. if b then 0 else 32 + sum_by item_cost (e ∷ es)) (suc_zero (length es))
 
+-- the cost of any list
 pub cost-le : (es : List (ℕ × List ℕ)) → cost es ≤ 32 + sum_by item_cost es
 cost-le [] = omega arith
 cost-le (e ∷ es) = omega (arith, cost-cons e es)
@@ -32,13 +33,16 @@ pub cost-some : (es : List (ℕ × List ℕ)) → 0 < length es → cost es ≡ 
 cost-some [] h = absurd (omega (arith, h))
 cost-some (e ∷ es) h = cost-cons e es
 
+-- the charge of a leg with a change
 pub charge-cons : (e : ℕ × Change) (es : List (ℕ × Change)) → charge (e ∷ es) ≡ 32 + sum_by change_cost (e ∷ es)
 charge-cons e es = ap {B = ℕ} (λ b. if b then 0 else 32 + sum_by change_cost (e ∷ es)) (suc_zero (length es))
 
+-- the charge of any leg
 pub charge-le : (es : List (ℕ × Change)) → charge es ≤ 32 + sum_by change_cost es
 charge-le [] = omega arith
 charge-le (e ∷ es) = omega (arith, charge-cons e es)
 
+-- the charge of a leg that is not clean
 pub charge-some : (es : List (ℕ × Change)) → 0 < length es → charge es ≡ 32 + sum_by change_cost es
 charge-some [] h = absurd (omega (arith, h))
 charge-some (e ∷ es) h = charge-cons e es
@@ -49,6 +53,7 @@ length-joined_of : (old : Option (List ℕ)) (e : ℕ × Change) (b : Bool) → 
 length-joined_of old e true covered = omega arith
 length-joined_of old e false covered = length-union_within (unwrap_or old []) e.1.marks e.1.charged covered
 
+-- what a change adds to an item was charged
 pub length-joined : (old : Option (List ℕ)) (e : ℕ × Change) → IsCovered e → length (joined_marks old e.1) ≤ length (unwrap_or old []) + length e.1.charged
 length-joined old e covered = length-joined_of old e (is_none e.1.edit) covered
 
@@ -57,6 +62,7 @@ marks_step : (k : ℕ) (o : Option (List ℕ)) (j : List ℕ) (charged before af
 marks_step k None j charged before after h e = omega (arith, h, e)
 marks_step k (Some old) j charged before after h e = omega (arith, h, e)
 
+-- what a leg adds to the items was charged
 pub sum_with_marks : (cs : List (ℕ × Change)) (m : List (ℕ × List ℕ)) → IsRising m → Each IsCovered cs → sum_by item_cost (with_marks cs m) ≤ sum_by item_cost m + sum_by change_cost cs
 sum_with_marks [] m r all = omega arith
 sum_with_marks (e ∷ cs) m r all =
@@ -103,5 +109,5 @@ pub charge_logged_newly : (b : ℕ) (content marked : List ℕ) (leg : Leg) (p :
     ≡ (if length leg.changes == 0 then 32 else 0) + (if is_in b leg.changes then 0 else 16) + 128 * length (newly (change_of b leg).charged marked) + charge leg.changes
 charge_logged_newly b content marked leg p r is =
     let split : length (union (change_of b leg).charged marked) ≡ length (change_of b leg).charged + length (newly (change_of b leg).charged marked) =
-        subst (λ (x : List ℕ). length (union x marked) ≡ length x + length (newly x marked)) (sym is) (length-union_newly p marked) in
+    subst (λ (x : List ℕ). length (union x marked) ≡ length x + length (newly x marked)) (sym is) (length-union_newly p marked) in
     omega (arith, charge_logged b content marked leg r, split)

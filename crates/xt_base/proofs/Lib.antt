@@ -8,3 +8,6 @@ pub mod ChunkCounts
 pub mod CostLemmas
 pub mod BusyLemmas
 pub mod LegLemmas
+pub mod SoundParts
+pub mod SoundSteps
+pub mod SoundBounds

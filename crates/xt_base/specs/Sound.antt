@@ -1,5 +1,5 @@
 -- What holds of every mount: its log space is within the log, at most 64 blocks are busy, its maps rise, and what is granted covers what is changed.
-use Rattle.std.specs.Prelude.{Bool, List, None, Option, Some, [], false, is_none, is_some, length, suc, sum_by, true, ℕ, ◌*◌, ◌+◌, ◌<◌, ◌∷◌, ◌≡◌, ◌≤◌}
+use Rattle.std.specs.Prelude.{Bool, List, None, Option, Some, [], false, is_none, is_some, length, suc, sum_by, true, ℕ, ◌+◌, ◌<◌, ◌∷◌, ◌≡◌, ◌≤◌}
 use Rattle.xt_base.specs.Legs.{own_count}
 use Rattle.xt_base.specs.Maps.{at, has, is_in}
 use Rattle.xt_base.specs.Space.{charge, cost, count_beside, flight_items, granted, greatest, is_busy, is_listed}
