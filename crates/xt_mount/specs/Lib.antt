@@ -1,3 +1,4 @@
 pub mod Layers
 pub mod Changes
 pub mod Lists
+pub mod Machines

@@ -5,4 +5,6 @@ mod frames;
 mod items;
 mod jobs;
 mod locks;
+mod machine;
+mod space;
 mod trans;
