@@ -2,3 +2,4 @@ pub mod EntryLemmas
 pub mod ChangeLemmas
 pub mod FrameLemmas
 pub mod LandedLemmas
+pub mod SettleLemmas

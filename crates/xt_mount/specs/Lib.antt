@@ -2,3 +2,4 @@ pub mod Layers
 pub mod Changes
 pub mod Lists
 pub mod Machines
+pub mod Settling

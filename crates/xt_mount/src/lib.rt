@@ -6,5 +6,6 @@ mod items;
 mod jobs;
 mod locks;
 mod machine;
+mod settle;
 mod space;
 mod trans;
