@@ -1,6 +1,7 @@
 //! One mount, step by step: transactions over locked buffers, the committed item list, checkpoints.
 #![tactic(auto)]
 
+mod alloc;
 mod frames;
 mod items;
 mod jobs;
