@@ -3,6 +3,7 @@
 
 mod alloc;
 mod frames;
+mod get;
 mod items;
 mod jobs;
 mod locks;
