@@ -3,3 +3,4 @@ pub mod ChangeLemmas
 pub mod FrameLemmas
 pub mod LandedLemmas
 pub mod SettleLemmas
+pub mod KeepLemmas

@@ -7,6 +7,7 @@ mod get;
 mod items;
 mod jobs;
 mod locks;
+mod log;
 mod machine;
 mod settle;
 mod space;
