@@ -3,3 +3,4 @@ pub mod Changes
 pub mod Lists
 pub mod Machines
 pub mod Settling
+pub mod Ending
