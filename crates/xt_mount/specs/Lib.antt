@@ -4,3 +4,4 @@ pub mod Lists
 pub mod Machines
 pub mod Settling
 pub mod Ending
+pub mod Texts

@@ -2,6 +2,7 @@
 #![tactic(auto)]
 
 mod alloc;
+mod ckpt;
 mod commit;
 mod frames;
 mod get;

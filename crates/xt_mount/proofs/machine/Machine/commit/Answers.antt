@@ -33,10 +33,10 @@ pub end_leg-requires-clause-contents : goal.end_leg-requires-clause-contents
 end_leg-requires-clause-contents c =
     let s : State = state_of c.args.self.now in
     let there : at c.args.trans s.transactions ≡ Some c.in-Some.record = sym c.remove.ensures.value ∙ c.in-Some.is in
-    omega (arith, few_contents s c.requires, few_changes s c.requires c.args.trans c.in-Some.record there, ap length c.into_changes-changes.ensures.changes, length-map change_entry c.into_changes-changes.result)
+    omega (arith, few_contents s c.requires, few_changes s c.requires c.args.trans c.in-Some.record there, ap length c.into_changes-changes.ensures.changes, length-map c.into_changes-changes.result change_entry)
 
 pub end_leg-requires-clause-cil : goal.end_leg-requires-clause-cil
 end_leg-requires-clause-cil c =
     let s : State = state_of c.args.self.now in
     let there : at c.args.trans s.transactions ≡ Some c.in-Some.record = sym c.remove.ensures.value ∙ c.in-Some.is in
-    omega (arith, few_committed s.log_bytes s.owners s.transactions s.items c.requires.parts, few_changes s c.requires c.args.trans c.in-Some.record there, ap length c.into_changes-changes.ensures.changes, length-map change_entry c.into_changes-changes.result)
+    omega (arith, few_committed s.log_bytes s.owners s.transactions s.items c.requires.parts, few_changes s c.requires c.args.trans c.in-Some.record there, ap length c.into_changes-changes.ensures.changes, length-map c.into_changes-changes.result change_entry)
