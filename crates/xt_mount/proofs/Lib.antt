@@ -5,3 +5,4 @@ pub mod LandedLemmas
 pub mod SettleLemmas
 pub mod KeepLemmas
 pub mod EndLemmas
+pub mod CkptLemmas

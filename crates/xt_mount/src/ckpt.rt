@@ -1,6 +1,6 @@
 //! The begin and the end of a checkpoint job.
 
-ghost use Rattle.std.specs.Prelude.{◌≡◌, ◌+◌, ◌*◌, ◌≤◌, ◌<◌, ◌++◌, true, All, length, map, flat_map, is_some, is_none, IfOk, OnOk, OnErr, option_copied, Some, [], IfSome, ◌==◌};
+ghost use Rattle.std.specs.Prelude.{◌≡◌, ◌+◌, ◌*◌, ◌≤◌, ◌<◌, ◌++◌, true, All, length, map, flat_map, is_some, is_none, IfOk, OnOk, OnErr, option_copied, Some, [], IfSome, ◌==◌, if◌then◌else◌};
 ghost use Rattle.std.specs.Int.{bit_at};
 ghost use Rattle.xt_base.specs.Calls.{gives, shut_down as shut_down_step};
 ghost use Rattle.xt_base.specs.Jobs.{begin as begin_step, end as end_step, failed as failed_step, is_ok, landed as landed_step, next_pieces};
@@ -141,9 +141,7 @@ fn chunk_bytes_of(alloc: Global, content: Option<&Content>, chunks: Chunks) -> R
     let mut bytes = Vec::with_capacity(alloc, CHUNK_BYTES * chunks.count() as usize)?;
     let word = chunks.word();
     for k in 0..CHUNKS {
-        if is_marked(word, k) {
-            push_chunk(&mut bytes, content, k)?;
-        }
+        push_if_marked(&mut bytes, content, word, k)?;
     }
     Ok(bytes)
 }
@@ -154,6 +152,18 @@ fn is_marked(word: u32, k: u32) -> bool
     ensures { result ≡ (bit_at word k == 1) }
 {
     word >> k & 1 == 1
+}
+
+/// Appends the bytes of chunk `k`, if the word has it.
+fn push_if_marked(out: &mut Vec<u8>, content: Option<&Content>, word: u32, k: u32) -> Result<(), AllocError>
+    requires { k < 32 }
+    ensures bytes { OnOk result (out.new.items ≡ out.old.items ++ (if bit_at word k == 1 then chunk (seen_content (option_copied content.entry)) k else [])) }
+    ensures count { OnOk result (length out.new.items ≡ length out.old.items + (if bit_at word k == 1 then 128 else 0)) }
+{
+    if is_marked(word, k) {
+        push_chunk(out, content, k)?;
+    }
+    Ok(())
 }
 
 /// Appends the bytes of one chunk.
