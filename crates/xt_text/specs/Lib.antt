@@ -1,0 +1,3 @@
+pub mod Buffer
+pub mod DataText
+pub mod DataReading

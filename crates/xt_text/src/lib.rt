@@ -1,0 +1,7 @@
+//! The line language of the host, both ways: a line is read as a step, a reply or an offer is printed.
+//! Each value has one spelling, and a line that isn't the one spelling of a step is a bad line.
+#![tactic(auto)]
+
+pub mod bad_line;
+pub mod buffer;
+pub mod data_text;
