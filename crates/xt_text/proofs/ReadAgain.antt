@@ -3,12 +3,15 @@ use Rattle.std.proofs.Common.{Bool, List, Some, [], add-one, ap, append-nil, app
 use Rattle.std.specs.Fmt.{decimal}
 use Rattle.std.specs.List.{AllByRecursion}
 use Rattle.std.specs.Str.{bytes_eq}
-use Rattle.std.proofs.lemmas.Bool.{cond_both, eqb-true, le-leb, ne_eqb}
+use Rattle.std.proofs.lemmas.Bool.{cond_both, eqb-true, le-leb, lt-ltb, ne_eqb}
 use Rattle.std.proofs.lemmas.Fmt.{decimal_by_steps}
 use Rattle.std.proofs.lemmas.Grind.{common_steps}
+use Rattle.std.proofs.lemmas.List.Elements.{recursion_from_All}
+use Rattle.std.proofs.lemmas.Option.{same_Some}
 use Rattle.std.proofs.lemmas.List.{length-replicate, replicate_more}
 use Rattle.xt_text.specs.DataReading.{byte_value, hex_value, read_data, reads}
-use Rattle.xt_text.specs.DataText.{after_run, hex, hex_digit, onto_runs, run_text, runs, runs_text, spelling}
+use Rattle.xt_text.specs.DataText.{IsData, after_run, hex, hex_digit, onto_runs, run_text, runs, runs_text, spelling}
+use Rattle.xt_text.specs.Reading.{number_on}
 use Rattle.xt_text.specs.declared.data_text.Place.TheVariants.{Count, Front, Whole}
 use Rattle.xt_text.specs.declared.data_text.Run.{Run}
 
@@ -57,9 +60,15 @@ repeated_again b (suc k) xs more small room =
     ∙ repeated_again b k (xs ++ b ∷ []) more small (omega (arith, length-append xs (b ∷ [])))
     ∙ ap (λ ys. reads ys (Whole b) more) (append_assoc xs (b ∷ []) (replicate k b))
 
+-- a decimal digit goes on with a number
+pub number_on_digit : (m d : ℕ) → 10 * m + d < 18446744073709551616 → d < 10 → number_on m (48 + d) ≡ Some (10 * m + d)
+number_on_digit m d fits small =
+    let same : (48 + d) - 48 ≡ d = omega arith in
+    rw (le-leb 48 (48 + d) (omega arith), le-leb (48 + d) 57 (omega arith), same, lt-ltb (10 * m + d) 18446744073709551616 fits) refl
+
 -- a decimal digit goes on with a count
 digit_on : (b m d : ℕ) (xs more : List ℕ) → m ≤ 4096 → d < 10 → reads xs (Count b m) ((48 + d) ∷ more) ≡ reads xs (Count b (10 * m + d)) more
-digit_on b m d xs more few small = rw (ne_eqb (48 + d) 46 (λ e. omega arith), le-leb 48 (48 + d) (omega arith), le-leb (48 + d) 57 (omega arith), le-leb m 4096 few) (ap (λ n. reads xs (Count b n) more) (omega arith))
+digit_on b m d xs more few small = rw (ne_eqb (48 + d) 46 (λ e. omega arith), number_on_digit m d (omega arith) small) refl
 
 -- the digits of a number give it
 count_again : (b n : ℕ) (xs more : List ℕ) → n ≤ 4096 → reads xs (Count b 0) (decimal n ++ more) ≡ reads xs (Count b n) more
@@ -167,5 +176,10 @@ runs_text_again (r ∷ rs) all room =
     rw (no_dash (ltb r.count 4) r.byte r.count (after_run r rs) all.0.0) (runs_again rs r [] all.0 all.1 fits)
 
 -- a spelling gives its bytes
-pub data_again : (bytes : List ℕ) → AllByRecursion (λ b. b < 256) bytes → length bytes ≤ 4096 → read_data (spelling bytes) ≡ Some bytes
-data_again bytes all room = runs_text_again (runs bytes) (runs_are bytes all) (rw (runs_have bytes) room) ∙ ap Some (runs_have bytes)
+pub data_again : (bytes : List ℕ) → IsData bytes → read_data (spelling bytes) ≡ Some bytes
+data_again bytes is =
+    runs_text_again (runs bytes) (runs_are bytes (recursion_from_All (λ b. b < 256) bytes is.are_bytes)) (rw (runs_have bytes) is.few) ∙ ap Some (runs_have bytes)
+
+-- two lists with one spelling are one list
+pub same_data : (a b : List ℕ) → IsData a → IsData b → spelling a ≡ spelling b → a ≡ b
+same_data a b is_a is_b same = same_Some a b (sym (data_again a is_a) ∙ ap read_data same ∙ data_again b is_b)

@@ -1,7 +1,7 @@
 -- Data as text: a list of bytes has one spelling.
 use Rattle.std.specs.Fmt.{decimal}
-use Rattle.std.specs.List.{flat_map}
-use Rattle.std.specs.Prelude.{Bool, List, [], if◌then◌else◌, nat_lt, replicate, ℕ, ◌%◌, ◌&&◌, ◌++◌, ◌+◌, ◌/◌, ◌==◌, ◌∷◌}
+use Rattle.std.specs.List.{All, flat_map}
+use Rattle.std.specs.Prelude.{Bool, List, [], if◌then◌else◌, length, nat_lt, replicate, ℕ, ◌<◌, ◌≤◌, ◌%◌, ◌&&◌, ◌++◌, ◌+◌, ◌/◌, ◌==◌, ◌∷◌}
 use Rattle.xt_text.specs.declared.data_text.Run.{Run}
 
 -- a hexadecimal digit, in lower case
@@ -47,3 +47,8 @@ runs_text (r ∷ rs) = run_text r ++ after_run r rs
 -- the one spelling of a list of bytes
 abbrev pub spelling : List ℕ → List ℕ
 spelling bytes = runs_text (runs bytes)
+
+-- data: at most 4,096 bytes
+pub record IsData (bytes : List ℕ) : Type 0 where
+  pub few : length bytes ≤ 4096
+  pub are_bytes : All (λ b. b < 256) bytes

@@ -1,3 +1,6 @@
 pub mod Buffer
 pub mod DataText
 pub mod DataReading
+pub mod Reading
+pub mod Lines
+pub mod LineReading

@@ -1,15 +1,16 @@
 //! Data as text, both ways. A list of bytes is cut into maximal runs of equal bytes. A run of four or more is
 //! `XX*N`, shorter ones are plain digits, and a dot stands between neighbours unless both are short; no bytes are `-`.
 
-ghost use Rattle.std.specs.Prelude.{◌≡◌, ◌==◌, ◌≢◌, ◌<◌, ◌≤◌, ◌∷◌, Some, [], length, drop, IfSome, IfOk, IsTrue};
-ghost use Rattle.std.specs.Fmt.{decimal};
-ghost use Rattle.std.specs.List.{prefix_len};
+ghost use Rattle.std.specs.Prelude.{◌≡◌, ◌==◌, ◌<◌, ◌≤◌, ◌∷◌, List, ℕ, length, drop, IfSome, IfOk};
+ghost use Rattle.std.specs.List.{All, prefix_len};
 ghost use Rattle.xt_text.specs.Buffer.{put};
-ghost use Rattle.xt_text.specs.DataReading.{Gives, GivesAs, at_end, byte_value, count_on, front_at, hex_value, next, read_data, reads, with_run};
-ghost use Rattle.xt_text.specs.DataText.{hex, hex_digit, is_short, run_text, runs, spelling};
+ghost use Rattle.xt_text.specs.DataReading.{at_end, byte_value, front_at, hex_value, next, read_data, with_run};
+ghost use Rattle.xt_text.specs.Reading.{Gives, GivesAs};
+ghost use Rattle.xt_text.specs.DataText.{IsData, hex, hex_digit, is_short, run_text, runs, spelling};
 
 use crate::bad_line::BadLine;
 use crate::buffer::Text;
+use crate::numbers::{number_on, put_number};
 use std::alloc::Global;
 use xt_base::content::Data;
 
@@ -36,7 +37,7 @@ enum Place {
     /// A byte, which a count may follow.
     Whole(u8),
     /// A byte and the count so far.
-    Count(u8, usize),
+    Count(u8, u64),
 }
 
 /// The value of a hexadecimal digit in lower case.
@@ -60,17 +61,6 @@ fn byte_value(high: u8, low: u8) -> Result<u8, BadLine>
     Ok(16 * high + low)
 }
 
-/// A count with one more digit.
-fn count_on(count: usize, digit: u8) -> Result<usize, BadLine>
-    ensures { Gives result (count_on count digit) }
-{
-    if digit.is_ascii_digit() && count <= DATA_BYTES {
-        Ok(10 * count + (digit - b'0') as usize)
-    } else {
-        Err(BadLine::Spelling)
-    }
-}
-
 /// Where the next part begins: a dot begins none.
 fn front_at(c: u8) -> Place
     ensures { result ≡ front_at c }
@@ -83,16 +73,16 @@ fn front_at(c: u8) -> Place
 }
 
 /// Puts a run behind some bytes.
-fn push_run(bytes: &mut Vec<u8>, byte: u8, count: usize) -> Result<(), BadLine>
+fn push_run(bytes: &mut Vec<u8>, byte: u8, count: u64) -> Result<(), BadLine>
     requires { length bytes.old.items ≤ 4096 }
     ensures value { GivesAs (λ _. bytes.new.items) result (with_run bytes.old.items byte count) }
     ensures short { length bytes.new.items ≤ 4096 }
 {
     let length = bytes.len();
-    if count > DATA_BYTES - length {
+    if count > (DATA_BYTES - length) as u64 {
         return Err(BadLine::Spelling);
     }
-    bytes.resize(length + count, byte)?;
+    bytes.resize(length + count as usize, byte)?;
     Ok(())
 }
 
@@ -117,7 +107,7 @@ fn read_character(bytes: &mut Vec<u8>, place: Place, c: u8) -> Result<Place, Bad
                 push_run(bytes, byte, count)?;
                 return Ok(Place::Front);
             }
-            Ok(Place::Count(byte, count_on(count, c)?))
+            Ok(Place::Count(byte, number_on(count, c)?))
         }
     }
 }
@@ -136,9 +126,17 @@ fn read_end(bytes: &mut Vec<u8>, place: Place) -> Result<(), BadLine>
     }
 }
 
+/// The elements of a slice of bytes are bytes.
+fn are_bytes(bytes: &[u8])
+    ensures { All (λ b. b < 256) bytes.now }
+{
+    let _count = bytes.len();
+}
+
 /// Reads bytes from their text, loosely: each spelling gives its bytes, and other texts may give some too.
 pub(crate) fn read_data(alloc: Global, text: &[u8]) -> Result<Data, BadLine>
-    ensures { Gives result (read_data text.now) }
+    ensures value { Gives result (read_data text.now) }
+    ensures valid { IfOk result IsData }
 {
     let mut bytes = Vec::new(alloc);
     if text != b"-".as_slice() {
@@ -148,8 +146,14 @@ pub(crate) fn read_data(alloc: Global, text: &[u8]) -> Result<Data, BadLine>
         }
         read_end(&mut bytes, place)?;
     }
+    are_bytes(&bytes);
     Ok(Data::of(bytes).unwrap())
 }
+
+/// Two lists of bytes that are spelled alike are one list.
+pub fn one_spelling()
+    ensures { (a b : List ℕ) → IsData a → IsData b → spelling a ≡ spelling b → a ≡ b }
+{}
 
 /// Whether a run is spelled without a count.
 fn is_short(run: Run) -> bool
@@ -175,17 +179,6 @@ fn put_hex(out: &mut Text, byte: u8)
     ensures { out.new ≡ put out.old (hex byte) }
 {
     out.put(&[hex_digit(byte / 16), hex_digit(byte % 16)]);
-}
-
-/// Puts a number in decimal.
-#[tactic(auto, using(crate::proofs::BufferLemmas::put_put, std::proofs::lemmas::Fmt::decimal_digit, std::proofs::lemmas::Fmt::decimal_step))]
-pub(crate) fn put_number(out: &mut Text, number: u64)
-    ensures { out.new ≡ put out.old (decimal number) }
-{
-    if number >= 10 {
-        put_number(out, number / 10);
-    }
-    out.put(&[b'0' + (number % 10) as u8]);
 }
 
 /// Puts a run's text.

@@ -5,3 +5,6 @@
 pub mod bad_line;
 pub mod buffer;
 pub mod data_text;
+mod numbers;
+pub mod read_line;
+mod words;

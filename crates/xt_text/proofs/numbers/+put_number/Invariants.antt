@@ -1,4 +1,4 @@
-use Rattle.xt_text.proofs.data_text.+put_number.Given as goal
+use Rattle.xt_text.proofs.numbers.+put_number.Given as goal
 
 abbrev pub decreases-put_number : goal.decreases-put_number
 decreases-put_number l = l.number
