@@ -4,3 +4,4 @@ pub mod DataReading
 pub mod Reading
 pub mod Lines
 pub mod LineReading
+pub mod Replies

@@ -5,6 +5,9 @@
 pub mod bad_line;
 pub mod buffer;
 pub mod data_text;
+mod fields;
 mod numbers;
-pub mod read_line;
+pub mod print_reply;
+pub mod print_step;
+mod read_line;
 mod words;
