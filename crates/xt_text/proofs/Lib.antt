@@ -1,4 +1,6 @@
 pub mod BufferLemmas
+pub mod Lengths
+pub mod ParseLemmas
 pub mod ReadAgain
 pub mod RunLemmas
 pub mod StepAgain

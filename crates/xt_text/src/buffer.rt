@@ -65,6 +65,13 @@ impl Text {
         self.full
     }
 
+    /// Whether it holds just this text.
+    pub fn holds(&self, text: &[u8]) -> bool
+        ensures { IsTrue result ↔ (self.now ≡ Some text.now) }
+    {
+        !self.full && self.bytes.as_slice() == text
+    }
+
     /// What it holds; where it is full, something else.
     pub fn bytes(&self) -> &[u8]
         ensures { self.now ≢ None → self.now ≡ Some result.now }

@@ -7,6 +7,7 @@ pub mod buffer;
 pub mod data_text;
 mod fields;
 mod numbers;
+pub mod parse;
 pub mod print_reply;
 pub mod print_step;
 mod read_line;
