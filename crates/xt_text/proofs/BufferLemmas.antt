@@ -1,5 +1,6 @@
 -- Texts put one after another.
-use Rattle.std.proofs.Common.{List, None, Option, Some, [], append-nil, append_assoc, arith, length-append, refl, ℕ, ◌++◌, ◌≡◌}
+use Rattle.std.proofs.Common.{List, None, Option, Some, [], append-nil, append_assoc, arith, length, length-append, refl, ℕ, ◌++◌, ◌+◌, ◌-◌, ◌≡◌, ◌≤◌}
+use Rattle.std.proofs.lemmas.Bool.{le-leb}
 use Rattle.std.proofs.lemmas.Grind.{common_steps}
 use Rattle.xt_text.specs.Buffer.{put}
 
@@ -12,3 +13,7 @@ put_put (Some held) a b = grind (arith, common_steps, append_assoc held a b, len
 pub put_none : (o : Option (List ℕ)) → put o [] ≡ o
 put_none None = refl
 put_none (Some held) = grind (arith, common_steps, append-nil held)
+
+-- a text that fits is put behind what is held
+pub put_fits : (held more : List ℕ) → length held + length more ≤ 8448 → put (Some held) more ≡ Some (held ++ more)
+put_fits held more fits = rw (le-leb (length more) (8448 - length held) (omega arith)) refl

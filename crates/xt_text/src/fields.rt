@@ -1,7 +1,7 @@
 //! Fields of a line, each put with a space in front.
 
 ghost use Rattle.std.specs.Fmt.{decimal};
-ghost use Rattle.std.specs.Prelude.{◌≡◌, ◌∷◌};
+ghost use Rattle.std.specs.Prelude.{◌≡◌, ◌≤◌, ◌∷◌, length};
 ghost use Rattle.xt_text.specs.Buffer.{put};
 ghost use Rattle.xt_text.specs.DataText.{spelling};
 ghost use Rattle.xt_text.specs.Lines.{ckpt_text, kind_text, name_text, ok_text, trans_text};
@@ -23,7 +23,8 @@ pub(crate) fn then_word(out: &mut Text, word: &[u8])
 /// A number.
 #[tactic(auto, using(crate::proofs::BufferLemmas::put_put))]
 pub(crate) fn then_number(out: &mut Text, number: u64)
-    ensures { out.new ≡ put out.old (32 ∷ decimal number) }
+    ensures text { out.new ≡ put out.old (32 ∷ decimal number) }
+    ensures short { length (decimal number) ≤ 20 }
 {
     out.put(b" ");
     put_number(out, number);
@@ -41,16 +42,18 @@ pub(crate) fn then_trans(out: &mut Text, trans: TransNo)
 /// The number of a checkpoint.
 #[tactic(auto, using(crate::proofs::BufferLemmas::put_put))]
 pub(crate) fn then_ckpt(out: &mut Text, number: CkptNo)
-    ensures { out.new ≡ put out.old (32 ∷ ckpt_text number) }
+    ensures text { out.new ≡ put out.old (32 ∷ ckpt_text number) }
+    ensures short { length (ckpt_text number) ≤ 21 }
 {
     out.put(b" c");
     put_number(out, number.0);
 }
 
 /// Data.
-#[tactic(auto, using(crate::proofs::BufferLemmas::put_put))]
+#[tactic(auto, using(crate::proofs::BufferLemmas::put_put, crate::proofs::Lengths::spelling_fits))]
 pub(crate) fn then_data(out: &mut Text, bytes: &[u8])
-    ensures { out.new ≡ put out.old (32 ∷ spelling bytes.now) }
+    ensures text { out.new ≡ put out.old (32 ∷ spelling bytes.now) }
+    ensures short { length bytes.now ≤ 4096 → length (spelling bytes.now) ≤ 8192 }
 {
     out.put(b" ");
     put_data(out, bytes);
@@ -58,7 +61,8 @@ pub(crate) fn then_data(out: &mut Text, bytes: &[u8])
 
 /// The answer of a device.
 pub(crate) fn then_ok(out: &mut Text, ok: bool)
-    ensures { out.new ≡ put out.old (32 ∷ ok_text ok) }
+    ensures text { out.new ≡ put out.old (32 ∷ ok_text ok) }
+    ensures short { length (ok_text ok) ≤ 4 }
 {
     out.put(if ok {
         b" ok".as_slice()

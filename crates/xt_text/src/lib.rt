@@ -11,4 +11,6 @@ pub mod parse;
 pub mod print_reply;
 pub mod print_step;
 mod read_line;
+#[cfg(test)]
+mod tests;
 mod words;

@@ -1,7 +1,7 @@
 //! Numbers as text: decimal without leading zeros, both ways.
 
 ghost use Rattle.std.specs.Fmt.{decimal};
-ghost use Rattle.std.specs.Prelude.{◌≡◌, ◌<◌, IfOk};
+ghost use Rattle.std.specs.Prelude.{◌≡◌, ◌<◌, ◌≤◌, length, IfOk};
 ghost use Rattle.xt_text.specs.Buffer.{put};
 ghost use Rattle.xt_text.specs.Reading.{Gives, below, number_of, number_on};
 
@@ -45,9 +45,10 @@ pub(crate) fn below(word: &[u8], limit: u64) -> Result<u64, BadLine>
 }
 
 /// Puts a number in decimal.
-#[tactic(auto, using(crate::proofs::BufferLemmas::put_put, std::proofs::lemmas::Fmt::decimal_digit, std::proofs::lemmas::Fmt::decimal_step))]
+#[tactic(auto, using(crate::proofs::BufferLemmas::put_put, std::proofs::lemmas::Fmt::decimal_digit, std::proofs::lemmas::Fmt::decimal_step, crate::proofs::Lengths::decimal_fits))]
 pub(crate) fn put_number(out: &mut Text, number: u64)
-    ensures { out.new ≡ put out.old (decimal number) }
+    ensures text { out.new ≡ put out.old (decimal number) }
+    ensures short { length (decimal number) ≤ 20 }
 {
     if number >= 10 {
         put_number(out, number / 10);

@@ -1,6 +1,6 @@
 //! Replies and offers printed.
 
-ghost use Rattle.std.specs.Prelude.{◌≡◌, ◌∷◌};
+ghost use Rattle.std.specs.Prelude.{◌≡◌, ◌≤◌, ◌∷◌, length};
 ghost use Rattle.xt_text.specs.Buffer.{put};
 ghost use Rattle.xt_text.specs.Lines.{ckpt_text};
 ghost use Rattle.xt_text.specs.Replies.{any_held_text, errno_text, held_text, home_offer_text, log_offer_text, reply_text, seen_text, slot_reply_text};
@@ -14,7 +14,8 @@ use xt_base::steps::{Errno, HomeOffer, LogOffer, Reason, Reply};
 
 /// The name of a refusal, as in `errno.h`.
 fn put_errno(out: &mut Text, errno: Errno)
-    ensures { out.new ≡ put out.old (errno_text errno) }
+    ensures text { out.new ≡ put out.old (errno_text errno) }
+    ensures short { length (errno_text errno) ≤ 7 }
 {
     match errno {
         Errno::Io => out.put(b"EIO"),
@@ -31,7 +32,8 @@ fn put_errno(out: &mut Text, errno: Errno)
 
 /// What the board shows of a life: live, or why it was shut.
 fn then_seen(out: &mut Text, reason: Option<Reason>)
-    ensures { out.new ≡ put out.old (32 ∷ seen_text reason) }
+    ensures text { out.new ≡ put out.old (32 ∷ seen_text reason) }
+    ensures short { length (seen_text reason) ≤ 14 }
 {
     match reason {
         None => out.put(b" live"),
@@ -45,7 +47,8 @@ fn then_seen(out: &mut Text, reason: Option<Reason>)
 /// Blocks that stay held.
 #[tactic(auto, using(crate::proofs::BufferLemmas::put_put, crate::proofs::BufferLemmas::put_none))]
 fn then_held(out: &mut Text, held: &HeldBlocks)
-    ensures { out.new ≡ put out.old (held_text held.now) }
+    ensures text { out.new ≡ put out.old (held_text held.now) }
+    ensures short { length (held_text held.now) ≤ 1349 }
 {
     out.put(b" held");
     for block in held.blocks() {
@@ -56,7 +59,8 @@ fn then_held(out: &mut Text, held: &HeldBlocks)
 /// The number of a checkpoint, with no space in front.
 #[tactic(auto, using(crate::proofs::BufferLemmas::put_put))]
 fn put_ckpt(out: &mut Text, number: CkptNo)
-    ensures { out.new ≡ put out.old (ckpt_text number) }
+    ensures text { out.new ≡ put out.old (ckpt_text number) }
+    ensures short { length (ckpt_text number) ≤ 21 }
 {
     out.put(b"c");
     put_number(out, number.0);
@@ -65,7 +69,8 @@ fn put_ckpt(out: &mut Text, number: CkptNo)
 /// Puts a reply, with no slot in front and no newline behind, behind what the buffer holds.
 #[tactic(auto, using(crate::proofs::BufferLemmas::put_put, crate::proofs::BufferLemmas::put_none))]
 pub fn print_reply(reply: &Reply, out: &mut Text)
-    ensures { out.new ≡ put out.old (reply_text reply.now) }
+    ensures text { out.new ≡ put out.old (reply_text reply.now) }
+    ensures short { length (reply_text reply.now) ≤ 8300 }
 {
     match reply {
         Reply::Okay => out.put(b"ok"),
@@ -132,7 +137,8 @@ pub fn print_reply(reply: &Reply, out: &mut Text)
 /// Puts a reply with the slot that its step names in front, and no newline behind.
 #[tactic(auto, using(crate::proofs::BufferLemmas::put_put))]
 pub fn print_slot_reply(slot: Slot, reply: &Reply, out: &mut Text)
-    ensures { out.new ≡ put out.old (slot_reply_text slot reply.now) }
+    ensures text { out.new ≡ put out.old (slot_reply_text slot reply.now) }
+    ensures short { length (slot_reply_text slot reply.now) ≤ 8400 }
 {
     put_number(out, slot.index() as u64);
     out.put(b" ");
@@ -142,7 +148,8 @@ pub fn print_slot_reply(slot: Slot, reply: &Reply, out: &mut Text)
 /// Puts what was offered to a log device, with the slot in front and no newline behind.
 #[tactic(auto, using(crate::proofs::BufferLemmas::put_put))]
 pub fn print_log_offer(slot: Slot, offer: &LogOffer, out: &mut Text)
-    ensures { out.new ≡ put out.old (log_offer_text slot offer.now) }
+    ensures text { out.new ≡ put out.old (log_offer_text slot offer.now) }
+    ensures short { length (log_offer_text slot offer.now) ≤ 8400 }
 {
     put_number(out, slot.index() as u64);
     match offer {
@@ -161,7 +168,8 @@ pub fn print_log_offer(slot: Slot, offer: &LogOffer, out: &mut Text)
 /// Puts what was offered to a home device, with the slot in front and no newline behind.
 #[tactic(auto, using(crate::proofs::BufferLemmas::put_put))]
 pub fn print_home_offer(slot: Slot, offer: &HomeOffer, out: &mut Text)
-    ensures { out.new ≡ put out.old (home_offer_text slot offer.now) }
+    ensures text { out.new ≡ put out.old (home_offer_text slot offer.now) }
+    ensures short { length (home_offer_text slot offer.now) ≤ 8400 }
 {
     put_number(out, slot.index() as u64);
     match offer {
