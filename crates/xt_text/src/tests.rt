@@ -13,10 +13,11 @@ use xt_base::names::{Block, CkptNo, Life, Slot, TransNo};
 use xt_base::steps::{Errno, HomeOffer, LogOffer, Reason, Reply, Request, Step};
 
 /// Whether a line is refused for its spelling.
-fn is_bad(alloc: Global, line: &[u8]) -> bool {
+fn is_bad(alloc: Global, line: &[u8]) -> Result<bool, Fail> {
     match parse_line(alloc, line) {
-        Ok(_) => false,
-        Err(why) => why == BadLine::Spelling,
+        Ok(_) => Ok(false),
+        Err(BadLine::Spelling) => Ok(true),
+        Err(BadLine::Memory) => Ok(Err("out of memory")?),
     }
 }
 
@@ -109,7 +110,7 @@ fn data_has_one_spelling(rt: HostRuntime) -> Result<(), Fail> {
 }
 
 #[test]
-fn other_spellings_are_bad(rt: HostRuntime) {
+fn other_spellings_are_bad(rt: HostRuntime) -> Result<(), Fail> {
     for line in [
         "",
         " ",
@@ -144,8 +145,9 @@ fn other_spellings_are_bad(rt: HostRuntime) {
         "end 0 0.1.ckpt.1 2 maybe",
         "end 0 0.1.ckpt.1 2",
     ] {
-        assert!(rt; is_bad(rt.alloc(), line.as_bytes()), "{line}");
+        assert!(rt; is_bad(rt.alloc(), line.as_bytes())?, "{line}");
     }
+    Ok(())
 }
 
 #[test]
@@ -172,13 +174,13 @@ fn other_spellings_of_data_are_bad(rt: HostRuntime) -> Result<(), Fail> {
         "*4",
     ] {
         let line = format!(in rt.alloc(); "0.1 log t1 7 0 {data}")?;
-        assert!(rt; is_bad(rt.alloc(), line.as_bytes()), "{data}");
+        assert!(rt; is_bad(rt.alloc(), line.as_bytes())?, "{data}");
     }
     Ok(())
 }
 
 #[test]
-fn words_that_have_not_come_are_bad(rt: HostRuntime) {
+fn words_that_have_not_come_are_bad(rt: HostRuntime) -> Result<(), Fail> {
     for line in [
         "0.1 view t1 7",
         "0.1 read t1 7",
@@ -187,16 +189,17 @@ fn words_that_have_not_come_are_bad(rt: HostRuntime) {
         "show 0",
         "peek 0",
     ] {
-        assert!(rt; is_bad(rt.alloc(), line.as_bytes()), "{line}");
+        assert!(rt; is_bad(rt.alloc(), line.as_bytes())?, "{line}");
     }
+    Ok(())
 }
 
 #[test]
 fn long_lines_are_bad(rt: HostRuntime) -> Result<(), Fail> {
     let long = vec![in rt.alloc(); b'1'; 8401]?;
-    assert!(rt; is_bad(rt.alloc(), &long));
+    assert!(rt; is_bad(rt.alloc(), &long)?);
     let most = vec![in rt.alloc(); b'1'; 8400]?;
-    assert!(rt; is_bad(rt.alloc(), &most));
+    assert!(rt; is_bad(rt.alloc(), &most)?);
     Ok(())
 }
 
