@@ -22,26 +22,26 @@ decimal_fits n small = length-decimal-le 20 n (omega arith) (omega arith) small
 
 -- ---- data
 -- how many bytes some runs have
-abbrev total : List Run → ℕ
+abbrev pub total : List Run → ℕ
 total [] = 0
 total (r ∷ rs) = r.count + total rs
 
 -- no run has more than data has
-abbrev AreRuns : List Run → Type 0
+abbrev pub AreRuns : List Run → Type 0
 AreRuns rs = AllByRecursion (λ r. r.count ≤ 4096) rs
 
 -- what a counted run leaves for a dot
-abbrev dots : Bool → ℕ
+abbrev pub dots : Bool → ℕ
 dots true = 0
 dots false = 1
 
 -- a byte has two digits
-hex_twice : (b n : ℕ) → length (flat_map hex (replicate n b)) ≡ 2 * n
+pub hex_twice : (b n : ℕ) → length (flat_map hex (replicate n b)) ≡ 2 * n
 hex_twice b zero = refl
 hex_twice b (suc n) = omega (arith, hex_twice b n)
 
 -- a count of four or more leaves two characters
-counted_fits : (n : ℕ) → 4 ≤ n → n ≤ 4096 → length (decimal n) + 5 ≤ 2 * n
+pub counted_fits : (n : ℕ) → 4 ≤ n → n ≤ 4096 → length (decimal n) + 5 ≤ 2 * n
 counted_fits n many few =
     elim (cases_lt n 10) [
       | inl low ↦ omega (arith, length-decimal-le 1 n (omega arith) low (omega arith))
@@ -49,31 +49,33 @@ counted_fits n many few =
     ]
 
 -- a run's text has at most two characters a byte, and two fewer where it is counted
-text_fits : (p : Bool) (b n : ℕ) → ltb n 4 ≡ p → n ≤ 4096 → length (cond p (flat_map hex (replicate n b)) (hex b ++ 42 ∷ decimal n)) + 2 * dots p ≤ 2 * n
+pub text_fits : (p : Bool) (b n : ℕ) → ltb n 4 ≡ p → n ≤ 4096 → length (cond p (flat_map hex (replicate n b)) (hex b ++ 42 ∷ decimal n)) + 2 * dots p ≤ 2 * n
 text_fits true b n short few = omega (arith, hex_twice b n)
 text_fits false b n counted few = omega (arith, counted_fits n (ltb-false n 4 counted) few)
 
-run_fits : (r : Run) → r.count ≤ 4096 → length (run_text r) + 2 * dots (is_short r) ≤ 2 * r.count
+-- the same of a run
+pub run_fits : (r : Run) → r.count ≤ 4096 → length (run_text r) + 2 * dots (is_short r) ≤ 2 * r.count
 run_fits r few = text_fits (ltb r.count 4) r.byte r.count refl few
 
--- a dot stands beside a counted run
-dot_fits : (p q : Bool) → length {A = ℕ} (cond (p && q) [] (46 ∷ [])) ≤ dots p + dots q
+-- a dot stands only where a run beside it is counted
+pub dot_fits : (p q : Bool) → length {A = ℕ} (cond (p && q) [] (46 ∷ [])) ≤ dots p + dots q
 dot_fits true true = omega arith
 dot_fits true false = omega arith
 dot_fits false true = omega arith
 dot_fits false false = omega arith
 
-between_fits : (r s : Run) → length (between r s) ≤ dots (is_short r) + dots (is_short s)
+-- what stands between two runs is no longer than what they leave
+pub between_fits : (r s : Run) → length (between r s) ≤ dots (is_short r) + dots (is_short s)
 between_fits r s = dot_fits (is_short r) (is_short s)
 
 -- the runs behind a run, with the dot before them
-after_fits : (rs : List Run) (r : Run) → AreRuns rs → length (after_run r rs) ≤ 2 * total rs + dots (is_short r)
+pub after_fits : (rs : List Run) (r : Run) → AreRuns rs → length (after_run r rs) ≤ 2 * total rs + dots (is_short r)
 after_fits [] r are = omega arith
 after_fits (s ∷ rs) r are =
     omega (arith, length-append (between r s ++ run_text s) (after_run s rs), length-append (between r s) (run_text s), between_fits r s, run_fits s are.0, after_fits rs s are.1)
 
 -- one more byte makes one more
-onto_runs_are : (x : ℕ) (rs : List Run) → total rs < 4096 → AreRuns rs → AreRuns (onto_runs x rs) × (total (onto_runs x rs) ≡ total rs + 1)
+pub onto_runs_are : (x : ℕ) (rs : List Run) → total rs < 4096 → AreRuns rs → AreRuns (onto_runs x rs) × (total (onto_runs x rs) ≡ total rs + 1)
 onto_runs_are x [] few are = ((omega arith, tt), omega arith)
 onto_runs_are x (r ∷ rs) few are =
     cond_both (eqb r.byte x) (record { byte = x; count = r.count + 1 } ∷ rs) (record { byte = x; count = 1 } ∷ r ∷ rs) (λ ss. AreRuns ss × (total ss ≡ r.count + total rs + 1))
@@ -81,7 +83,7 @@ onto_runs_are x (r ∷ rs) few are =
     (λ other. ((omega arith, are), omega arith))
 
 -- the runs of some bytes have as many
-runs_are : (xs : List ℕ) → length xs ≤ 4096 → AreRuns (runs xs) × (total (runs xs) ≡ length xs)
+pub runs_are : (xs : List ℕ) → length xs ≤ 4096 → AreRuns (runs xs) × (total (runs xs) ≡ length xs)
 runs_are [] few = (tt, refl)
 runs_are (x ∷ xs) few =
     let rest = runs_are xs (omega arith) in
@@ -89,7 +91,7 @@ runs_are (x ∷ xs) few =
     (all.0, omega (arith, rest.1, all.1))
 
 -- the text of runs
-runs_text_fits : (rs : List Run) → AreRuns rs → total rs ≤ 4096 → length (runs_text rs) ≤ 8192
+pub runs_text_fits : (rs : List Run) → AreRuns rs → total rs ≤ 4096 → length (runs_text rs) ≤ 8192
 runs_text_fits [] are few = omega arith
 runs_text_fits (r ∷ rs) are few = omega (arith, length-append (run_text r) (after_run r rs), run_fits r are.0, after_fits rs r are.1)
 
@@ -98,17 +100,21 @@ pub spelling_fits : (bytes : List ℕ) → length bytes ≤ 4096 → length (spe
 spelling_fits bytes few = let are = runs_are bytes few in runs_text_fits (runs bytes) are.0 (omega (arith, are.1))
 
 -- ---- lines
-joined : (a b : List ℕ) → length (a ␣ b) ≡ length a + length b + 1
+-- the length of two words
+pub joined : (a b : List ℕ) → length (a ␣ b) ≡ length a + length b + 1
 joined a b = omega (arith, length-append a (32 ∷ b))
 
-dotted : (a b : List ℕ) → length (a · b) ≡ length a + length b + 1
+-- the length of two parts of a word
+pub dotted : (a b : List ℕ) → length (a · b) ≡ length a + length b + 1
 dotted a b = omega (arith, length-append a (46 ∷ b))
 
-kind_fits : (kind : JobKind) → length (kind_text kind) ≤ 5
+-- what a job does has at most five characters
+pub kind_fits : (kind : JobKind) → length (kind_text kind) ≤ 5
 kind_fits Ckpt = omega arith
 kind_fits Flush = omega arith
 
-name_fits : (name : JobName) → IsName name → length (name_text name) ≤ 68
+-- a name has at most 68
+pub name_fits : (name : JobName) → IsName name → length (name_text name) ≤ 68
 name_fits name is =
     let rest = kind_text name.kind · decimal name.serial in
     omega (
@@ -122,16 +128,19 @@ name_fits name is =
       decimal_fits name.serial is.2,
     )
 
-perm_fits : (perm : Bool) → length (perm_text perm) ≤ 5
+-- plain or perm has at most five
+pub perm_fits : (perm : Bool) → length (perm_text perm) ≤ 5
 perm_fits false = omega arith
 perm_fits true = omega arith
 
-sync_fits : (sync : Option Bool) → length (sync_text sync) ≤ 4
+-- the answer to a sync has at most four
+pub sync_fits : (sync : Option Bool) → length (sync_text sync) ≤ 4
 sync_fits None = omega arith
 sync_fits (Some true) = omega arith
 sync_fits (Some false) = omega arith
 
-request_fits : (r : Request) → IsRequest r → length (request_text r) ≤ 8300
+-- a request has at most 8,300
+pub request_fits : (r : Request) → IsRequest r → length (request_text r) ≤ 8300
 request_fits (Alloc unit count perm) is =
     omega (
       arith,

@@ -17,42 +17,44 @@ use Rattle.xt_text.specs.declared.data_text.Run.{Run}
 
 -- ---- digits
 -- a hexadecimal digit gives its value
-digit_again : (d : ℕ) → d < 16 → hex_value (hex_digit d) ≡ Some d
+pub digit_again : (d : ℕ) → d < 16 → hex_value (hex_digit d) ≡ Some d
 digit_again d small = grind (arith, common_steps)
 
--- it is above a star and a dot
-digit_high : (d : ℕ) → 48 ≤ hex_digit d
+-- a hexadecimal digit is above a star and a dot
+pub digit_high : (d : ℕ) → 48 ≤ hex_digit d
 digit_high d = grind (arith, common_steps)
 
-digit_no_star : (d : ℕ) → eqb (hex_digit d) 42 ≡ false
+-- so it is no star
+pub digit_no_star : (d : ℕ) → eqb (hex_digit d) 42 ≡ false
 digit_no_star d = ne_eqb (hex_digit d) 42 (λ e. omega (arith, digit_high d))
 
-digit_no_dot : (d : ℕ) → eqb (hex_digit d) 46 ≡ false
+-- and no dot
+pub digit_no_dot : (d : ℕ) → eqb (hex_digit d) 46 ≡ false
 digit_no_dot d = ne_eqb (hex_digit d) 46 (λ e. omega (arith, digit_high d))
 
 -- two digits give their byte
-byte_again : (b : ℕ) → b < 256 → byte_value (hex_digit (b / 16)) (hex_digit (b % 16)) ≡ Some b
+pub byte_again : (b : ℕ) → b < 256 → byte_value (hex_digit (b / 16)) (hex_digit (b % 16)) ≡ Some b
 byte_again b small = rw (digit_again (b / 16) (omega arith), digit_again (b % 16) (omega arith)) (ap Some (omega arith))
 
 -- a byte is read from its digits
-hex_again : (xs : List ℕ) (b : ℕ) (more : List ℕ) → b < 256 → reads xs Front (hex b ++ more) ≡ reads xs (Whole b) more
+pub hex_again : (xs : List ℕ) (b : ℕ) (more : List ℕ) → b < 256 → reads xs Front (hex b ++ more) ≡ reads xs (Whole b) more
 hex_again xs b more small = rw (digit_no_dot (b / 16), byte_again b small) refl
 
 -- at the first digit of the next byte the byte before it is taken
-whole_then_hex : (xs : List ℕ) (b d : ℕ) (more : List ℕ) → length xs < 4096 → reads xs (Whole b) (hex_digit d ∷ more) ≡ reads (xs ++ b ∷ []) Front (hex_digit d ∷ more)
+pub whole_then_hex : (xs : List ℕ) (b d : ℕ) (more : List ℕ) → length xs < 4096 → reads xs (Whole b) (hex_digit d ∷ more) ≡ reads (xs ++ b ∷ []) Front (hex_digit d ∷ more)
 whole_then_hex xs b d more room = rw (digit_no_star d, le-leb 1 (4096 - length xs) (omega arith)) refl
 
 -- ---- runs
 -- a run that data can have
-abbrev IsRun : Run → Type 0
+abbrev pub IsRun : Run → Type 0
 IsRun r = (0 < r.count) × (r.byte < 256)
 
 -- a run's bytes
-abbrev bytes_of : Run → List ℕ
+abbrev pub bytes_of : Run → List ℕ
 bytes_of r = replicate r.count r.byte
 
 -- the digits of a byte repeated give all of it but the last, which a count may follow
-repeated_again : (b k : ℕ) (xs more : List ℕ) → b < 256 → length xs + k < 4096 → reads xs Front (flat_map hex (replicate (suc k) b) ++ more) ≡ reads (xs ++ replicate k b) (Whole b) more
+pub repeated_again : (b k : ℕ) (xs more : List ℕ) → b < 256 → length xs + k < 4096 → reads xs Front (flat_map hex (replicate (suc k) b) ++ more) ≡ reads (xs ++ replicate k b) (Whole b) more
 repeated_again b zero xs more small room = hex_again xs b more small ∙ ap (λ ys. reads ys (Whole b) more) (sym (append-nil xs))
 repeated_again b (suc k) xs more small room =
     hex_again xs b (flat_map hex (replicate (suc k) b) ++ more) small
@@ -67,11 +69,11 @@ number_on_digit m d fits small =
     rw (le-leb 48 (48 + d) (omega arith), le-leb (48 + d) 57 (omega arith), same, lt-ltb (10 * m + d) 18446744073709551616 fits) refl
 
 -- a decimal digit goes on with a count
-digit_on : (b m d : ℕ) (xs more : List ℕ) → m ≤ 4096 → d < 10 → reads xs (Count b m) ((48 + d) ∷ more) ≡ reads xs (Count b (10 * m + d)) more
+pub digit_on : (b m d : ℕ) (xs more : List ℕ) → m ≤ 4096 → d < 10 → reads xs (Count b m) ((48 + d) ∷ more) ≡ reads xs (Count b (10 * m + d)) more
 digit_on b m d xs more few small = rw (ne_eqb (48 + d) 46 (λ e. omega arith), number_on_digit m d (omega arith) small) refl
 
 -- the digits of a number give it
-count_again : (b n : ℕ) (xs more : List ℕ) → n ≤ 4096 → reads xs (Count b 0) (decimal n ++ more) ≡ reads xs (Count b n) more
+pub count_again : (b n : ℕ) (xs more : List ℕ) → n ≤ 4096 → reads xs (Count b 0) (decimal n ++ more) ≡ reads xs (Count b n) more
 count_again b n xs more few =
     decimal_by_steps (λ m ds. m ≤ 4096 → (rest : List ℕ) → reads xs (Count b 0) (ds ++ rest) ≡ reads xs (Count b m) rest)
     (λ m small few rest. digit_on b 0 m xs rest (omega arith) small ∙ ap (λ k. reads xs (Count b k) rest) (omega arith))
@@ -83,12 +85,12 @@ count_again b n xs more few =
     n (omega arith) few more
 
 -- a byte, a star and a count
-long_again : (b n : ℕ) (xs more : List ℕ) → b < 256 → n ≤ 4096 → reads xs Front ((hex b ++ 42 ∷ decimal n) ++ more) ≡ reads xs (Count b n) more
+pub long_again : (b n : ℕ) (xs more : List ℕ) → b < 256 → n ≤ 4096 → reads xs Front ((hex b ++ 42 ∷ decimal n) ++ more) ≡ reads xs (Count b n) more
 long_again b n xs more small few = hex_again xs b (42 ∷ (decimal n ++ more)) small ∙ count_again b n xs more few
 
 -- ---- what may come behind a run: nothing, a dot, or, behind a short one, a digit
 -- the last of a short run is taken there
-short_then : (b k d : ℕ) (xs more : List ℕ) → b < 256 → length xs + suc k ≤ 4096 →
+pub short_then : (b k d : ℕ) (xs more : List ℕ) → b < 256 → length xs + suc k ≤ 4096 →
     (reads xs Front (flat_map hex (replicate (suc k) b) ++ []) ≡ Some (xs ++ replicate (suc k) b))
     × (reads xs Front (flat_map hex (replicate (suc k) b) ++ 46 ∷ more) ≡ reads (xs ++ replicate (suc k) b) Front more)
     × (reads xs Front (flat_map hex (replicate (suc k) b) ++ hex_digit d ∷ more) ≡ reads (xs ++ replicate (suc k) b) Front (hex_digit d ∷ more))
@@ -101,7 +103,7 @@ short_then b k d xs more small room =
     )
 
 -- a counted run is taken there
-long_then : (b n : ℕ) (xs more : List ℕ) → b < 256 → length xs + n ≤ 4096 →
+pub long_then : (b n : ℕ) (xs more : List ℕ) → b < 256 → length xs + n ≤ 4096 →
     (reads xs Front ((hex b ++ 42 ∷ decimal n) ++ []) ≡ Some (xs ++ replicate n b))
     × (reads xs Front ((hex b ++ 42 ∷ decimal n) ++ 46 ∷ more) ≡ reads (xs ++ replicate n b) Front more)
 long_then b n xs more small room = (
@@ -111,17 +113,17 @@ long_then b n xs more small room = (
 
 -- ---- all runs
 -- a run's text, plain or counted
-abbrev text : Bool → ℕ → ℕ → List ℕ
+abbrev pub text : Bool → ℕ → ℕ → List ℕ
 text p b n = cond p (flat_map hex (replicate n b)) (hex b ++ 42 ∷ decimal n)
 
 -- the last run is taken at the end
-last_again : (p : Bool) (b n : ℕ) (xs : List ℕ) → 0 < n → b < 256 → length xs + n ≤ 4096 → reads xs Front (text p b n ++ []) ≡ Some (xs ++ replicate n b)
+pub last_again : (p : Bool) (b n : ℕ) (xs : List ℕ) → 0 < n → b < 256 → length xs + n ≤ 4096 → reads xs Front (text p b n ++ []) ≡ Some (xs ++ replicate n b)
 last_again p b zero xs some small room = absurd (omega arith)
 last_again true b (suc k) xs some small room = (short_then b k 0 xs [] small room).0
 last_again false b (suc k) xs some small room = (long_then b (suc k) xs [] small room).0
 
 -- a run before another is taken there
-joint_again : (p q : Bool) (b n c m : ℕ) (xs tail : List ℕ) → 0 < n → b < 256 → 0 < m → length xs + n ≤ 4096 →
+pub joint_again : (p q : Bool) (b n c m : ℕ) (xs tail : List ℕ) → 0 < n → b < 256 → 0 < m → length xs + n ≤ 4096 →
     reads xs Front (text p b n ++ ((cond (p && q) [] (46 ∷ []) ++ text q c m) ++ tail)) ≡ reads (xs ++ replicate n b) Front (text q c m ++ tail)
 joint_again p q b zero c m xs tail some small other room = absurd (omega arith)
 joint_again p q b (suc k) c zero xs tail some small other room = absurd (omega arith)
@@ -131,7 +133,7 @@ joint_again false true b (suc k) c (suc j) xs tail some small other room = (long
 joint_again false false b (suc k) c (suc j) xs tail some small other room = (long_then b (suc k) xs (text false c (suc j) ++ tail) small room).1
 
 -- runs give their bytes
-runs_again : (rs : List Run) (r : Run) (xs : List ℕ) → IsRun r → AllByRecursion IsRun rs → length xs + (r.count + length (flat_map bytes_of rs)) ≤ 4096 →
+pub runs_again : (rs : List Run) (r : Run) (xs : List ℕ) → IsRun r → AllByRecursion IsRun rs → length xs + (r.count + length (flat_map bytes_of rs)) ≤ 4096 →
     reads xs Front (run_text r ++ after_run r rs) ≡ Some (xs ++ (bytes_of r ++ flat_map bytes_of rs))
 runs_again [] r xs one all room =
     last_again (ltb r.count 4) r.byte r.count xs one.0 one.1 (omega arith)
@@ -143,33 +145,35 @@ runs_again (s ∷ rs) r xs one all room =
     ∙ ap Some (append_assoc xs (bytes_of r) (bytes_of s ++ flat_map bytes_of rs))
 
 -- ---- bytes and their runs
--- the runs of bytes are runs
-onto_runs_are : (x : ℕ) (rs : List Run) → x < 256 → AllByRecursion IsRun rs → AllByRecursion IsRun (onto_runs x rs)
+-- one more byte before runs gives runs
+pub onto_runs_are : (x : ℕ) (rs : List Run) → x < 256 → AllByRecursion IsRun rs → AllByRecursion IsRun (onto_runs x rs)
 onto_runs_are x [] small all = ((omega arith, small), tt)
 onto_runs_are x (r ∷ rs) small all = cond_both (eqb r.byte x) (record { byte = x; count = r.count + 1 } ∷ rs) (record { byte = x; count = 1 } ∷ r ∷ rs) (AllByRecursion IsRun) (λ e. ((omega arith, small), all.1)) (λ e. ((omega arith, small), all))
 
-runs_are : (xs : List ℕ) → AllByRecursion (λ b. b < 256) xs → AllByRecursion IsRun (runs xs)
+-- the runs of bytes are runs that data can have
+pub runs_are : (xs : List ℕ) → AllByRecursion (λ b. b < 256) xs → AllByRecursion IsRun (runs xs)
 runs_are [] all = tt
 runs_are (x ∷ xs) all = onto_runs_are x (runs xs) all.0 (runs_are xs all.1)
 
--- and have those bytes
-onto_runs_have : (x : ℕ) (rs : List Run) → flat_map bytes_of (onto_runs x rs) ≡ x ∷ flat_map bytes_of rs
+-- one more byte before runs is one more byte
+pub onto_runs_have : (x : ℕ) (rs : List Run) → flat_map bytes_of (onto_runs x rs) ≡ x ∷ flat_map bytes_of rs
 onto_runs_have x [] = refl
 onto_runs_have x (r ∷ rs) = cond_both (eqb r.byte x) (record { byte = x; count = r.count + 1 } ∷ rs) (record { byte = x; count = 1 } ∷ r ∷ rs) (λ ss. flat_map bytes_of ss ≡ x ∷ (bytes_of r ++ flat_map bytes_of rs)) (λ e. rw (eqb-true r.byte x e, add-one) refl) (λ e. refl)
 
-runs_have : (xs : List ℕ) → flat_map bytes_of (runs xs) ≡ xs
+-- the runs of bytes have those bytes
+pub runs_have : (xs : List ℕ) → flat_map bytes_of (runs xs) ≡ xs
 runs_have [] = refl
 runs_have (x ∷ xs) = onto_runs_have x (runs xs) ∙ ap (λ ys. x ∷ ys) (runs_have xs)
 
 -- ---- the law
 -- a run's text is no dash
-no_dash : (p : Bool) (b n : ℕ) (more : List ℕ) → 0 < n → bytes_eq (text p b n ++ more) (45 ∷ []) ≡ false
+pub no_dash : (p : Bool) (b n : ℕ) (more : List ℕ) → 0 < n → bytes_eq (text p b n ++ more) (45 ∷ []) ≡ false
 no_dash p b zero more some = absurd (omega arith)
 no_dash true b (suc k) more some = rw (ne_eqb (hex_digit (b / 16)) 45 (λ e. omega (arith, digit_high (b / 16)))) refl
 no_dash false b (suc k) more some = rw (ne_eqb (hex_digit (b / 16)) 45 (λ e. omega (arith, digit_high (b / 16)))) refl
 
 -- the text of runs gives their bytes
-runs_text_again : (rs : List Run) → AllByRecursion IsRun rs → length (flat_map bytes_of rs) ≤ 4096 → read_data (runs_text rs) ≡ Some (flat_map bytes_of rs)
+pub runs_text_again : (rs : List Run) → AllByRecursion IsRun rs → length (flat_map bytes_of rs) ≤ 4096 → read_data (runs_text rs) ≡ Some (flat_map bytes_of rs)
 runs_text_again [] all room = refl
 runs_text_again (r ∷ rs) all room =
     let fits : length {A = ℕ} [] + (r.count + length (flat_map bytes_of rs)) ≤ 4096 = omega (arith, length-append (bytes_of r) (flat_map bytes_of rs), length-replicate r.count r.byte) in

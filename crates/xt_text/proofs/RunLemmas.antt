@@ -8,28 +8,28 @@ use Rattle.xt_text.specs.DataText.{hex, runs}
 use Rattle.xt_text.specs.declared.data_text.Run.{Run}
 
 -- the run of x at the front of some bytes
-abbrev front_run : ℕ → List ℕ → Run
+abbrev pub front_run : ℕ → List ℕ → Run
 front_run x bytes = record { byte = x; count = prefix_len (λ y. eqb y x) bytes }
 
 -- what is said of the first run of some bytes that begin with x
-abbrev IsFirst : ℕ → List ℕ → Type 0
+abbrev pub IsFirst : ℕ → List ℕ → Type 0
 IsFirst x xs = runs (x ∷ xs) ≡ front_run x (x ∷ xs) ∷ runs (drop (prefix_len (λ y. eqb y x) (x ∷ xs)) (x ∷ xs))
 
 -- one more of the same byte before it
-same_before : (x : ℕ) (xs : List ℕ) → IsFirst x xs → IsFirst x (x ∷ xs)
+pub same_before : (x : ℕ) (xs : List ℕ) → IsFirst x xs → IsFirst x (x ∷ xs)
 same_before x xs first = rw (first, eq-eqb x x refl, one-add, one-add, add-one) refl
 
 -- another byte before it
-other_before : (x y : ℕ) (ys : List ℕ) → eqb y x ≡ false → IsFirst y ys → IsFirst x (y ∷ ys)
+pub other_before : (x y : ℕ) (ys : List ℕ) → eqb y x ≡ false → IsFirst y ys → IsFirst x (y ∷ ys)
 other_before x y ys other first = rw (eq-eqb x x refl, other, first, other) refl
 
 -- any byte before it
-any_before : (x y : ℕ) (ys : List ℕ) (b : Bool) → eqb y x ≡ b → IsFirst y ys → IsFirst x (y ∷ ys)
+pub any_before : (x y : ℕ) (ys : List ℕ) (b : Bool) → eqb y x ≡ b → IsFirst y ys → IsFirst x (y ∷ ys)
 any_before x y ys true same first = subst (λ (z : ℕ). IsFirst z ys → IsFirst x (z ∷ ys)) (sym (eqb-true y x same)) (same_before x ys) first
 any_before x y ys false other first = other_before x y ys other first
 
 -- the first run is that of the first byte, and the other runs are those of the bytes behind it
-first_of : (x : ℕ) (xs : List ℕ) → IsFirst x xs
+pub first_of : (x : ℕ) (xs : List ℕ) → IsFirst x xs
 first_of x [] = rw (eq-eqb x x refl) refl
 first_of x (y ∷ ys) = any_before x y ys (eqb y x) refl (first_of y ys)
 

@@ -15,21 +15,25 @@ use Rattle.xt_text.specs.DataText.{spelling}
 use Rattle.xt_text.specs.LineReading.{alloc_of, before, begin_of, behind, call_of, commit_of, end_of, get_of, log_of, mount_of, post_of, request_of, step_of, take_of, words_step}
 use Rattle.xt_text.specs.Lines.{IsRequest, IsStep, line_of, name_text, perm_text, request_text, sync_text, trans_text, ◌·◌, ◌␣◌}
 
--- what stands before and behind a space
-before_number : (n : ℕ) (b : List ℕ) → n < 2 ^ 64 → before 32 (decimal n ␣ b) ≡ decimal n
+-- what stands before the space behind a number
+pub before_number : (n : ℕ) (b : List ℕ) → n < 2 ^ 64 → before 32 (decimal n ␣ b) ≡ decimal n
 before_number n b small = before_joined 32 (decimal n) b (decimal_lacks 32 n (omega arith) small)
 
-behind_number : (n : ℕ) (b : List ℕ) → n < 2 ^ 64 → behind 32 (decimal n ␣ b) ≡ b
+-- what stands behind a number and a space
+pub behind_number : (n : ℕ) (b : List ℕ) → n < 2 ^ 64 → behind 32 (decimal n ␣ b) ≡ b
 behind_number n b small = behind_joined 32 (decimal n) b (decimal_lacks 32 n (omega arith) small)
 
-before_trans : (n : ℕ) (b : List ℕ) → n < 2 ^ 64 → before 32 (trans_text n ␣ b) ≡ trans_text n
+-- what stands before the space behind the number of a transaction
+pub before_trans : (n : ℕ) (b : List ℕ) → n < 2 ^ 64 → before 32 (trans_text n ␣ b) ≡ trans_text n
 before_trans n b small = before_joined 32 (trans_text n) b (refl, decimal_lacks 32 n (omega arith) small)
 
-behind_trans : (n : ℕ) (b : List ℕ) → n < 2 ^ 64 → behind 32 (trans_text n ␣ b) ≡ b
+-- what stands behind the number of a transaction and a space
+pub behind_trans : (n : ℕ) (b : List ℕ) → n < 2 ^ 64 → behind 32 (trans_text n ␣ b) ≡ b
 behind_trans n b small = behind_joined 32 (trans_text n) b (refl, decimal_lacks 32 n (omega arith) small)
 
 -- ---- requests
-request_again : (r : Request) → IsRequest r → request_of (before 32 (request_text r)) (behind 32 (request_text r)) ≡ Some r
+-- a request gives itself
+pub request_again : (r : Request) → IsRequest r → request_of (before 32 (request_text r)) (behind 32 (request_text r)) ≡ Some r
 unfolding request_of alloc_of get_of log_of commit_of
 request_again (Alloc unit count perm) is =
     rw (
@@ -64,15 +68,15 @@ request_again other is = absurd is
 
 -- ---- steps
 -- a word that begins with a digit is none that begins with a letter
-no_verb : (n c : ℕ) (more cs : List ℕ) → 58 ≤ c → n < 2 ^ 64 → bytes_eq (decimal n ++ more) (c ∷ cs) ≡ false
+pub no_verb : (n c : ℕ) (more cs : List ℕ) → 58 ≤ c → n < 2 ^ 64 → bytes_eq (decimal n ++ more) (c ∷ cs) ≡ false
 no_verb n c more cs letter small =
     decimal_by_steps (λ m ds. (rest : List ℕ) → bytes_eq (ds ++ rest) (c ∷ cs) ≡ false)
     (λ m one rest. rw (ne_eqb (48 + m) c (λ e. omega arith)) refl)
     (λ m ds big other rest. ap (λ text. bytes_eq text (c ∷ cs)) (append_assoc ds ((48 + m % 10) ∷ []) rest) ∙ other ((48 + m % 10) ∷ rest))
     n small more
 
--- a call
-call_again : (slot life : ℕ) (r : Request) → slot < 16 → life < 2 ^ 32 → IsRequest r → call_of (decimal slot · decimal life) (request_text r) ≡ Some (Call slot life r Answer.None)
+-- the words of a call give it
+pub call_again : (slot life : ℕ) (r : Request) → slot < 16 → life < 2 ^ 32 → IsRequest r → call_of (decimal slot · decimal life) (request_text r) ≡ Some (Call slot life r Answer.None)
 unfolding call_of
 call_again slot life r low small is =
     let lacks = decimal_lacks 46 slot (omega arith) (omega arith) in
@@ -85,8 +89,8 @@ call_again slot life r low small is =
     )
     refl
 
--- a call's line
-call_line_again : (slot life : ℕ) (r : Request) → slot < 16 → life < 2 ^ 32 → IsRequest r → step_of ((decimal slot · decimal life) ␣ request_text r) ≡ Some (Call slot life r Answer.None)
+-- the line of a call gives it
+pub call_line_again : (slot life : ℕ) (r : Request) → slot < 16 → life < 2 ^ 32 → IsRequest r → step_of ((decimal slot · decimal life) ␣ request_text r) ≡ Some (Call slot life r Answer.None)
 unfolding step_of words_step
 call_line_again slot life r low small is =
     let word = decimal slot · decimal life in
@@ -102,7 +106,7 @@ call_line_again slot life r low small is =
     )
     (call_again slot life r low small is)
 
--- any step
+-- the line of a step gives the step
 pub step_again : (s : Step) → IsStep s → step_of (line_of s) ≡ Some s
 unfolding step_of words_step mount_of post_of take_of begin_of end_of
 step_again (Mount slot log_bytes blocks) is =

@@ -45,7 +45,7 @@ decimal_lacks c n low small =
 
 -- ---- numbers
 -- the digits of a number give it
-digits_again : (n : ℕ) (more : List ℕ) → n < 18446744073709551616 → number_with 0 (decimal n ++ more) ≡ number_with n more
+pub digits_again : (n : ℕ) (more : List ℕ) → n < 18446744073709551616 → number_with 0 (decimal n ++ more) ≡ number_with n more
 digits_again n more small =
     decimal_by_steps (λ m ds. m < 18446744073709551616 → (rest : List ℕ) → number_with 0 (ds ++ rest) ≡ number_with m rest)
     (λ m one fits rest. rw (number_on_digit 0 m (omega arith) one) (ap (λ k. number_with k rest) (omega arith)))
@@ -55,30 +55,36 @@ digits_again n more small =
     ∙ rw (number_on_digit (m / 10) (m % 10) (omega arith) (omega arith)) (ap (λ k. number_with k rest) (omega arith)))
     n (omega arith) small more
 
+-- a number gives itself
 pub number_again : (n : ℕ) → n < 2 ^ 64 → number_of (decimal n) ≡ Some n
 number_again n small = ap number_of (sym (append-nil (decimal n))) ∙ digits_again n [] (omega arith)
 
--- the same below a limit
+-- a number below a limit gives itself
 pub below_again : (limit n : ℕ) → n < limit → n < 2 ^ 64 → below limit (decimal n) ≡ Some n
 below_again limit n low small = rw (number_again n small, lt-ltb n limit low) refl
 
+-- a u32 gives itself
 pub u32_again : (n : ℕ) → n < 2 ^ 32 → u32_of (decimal n) ≡ Some n
 u32_again n low = below_again 4294967296 n low (omega arith)
 
+-- the number of a transaction gives itself
 pub trans_again : (n : ℕ) → n < 2 ^ 64 → lettered (trans_text n) ≡ Some n
 trans_again n small = number_again n small
 
 -- ---- words that stand for a choice
+-- what a job does gives itself
 pub kind_again : (kind : JobKind) → kind_of (kind_text kind) ≡ Some kind
 unfolding kind_of
 kind_again Ckpt = refl
 kind_again Flush = refl
 
+-- plain or perm gives itself
 pub perm_again : (perm : Bool) → perm_of (perm_text perm) ≡ Some perm
 unfolding perm_of
 perm_again false = refl
 perm_again true = refl
 
+-- the answer to a sync gives itself
 pub sync_again : (sync : Option Bool) → sync_of (sync_text sync) ≡ Some sync
 unfolding sync_of
 sync_again None = refl
@@ -86,10 +92,12 @@ sync_again (Some true) = refl
 sync_again (Some false) = refl
 
 -- ---- names of jobs
-kind_lacks_dot : (kind : JobKind) → Lacks 46 (kind_text kind)
+-- what a job does has no dot
+pub kind_lacks_dot : (kind : JobKind) → Lacks 46 (kind_text kind)
 kind_lacks_dot Ckpt = (refl, (refl, (refl, (refl, tt))))
 kind_lacks_dot Flush = (refl, (refl, (refl, (refl, (refl, tt)))))
 
+-- a name gives itself
 pub name_again : (name : JobName) → IsName name → name_of (name_text name) ≡ Some name
 unfolding name_of
 name_again name is =
@@ -108,7 +116,8 @@ name_again name is =
     )
     refl
 
-kind_lacks_space : (kind : JobKind) → Lacks 32 (kind_text kind)
+-- what a job does has no space
+pub kind_lacks_space : (kind : JobKind) → Lacks 32 (kind_text kind)
 kind_lacks_space Ckpt = (refl, (refl, (refl, (refl, tt))))
 kind_lacks_space Flush = (refl, (refl, (refl, (refl, (refl, tt)))))
 

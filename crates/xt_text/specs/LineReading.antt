@@ -13,10 +13,11 @@ use Rattle.xt_base.specs.declared.steps.Step.TheVariants.{Begin, Call, End, Moun
 use Rattle.xt_text.specs.DataReading.{read_data}
 use Rattle.xt_text.specs.Reading.{below, number_of, ◌>>=◌}
 
--- a text cut at the first place of a character: what stands before it and what behind
+-- what stands before the first separator of a text, all of it where there is none
 abbrev pub before : ℕ → List ℕ → List ℕ
 before separator text = before_first (λ c. c == separator) text
 
+-- what stands behind the first separator of a text, nothing where there is none
 abbrev pub behind : ℕ → List ℕ → List ℕ
 behind separator text = after_first (λ c. c == separator) text
 
