@@ -1,8 +1,9 @@
 //! Replies and offers printed.
 
-ghost use Rattle.std.specs.Prelude.{◌≡◌, ◌≤◌, ◌∷◌, length};
+ghost use Rattle.std.specs.Fmt.{decimal};
+ghost use Rattle.std.specs.Prelude.{◌≡◌, ◌≤◌, ◌∷◌, ◌++◌, length};
 ghost use Rattle.xt_text.specs.Buffer.{put};
-ghost use Rattle.xt_text.specs.Lines.{ckpt_text};
+ghost use Rattle.xt_text.specs.Lines.{ckpt_text, ◌␣◌};
 ghost use Rattle.xt_text.specs.Replies.{any_held_text, errno_text, held_text, home_offer_text, log_offer_text, reply_text, seen_text, slot_reply_text};
 
 use crate::buffer::Text;
@@ -66,6 +67,48 @@ fn put_ckpt(out: &mut Text, number: CkptNo)
     put_number(out, number.0);
 }
 
+/// A word and the number of a checkpoint.
+#[tactic(auto, using(crate::proofs::BufferLemmas::put_put))]
+fn put_with_ckpt(out: &mut Text, word: &[u8], number: CkptNo)
+    ensures text { out.new ≡ put out.old (word.now ␣ ckpt_text number) }
+    ensures short { length (ckpt_text number) ≤ 21 }
+{
+    out.put(word);
+    then_ckpt(out, number);
+}
+
+/// A word and a number.
+#[tactic(auto, using(crate::proofs::BufferLemmas::put_put))]
+fn put_with_number(out: &mut Text, word: &[u8], number: u64)
+    ensures text { out.new ≡ put out.old (word.now ␣ decimal number) }
+    ensures short { length (decimal number) ≤ 20 }
+{
+    out.put(word);
+    then_number(out, number);
+}
+
+/// A word and blocks that stay held.
+#[tactic(auto, using(crate::proofs::BufferLemmas::put_put))]
+fn put_with_held(out: &mut Text, word: &[u8], held: &HeldBlocks)
+    ensures text { out.new ≡ put out.old (word.now ++ held_text held.now) }
+    ensures short { length (held_text held.now) ≤ 1349 }
+{
+    out.put(word);
+    then_held(out, held);
+}
+
+/// The number of a leg's checkpoint, and the blocks that stay held if there are some.
+#[tactic(auto, using(crate::proofs::BufferLemmas::put_put, crate::proofs::BufferLemmas::put_none))]
+fn put_committed(out: &mut Text, number: CkptNo, held: &Option<HeldBlocks>)
+    ensures text { out.new ≡ put out.old (ckpt_text number ++ any_held_text held.now) }
+    ensures short { length (ckpt_text number ++ any_held_text held.now) ≤ 1370 }
+{
+    put_ckpt(out, number);
+    if let Some(held) = held {
+        then_held(out, held);
+    }
+}
+
 /// Puts a reply, with no slot in front and no newline behind, behind what the buffer holds.
 #[tactic(auto, using(crate::proofs::BufferLemmas::put_put, crate::proofs::BufferLemmas::put_none))]
 pub fn print_reply(reply: &Reply, out: &mut Text)
@@ -74,32 +117,15 @@ pub fn print_reply(reply: &Reply, out: &mut Text)
 {
     match reply {
         Reply::Okay => out.put(b"ok"),
-        Reply::OkayHeld(held) => {
-            out.put(b"ok");
-            then_held(out, held);
-        }
-        Reply::Life(life) => {
-            out.put(b"life");
-            then_number(out, life.0 as u64);
-        }
+        Reply::OkayHeld(held) => put_with_held(out, b"ok", held),
+        Reply::Life(life) => put_with_number(out, b"life", life.0 as u64),
         Reply::Trans(trans) => {
             out.put(b"t");
             put_number(out, trans.0);
         }
-        Reply::Committed { number, held } => {
-            put_ckpt(out, *number);
-            if let Some(held) = held {
-                then_held(out, held);
-            }
-        }
-        Reply::Aborted(held) => {
-            out.put(b"EIO");
-            then_held(out, held);
-        }
-        Reply::Wait(number) => {
-            out.put(b"wait");
-            then_ckpt(out, *number);
-        }
+        Reply::Committed { number, held } => put_committed(out, *number, held),
+        Reply::Aborted(held) => put_with_held(out, b"EIO", held),
+        Reply::Wait(number) => put_with_ckpt(out, b"wait", *number),
         Reply::Done => out.put(b"done"),
         Reply::Kept => out.put(b"kept"),
         Reply::Free => out.put(b"free"),
@@ -109,25 +135,14 @@ pub fn print_reply(reply: &Reply, out: &mut Text)
         }
         Reply::Nothing => out.put(b"nothing"),
         Reply::Begun { number, pieces } => {
-            out.put(b"begun");
-            then_ckpt(out, *number);
+            put_with_ckpt(out, b"begun", *number);
             then_number(out, *pieces as u64);
         }
-        Reply::Landed(number) => {
-            out.put(b"landed");
-            then_ckpt(out, *number);
-        }
-        Reply::Failed(number) => {
-            out.put(b"failed");
-            then_ckpt(out, *number);
-        }
-        Reply::Flushed(count) => {
-            out.put(b"flushed");
-            then_number(out, *count as u64);
-        }
+        Reply::Landed(number) => put_with_ckpt(out, b"landed", *number),
+        Reply::Failed(number) => put_with_ckpt(out, b"failed", *number),
+        Reply::Flushed(count) => put_with_number(out, b"flushed", *count as u64),
         Reply::Seen { life, reason } => {
-            out.put(b"seen");
-            then_number(out, life.0 as u64);
+            put_with_number(out, b"seen", life.0 as u64);
             then_seen(out, *reason);
         }
         Reply::Refused(errno) => put_errno(out, *errno),

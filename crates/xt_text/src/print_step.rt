@@ -1,12 +1,14 @@
 //! Steps printed as their lines.
 
+ghost use Rattle.std.specs.Fmt.{decimal};
 ghost use Rattle.std.specs.Prelude.{◌≡◌, ◌∷◌};
 ghost use Rattle.xt_text.specs.Buffer.{put};
-ghost use Rattle.xt_text.specs.Lines.{line_of, perm_text, request_text, sync_text};
+ghost use Rattle.xt_text.specs.Lines.{line_of, name_text, perm_text, request_text, sync_text, ◌·◌, ◌␣◌};
 
 use crate::buffer::Text;
 use crate::fields::{then_data, then_name, then_number, then_ok, then_trans, then_word};
 use crate::numbers::put_number;
+use xt_base::names::{JobName, Life, Slot, Worker};
 use xt_base::steps::{Request, Step};
 
 /// Whether a transaction may roll.
@@ -68,6 +70,28 @@ fn put_request(out: &mut Text, request: &Request)
     }
 }
 
+/// Puts a mount and its request.
+#[tactic(auto, using(crate::proofs::BufferLemmas::put_put))]
+fn put_call(out: &mut Text, slot: Slot, life: Life, request: &Request)
+    ensures { out.new ≡ put out.old ((decimal slot · decimal life) ␣ request_text request.now) }
+{
+    put_number(out, slot.index() as u64);
+    out.put(b".");
+    put_number(out, life.0 as u64);
+    out.put(b" ");
+    put_request(out, request);
+}
+
+/// Puts a word, a worker and the name of a job.
+#[tactic(auto, using(crate::proofs::BufferLemmas::put_put))]
+fn put_job_step(out: &mut Text, word: &[u8], worker: Worker, name: JobName)
+    ensures { out.new ≡ put out.old (word.now ␣ decimal worker ␣ name_text name) }
+{
+    out.put(word);
+    then_number(out, worker.index() as u64);
+    then_name(out, name);
+}
+
 /// Puts the line of a step, without a newline, behind what the buffer holds; nothing for a step whose word has not
 /// come yet.
 #[tactic(auto, using(crate::proofs::BufferLemmas::put_put, crate::proofs::BufferLemmas::put_none))]
@@ -90,35 +114,19 @@ pub fn print_step(step: &Step, out: &mut Text)
             life,
             request,
             answer: _,
-        } => {
-            put_number(out, slot.index() as u64);
-            out.put(b".");
-            put_number(out, life.0 as u64);
-            out.put(b" ");
-            put_request(out, request);
-        }
+        } => put_call(out, *slot, *life, request),
         Step::Post(name) => {
             out.put(b"post");
             then_name(out, *name);
         }
-        Step::Take { worker, name } => {
-            out.put(b"take");
-            then_number(out, worker.index() as u64);
-            then_name(out, *name);
-        }
-        Step::Begin { worker, name } => {
-            out.put(b"begin");
-            then_number(out, worker.index() as u64);
-            then_name(out, *name);
-        }
+        Step::Take { worker, name } => put_job_step(out, b"take", *worker, *name),
+        Step::Begin { worker, name } => put_job_step(out, b"begin", *worker, *name),
         Step::End {
             worker,
             name,
             answers,
         } => {
-            out.put(b"end");
-            then_number(out, worker.index() as u64);
-            then_name(out, *name);
+            put_job_step(out, b"end", *worker, *name);
             then_number(out, answers.taken as u64);
             then_sync(out, answers.sync);
         }
