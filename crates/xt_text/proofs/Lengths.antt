@@ -125,7 +125,7 @@ name_fits name is =
       decimal_fits name.slot (omega arith),
       decimal_fits name.life (omega arith),
       kind_fits name.kind,
-      decimal_fits name.serial is.2,
+      decimal_fits name.serial is.3,
     )
 
 -- plain or perm has at most five

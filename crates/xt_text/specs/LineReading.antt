@@ -3,7 +3,7 @@ use Rattle.std.specs.List.{after_first, before_first}
 use Rattle.std.specs.Prelude.{Bool, List, None, Option, Some, [], codes, false, if◌then◌else◌, true, ℕ, ◌==◌, ◌∷◌}
 use Rattle.std.specs.Str.{bytes_eq}
 use Rattle.xt_base.specs.declared.names.JobKind.{JobKind}
-use Rattle.xt_base.specs.declared.names.JobKind.TheVariants.{Ckpt, Flush}
+use Rattle.xt_base.specs.declared.names.JobKind.TheVariants.{Ckpt}
 use Rattle.xt_base.specs.declared.names.JobName.{JobName}
 use Rattle.xt_base.specs.declared.steps.Answer.TheVariants as Answer
 use Rattle.xt_base.specs.declared.steps.Request.{Request}
@@ -31,9 +31,9 @@ abbrev pub lettered : List ℕ → Option ℕ
 lettered [] = None
 lettered (c ∷ cs) = number_of cs
 
--- what a job does
+-- what a job does, of the kinds whose names have come
 unfoldable pub kind_of : List ℕ → Option JobKind
-kind_of word = if bytes_eq word (codes "ckpt") then Some Ckpt else if bytes_eq word (codes "flush") then Some Flush else None
+kind_of word = if bytes_eq word (codes "ckpt") then Some Ckpt else None
 
 -- the name of a job
 unfoldable pub name_of : List ℕ → Option JobName

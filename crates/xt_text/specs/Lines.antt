@@ -75,9 +75,14 @@ line_of (End worker name answers) = codes "end" ␣ decimal worker ␣ name_text
 line_of other = []
 
 -- ---- which steps have a line: those whose word has come, with the values that their types have
+-- a kind of job whose names have come
+abbrev pub IsKind : JobKind → Type 0
+IsKind Ckpt = Unit {0}
+IsKind Flush = ⊥
+
 -- the values of a name
 abbrev pub IsName : JobName → Type 0
-IsName name = (name.slot < 16) × (name.life < 2 ^ 32) × (name.serial < 2 ^ 64)
+IsName name = (name.slot < 16) × (name.life < 2 ^ 32) × IsKind name.kind × (name.serial < 2 ^ 64)
 
 -- a request whose word has come
 abbrev pub IsRequest : Request → Type 0

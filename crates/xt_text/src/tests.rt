@@ -57,12 +57,12 @@ fn lines_of_steps_are_read_and_printed(rt: HostRuntime) -> Result<(), Fail> {
         "0.1 commit t1",
         "0.1 force",
         "post 0.1.ckpt.1",
-        "post 15.4294967295.flush.18446744073709551615",
+        "post 15.4294967295.ckpt.18446744073709551615",
         "take 0 0.1.ckpt.1",
-        "begin 7 0.1.flush.1",
+        "begin 7 0.1.ckpt.1",
         "end 0 0.1.ckpt.1 2 ok",
         "end 0 0.1.ckpt.1 4294967295 fail",
-        "end 7 0.1.flush.1 0 none",
+        "end 7 0.1.ckpt.1 0 none",
     ] {
         let step = parse_line(rt.alloc(), line.as_bytes())?;
         out.clear();
@@ -186,6 +186,9 @@ fn words_that_have_not_come_are_bad(rt: HostRuntime) -> Result<(), Fail> {
         "0.1 read t1 7",
         "0.1 unmount",
         "flush 0 0.1.flush.1",
+        "post 0.1.flush.1",
+        "take 0 0.1.flush.1",
+        "begin 0 0.1.flush.1",
         "show 0",
         "peek 0",
     ] {
