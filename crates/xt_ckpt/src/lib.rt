@@ -1,5 +1,6 @@
 //! The text of a checkpoint: written from its items, and read again.
 #![tactic(auto)]
 
+pub mod draft;
 pub mod item;
 pub mod writing;

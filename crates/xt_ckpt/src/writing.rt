@@ -6,19 +6,13 @@ ghost use Rattle.xt_base.specs.Text.{pieces as pieces_of};
 ghost use Rattle.xt_base.specs.declared.steps.Errno.TheVariants.{NoMemory};
 ghost use Rattle.xt_ckpt.specs.Items.{item_bytes, checkpoint_text, checkpoint_len, item_len, HasForm, BlocksRise};
 
-use crate::item::Item;
+use crate::item::{END, Item, START};
 use bytes::Bytes;
 use std::alloc::{AllocError, Global};
 use xt_base::chunks::Chunks;
 use xt_base::content::BLOCK_BYTES;
 use xt_base::names::CkptNo;
 use xt_base::steps::Errno;
-
-/// The first four bytes of a text, `XCP1`.
-pub const START: [u8; 4] = *b"XCP1";
-
-/// The four bytes behind its items, `XCE1`.
-pub const END: [u8; 4] = *b"XCE1";
 
 /// How many bytes an item takes in a text: 16, and 128 for each chunk.
 fn item_len(item: &Item) -> usize
@@ -78,11 +72,11 @@ fn write_text(alloc: Global, no: CkptNo, items: &[Item]) -> Result<Vec<u8>, Allo
 {
     let count = items.len() as u32;
     let mut out = Vec::with_capacity(alloc, checkpoint_len(items))?;
-    out.extend_from_slice(&START)?;
+    out.extend_from_slice(&START.to_be_bytes())?;
     out.extend_from_slice(&no.0.to_be_bytes())?;
     out.extend_from_slice(&count.to_be_bytes())?;
     put_items(&mut out, items)?;
-    out.extend_from_slice(&END)?;
+    out.extend_from_slice(&END.to_be_bytes())?;
     out.extend_from_slice(&count.to_be_bytes())?;
     out.extend_from_slice(&no.0.to_be_bytes())?;
     Ok(out)

@@ -1,0 +1,213 @@
+//! What the fields of a text have said so far, and the rule of each field.
+
+ghost use Rattle.std.specs.Prelude.{◌≡◌, ◌==◌, ◌&&◌, [], nat_le, if◌then◌else◌, length, IfOk, OnOk};
+ghost use Rattle.std.specs.Int.{w32, w64, from_be_bytes};
+ghost use Rattle.xt_ckpt.specs.Fields.{opening, width, after, after_field, provided, at_item, with_item};
+ghost use Rattle.xt_ckpt.specs.declared.draft.Field.TheVariants as Field;
+ghost use Rattle.xt_ckpt.specs.Drafts.{seen, above, IsAfter};
+
+use crate::item::{Item, MAX_ITEMS};
+use crate::item::{END, START};
+use std::alloc::{AllocError, Global};
+use xt_base::chunks::{CHUNK_BYTES, Chunks};
+use xt_base::names::Block;
+
+/// The field of a text that comes next.
+#[derive(Clone, Copy, Debug)]
+pub enum Field {
+    /// `XCP1`.
+    Start,
+    /// The number of the checkpoint, at least 1.
+    Number,
+    /// How many items there are, 1 to 64.
+    Count,
+    /// The block of an item, above that of the item before.
+    Block,
+    /// The map of its chunks, bit k for chunk k.
+    Map { block: u64 },
+    /// 1 where the map is 0, else 0.
+    Flag { block: u64, map: u32 },
+    /// 128 bytes for each chunk of a map that is not 0.
+    Content { block: u64, map: u32 },
+    /// `XCE1`.
+    End,
+    /// The count of items again.
+    EndCount,
+    /// The number again.
+    EndNumber,
+    /// The text is whole.
+    Nothing,
+}
+
+/// A text that has been read as far as some field.
+#[derive(Debug, Drop)]
+pub struct Draft {
+    pub number: u64,
+    pub count: u32,
+    pub items: Vec<Item>,
+    /// The block of the last item.
+    pub last: Option<u64>,
+    pub next: Field,
+}
+
+/// A word of four bytes, the high byte first.
+fn u32_of(bytes: &[u8]) -> u32
+    requires { length bytes.now ≡ 4 }
+    ensures { result ≡ from_be_bytes w32 bytes.now }
+{
+    u32::from_be_bytes([bytes[0], bytes[1], bytes[2], bytes[3]])
+}
+
+/// A word of eight bytes, the high byte first.
+fn u64_of(bytes: &[u8]) -> u64
+    requires { length bytes.now ≡ 8 }
+    ensures { result ≡ from_be_bytes w64 bytes.now }
+{
+    u64::from_be_bytes([
+        bytes[0], bytes[1], bytes[2], bytes[3], bytes[4], bytes[5], bytes[6], bytes[7],
+    ])
+}
+
+impl Field {
+    /// How many bytes it has.
+    pub fn width(self) -> usize
+        ensures { result ≡ width self }
+    {
+        match self {
+            Field::Number | Field::Block | Field::EndNumber => 8,
+            Field::Content { block: _, map } => CHUNK_BYTES * Chunks::of_word(map).count() as usize,
+            Field::Nothing => 0,
+            _ => 4,
+        }
+    }
+}
+
+impl Draft {
+    /// The draft of which nothing is read yet.
+    pub fn new(alloc: Global) -> Self
+        ensures { seen result ≡ opening }
+    {
+        Draft {
+            number: 0,
+            count: 0,
+            items: Vec::new(alloc),
+            last: None,
+            next: Field::Start,
+        }
+    }
+
+    /// Goes on to another field, if the rule of this one holds.
+    fn go_on(&mut self, holds: bool, next: Field) -> bool
+        ensures { IsAfter result (seen self.new) (provided holds (record (seen self.old) { next = next })) }
+    {
+        if holds {
+            self.next = next;
+        }
+        holds
+    }
+
+    /// The first field of the next item, or of the end where there are as many as counted.
+    fn item_or_end(&self) -> Field
+        ensures { result ≡ (at_item (seen self.now)).next }
+    {
+        if self.items.len() == self.count as usize {
+            Field::End
+        } else {
+            Field::Block
+        }
+    }
+
+    fn push_item(
+        &mut self,
+        alloc: Global,
+        block: u64,
+        map: u32,
+        content: &[u8],
+    ) -> Result<(), AllocError>
+        ensures { OnOk result (seen self.new ≡ with_item block map content.now (seen self.old)) }
+    {
+        let content = Vec::from_slice(alloc, content)?;
+        self.items.push(Item {
+            block: Block(block),
+            chunks: Chunks::of_word(map),
+            content,
+        })?;
+        self.last = Some(block);
+        self.next = self.item_or_end();
+        Ok(())
+    }
+
+    /// Judges the flag of an item: a cancel is whole with it.
+    fn accept_flag(
+        &mut self,
+        alloc: Global,
+        block: u64,
+        map: u32,
+        flag: u32,
+    ) -> Result<bool, AllocError>
+        ensures { IfOk result (λ accepted. IsAfter accepted (seen self.new)
+            (provided (flag == (if map == 0 then 1 else 0)) (if map == 0 then with_item block 0 [] (seen self.old) else record (seen self.old) { next = Field.Content block map }))) }
+    {
+        if map == 0 {
+            let accepted = flag == 1;
+            if accepted {
+                self.push_item(alloc, block, 0, &[])?;
+            }
+            Ok(accepted)
+        } else {
+            Ok(self.go_on(flag == 0, Field::Content { block, map }))
+        }
+    }
+
+    /// Judges the next field, of which all bytes are here: whether it obeys its rule. After
+    /// an error, or where it doesn't, the draft is of no further use.
+    pub fn accept(&mut self, alloc: Global, bytes: &[u8]) -> Result<bool, AllocError>
+        requires { length bytes.now ≡ width self.old.next }
+        ensures { IfOk result (λ accepted. IsAfter accepted (seen self.new) (after (seen self.old) bytes.now)) }
+    {
+        Ok(match self.next {
+            Field::Start => self.go_on(u32_of(bytes) == START, Field::Number),
+            Field::Number => self.accept_number(u64_of(bytes)),
+            Field::Count => self.accept_count(u32_of(bytes)),
+            Field::Block => self.accept_block(u64_of(bytes)),
+            Field::Map { block } => {
+                let map = u32_of(bytes);
+                self.go_on(true, Field::Flag { block, map })
+            }
+            Field::Flag { block, map } => self.accept_flag(alloc, block, map, u32_of(bytes))?,
+            Field::Content { block, map } => {
+                self.push_item(alloc, block, map, bytes)?;
+                true
+            }
+            Field::End => self.go_on(u32_of(bytes) == END, Field::EndCount),
+            Field::EndCount => self.go_on(u32_of(bytes) == self.count, Field::EndNumber),
+            Field::EndNumber => self.go_on(u64_of(bytes) == self.number, Field::Nothing),
+            Field::Nothing => false,
+        })
+    }
+
+    fn accept_number(&mut self, number: u64) -> bool
+        ensures { IsAfter result (seen self.new) (provided (nat_le 1 number) (record (seen self.old) { number = number; next = Field.Count })) }
+    {
+        self.number = number;
+        self.go_on(number >= 1, Field::Count)
+    }
+
+    fn accept_count(&mut self, count: u32) -> bool
+        ensures { IsAfter result (seen self.new) (provided (nat_le 1 count && nat_le count 64) (at_item (record (seen self.old) { count = count }))) }
+    {
+        self.count = count;
+        let next = self.item_or_end();
+        self.go_on(count >= 1 && count as usize <= MAX_ITEMS, next)
+    }
+
+    fn accept_block(&mut self, block: u64) -> bool
+        ensures { IsAfter result (seen self.new) (provided (nat_le (above self.old.last) block) (record (seen self.old) { next = Field.Map block })) }
+    {
+        let rises = match self.last {
+            None => true,
+            Some(last) => last < block,
+        };
+        self.go_on(rises, Field::Map { block })
+    }
+}
