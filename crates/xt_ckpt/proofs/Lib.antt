@@ -1,2 +1,5 @@
 pub mod Pieces
 pub mod Lengths
+pub mod Ways
+pub mod Steps
+pub mod TextReads

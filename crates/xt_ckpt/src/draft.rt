@@ -74,10 +74,11 @@ impl Field {
         ensures { result ≡ width self }
     {
         match self {
+            Field::Start | Field::Count | Field::End | Field::EndCount => 4,
+            Field::Map { block: _ } | Field::Flag { block: _, map: _ } => 4,
             Field::Number | Field::Block | Field::EndNumber => 8,
             Field::Content { block: _, map } => CHUNK_BYTES * Chunks::of_word(map).count() as usize,
             Field::Nothing => 0,
-            _ => 4,
         }
     }
 }
