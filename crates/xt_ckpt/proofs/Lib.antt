@@ -3,3 +3,5 @@ pub mod Lengths
 pub mod Ways
 pub mod Steps
 pub mod TextReads
+pub mod Stands
+pub mod ReadsText
