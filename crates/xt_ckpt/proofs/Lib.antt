@@ -5,3 +5,5 @@ pub mod Steps
 pub mod TextReads
 pub mod Stands
 pub mod ReadsText
+pub mod OneText
+pub mod Judging

@@ -107,7 +107,7 @@ Stands Field.EndNumber d front = Holds d.number d.count d.items d.least front (c
 Stands Field.Nothing d front = IsText front d.number d.items
 
 -- a map that is not 0 has a chunk
-some_chunk : (bits : ℕ) (set : List ℕ) → 0 < bits → word_of set ≡ bits → 0 < length set
+pub some_chunk : (bits : ℕ) (set : List ℕ) → 0 < bits → word_of set ≡ bits → 0 < length set
 some_chunk bits [] h e = absurd (omega (arith, e))
 some_chunk bits (k ∷ set) h e = omega arith
 

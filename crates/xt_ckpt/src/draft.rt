@@ -1,6 +1,6 @@
 //! What the fields of a text have said so far, and the rule of each field.
 
-ghost use Rattle.std.specs.Prelude.{◌≡◌, ◌==◌, ◌&&◌, [], nat_le, if◌then◌else◌, length, IfOk, OnOk};
+ghost use Rattle.std.specs.Prelude.{◌≡◌, ◌↔◌, IsTrue, ◌==◌, ◌&&◌, [], nat_le, if◌then◌else◌, length, IfOk, OnOk};
 ghost use Rattle.std.specs.Int.{w32, w64, from_be_bytes};
 ghost use Rattle.xt_ckpt.specs.Fields.{opening, width, after, after_field, provided, at_item, with_item};
 ghost use Rattle.xt_ckpt.specs.declared.draft.Field.TheVariants as Field;
@@ -8,9 +8,10 @@ ghost use Rattle.xt_ckpt.specs.Drafts.{seen, above, IsAfter};
 
 use crate::item::{Item, MAX_ITEMS};
 use crate::item::{END, START};
+use crate::reading::Checkpoint;
 use std::alloc::{AllocError, Global};
 use xt_base::chunks::{CHUNK_BYTES, Chunks};
-use xt_base::names::Block;
+use xt_base::names::{Block, CkptNo};
 
 /// The field of a text that comes next.
 #[derive(Clone, Copy, Debug)]
@@ -94,6 +95,24 @@ impl Draft {
             items: Vec::new(alloc),
             last: None,
             next: Field::Start,
+        }
+    }
+
+    /// Whether all fields are read.
+    pub fn is_whole(&self) -> bool
+        ensures { IsTrue result ↔ (self.now.next ≡ Field.Nothing) }
+    {
+        matches!(self.next, Field::Nothing)
+    }
+
+    /// What a whole text says.
+    pub fn into_checkpoint(self) -> Checkpoint
+        ensures number { result.no ≡ self.number }
+        ensures items { result.items.items ≡ self.items.items }
+    {
+        Checkpoint {
+            no: CkptNo(self.number),
+            items: self.items,
         }
     }
 

@@ -3,4 +3,5 @@
 
 pub mod draft;
 pub mod item;
+pub mod reading;
 pub mod writing;
