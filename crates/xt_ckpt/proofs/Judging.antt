@@ -1,16 +1,15 @@
 -- One step of the reader's loop, and its ends.
-use Rattle.std.proofs.Common.{◌≡◌, ◌∙◌, ℕ, ◌+◌, ◌-◌, ◌<◌, ◌≤◌, Bool, true, false, List, [], ◌∷◌, ◌++◌, length, take, drop, Option, Some, None, Result, Ok, Err, sym, ap, refl, subst, arith, append_assoc}
+use Rattle.std.proofs.Common.{◌≡◌, ◌∙◌, ℕ, ◌+◌, ◌-◌, ◌<◌, ◌≤◌, Bool, true, false, List, [], ◌++◌, length, take, drop, Option, Some, None, Result, Ok, Err, sym, ap, subst, arith, append_assoc}
 use Rattle.std.specs.Prelude.{IfOk, IsNone}
-use Rattle.std.proofs.lemmas.List.{take-append-drop, take-take, drop-take, length-take-le, length-take, length-drop}
+use Rattle.std.proofs.lemmas.List.{take-append-drop, take-take, drop-take, length-take-le, length-drop}
 use Rattle.xt_ckpt.specs.Grammar.{Entry, IsText, entries}
 use Rattle.xt_ckpt.specs.Drafts.{IsAfter}
 use Rattle.xt_ckpt.specs.Fields.{Draft, Reads, IsUnfinished, IsFaultAt, opening, width, after}
-use Rattle.xt_ckpt.specs.Reading.{Begins, BeginsNoText, IsJudged, IsReadAs, IsWhy}
+use Rattle.xt_ckpt.specs.Reading.{BeginsNoText, IsJudged, IsReadAs}
 use Rattle.xt_ckpt.specs.declared.draft.Draft.{Draft as Stored}
 use Rattle.xt_ckpt.specs.declared.draft.Field.TheVariants as Field
 use Rattle.xt_ckpt.specs.declared.reading.Checkpoint.{Checkpoint}
 use Rattle.xt_ckpt.specs.declared.reading.ReadFault.{ReadFault}
-use Rattle.xt_ckpt.specs.declared.reading.ReadFault.TheVariants as ReadFault
 use Rattle.xt_ckpt.proofs.Ways.{reads_more}
 use Rattle.xt_ckpt.proofs.Stands.{IsBytes, IsBytes-left, Stands, has_width}
 use Rattle.xt_ckpt.proofs.ReadsText.{ready}
@@ -31,24 +30,34 @@ positive d input at is way more = has_width d.next d (take at input) (ready d (t
 -- the input ends within the next field
 pub unfinished_at : (d : Draft) (input : List ℕ) (at : ℕ) → Reads opening (take at input) d → length input - at < width d.next → IsUnfinished input
 unfinished_at d input at way short = record {
-  draft = d; front = take at input; rest = drop at input;
-  parts = sym (take-append-drop at input); reads = way; short = omega (arith, length-drop at input);
+  draft = d;
+  front = take at input;
+  rest = drop at input;
+  parts = sym (take-append-drop at input);
+  reads = way;
+  short = omega (arith, length-drop at input);
 }
 
 -- the next field breaks its rule
 pub fault_at : (d : Draft) (input : List ℕ) (at w : ℕ) → Reads opening (take at input) d → w ≡ width d.next → 0 < w → at + w ≤ length input → after d (take w (drop at input)) ≡ None → IsFaultAt at input
 fault_at d input at w way is some within broken = record {
-  draft = d; front = take at input; bytes = take w (drop at input); rest = drop w (drop at input);
+  draft = d;
+  front = take at input;
+  bytes = take w (drop at input);
+  rest = drop w (drop at input);
   parts = sym (take-append-drop at input) ∙ ap (λ z. take at input ++ z) (sym (take-append-drop w (drop at input))) ∙ sym (append_assoc (take at input) (take w (drop at input)) (drop w (drop at input)));
-  place = sym (length-take-le at input (omega arith)); reads = way; more = omega arith;
-  whole = length-take-le w (drop at input) (omega (arith, length-drop at input)) ∙ is; broken = broken;
+  place = sym (length-take-le at input (omega arith));
+  reads = way;
+  more = omega arith;
+  whole = length-take-le w (drop at input) (omega (arith, length-drop at input)) ∙ is;
+  broken = broken;
 }
 
 -- the next field obeys its rule
 pub field_at : (d e : Draft) (input : List ℕ) (at w : ℕ) → Reads opening (take at input) d → w ≡ width d.next → at + w ≤ length input → after d (take w (drop at input)) ≡ Some e → Reads opening (take (at + w) input) e
 field_at d e input at w way is within goes =
     let longer : take at input ++ take w (drop at input) ≡ take (at + w) input =
-        ap (λ z. z ++ take w (drop at input)) (sym (take-take at (at + w) input (omega arith))) ∙ ap (λ z. take at (take (at + w) input) ++ z) (sym (drop-take at w input)) ∙ take-append-drop at (take (at + w) input) in
+    ap (λ z. z ++ take w (drop at input)) (sym (take-take at (at + w) input (omega arith))) ∙ ap (λ z. take at (take (at + w) input) ++ z) (sym (drop-take at w input)) ∙ take-append-drop at (take (at + w) input) in
     subst (λ z. Reads opening z e) longer (reads_more opening d e (take at input) (take w (drop at input)) way (length-take-le w (drop at input) (omega (arith, length-drop at input)) ∙ is) goes)
 
 -- the bytes of a field, as a range of the input

@@ -7,3 +7,4 @@ pub mod Stands
 pub mod ReadsText
 pub mod OneText
 pub mod Judging
+pub mod Written

@@ -1,15 +1,14 @@
 -- At most one text begins an input, a list has one text, and no text begins where reading stops.
-use Rattle.std.proofs.Common.{◌≡◌, ◌∙◌, ℕ, suc, ◌+◌, ◌*◌, ◌<◌, ◌≤◌, List, [], ◌∷◌, ◌++◌, length, take, Option, Some, None, sym, ap, refl, subst, arith, append_assoc, inl, inr, ◌⊎◌}
+use Rattle.std.proofs.Common.{◌≡◌, ◌∙◌, ℕ, suc, List, [], ◌∷◌, ◌++◌, length, take, Some, None, sym, ap, refl, arith, append_assoc, inl, inr, ◌⊎◌}
 use Rattle.std.specs.Int.{to_be_bytes, w32, w64}
 use Rattle.std.specs.Prelude.{codes}
 use Rattle.std.proofs.lemmas.List.{append-nil, append_cancel_left, take_at, length-append}
 use Rattle.xt_base.specs.Chunks.{places_of, word_of}
 use Rattle.xt_base.specs.ChunkWords.{word_back}
-use Rattle.xt_ckpt.specs.Grammar.{Entry, IsCancel, IsLogged, IsItem, AreItems, IsText}
+use Rattle.xt_ckpt.specs.Grammar.{Entry, IsItem, AreItems, IsText}
 use Rattle.xt_ckpt.specs.Fields.{Draft, Reads, IsUnfinished, IsFaultAt, opening, width, after}
 use Rattle.xt_ckpt.specs.Reading.{BeginsNoText}
-use Rattle.xt_ckpt.specs.declared.draft.Field.TheVariants as Field
-use Rattle.xt_ckpt.proofs.Ways.{GoesOn, one_way, whole_ends}
+use Rattle.xt_ckpt.proofs.Ways.{one_way, whole_ends}
 use Rattle.xt_ckpt.proofs.TextReads.{text_reads, whole}
 use Rattle.xt_ckpt.proofs.Stands.{some_chunk, head_of}
 
@@ -39,9 +38,9 @@ on_to_text d front text rest more input number items way parts is same =
     let all = text_reads text number items is in
     elim (one_way opening d (whole number items all.0) front text rest more way all.1 (sym parts ∙ same)) [
       | inl w ↦ elim (first_field d (whole number items all.0) w.between w.reads) [
-          | inl e ↦ inl (ap (λ z. width z.next) e)
-          | inr f ↦ inr (record { front = f.front; rest = f.rest ++ more; mid = f.mid; parts = behind front w.between more rest text input parts same w.parts ∙ ap (λ z. z ++ more) f.parts ∙ append_assoc f.front f.rest more; len = f.len; goes = f.goes })
-        ]
+        | inl e ↦ inl (ap (λ z. width z.next) e)
+        | inr f ↦ inr (record { front = f.front; rest = f.rest ++ more; mid = f.mid; parts = behind front w.between more rest text input parts same w.parts ∙ ap (λ z. z ++ more) f.parts ∙ append_assoc f.front f.rest more; len = f.len; goes = f.goes })
+      ]
       | inr w ↦ inl (ap (λ z. width z.next) (whole_ends (whole number items all.0) d w.between refl w.reads).1)
     ]
 
@@ -59,10 +58,10 @@ fault_none at input u text more number items is same =
     elim (on_to_text u.draft u.front text (u.bytes ++ u.rest) more input number items u.reads (u.parts ∙ append_assoc u.front u.bytes u.rest) is same) [
       | inl e ↦ omega (arith, u.more)
       | inr f ↦
-        let alike : u.bytes ≡ f.front = sym (take_at u.bytes u.rest (width u.draft.next) u.whole) ∙ ap (take (width u.draft.next)) f.parts ∙ take_at f.front f.rest (width u.draft.next) f.len in
-        let broken : after u.draft f.front ≡ None = ap (after u.draft) (sym alike) ∙ u.broken in
-        let goes = f.goes in
-        absurd cc
+          let alike : u.bytes ≡ f.front = sym (take_at u.bytes u.rest (width u.draft.next) u.whole) ∙ ap (take (width u.draft.next)) f.parts ∙ take_at f.front f.rest (width u.draft.next) f.len in
+          let broken : after u.draft f.front ≡ None = ap (after u.draft) (sym alike) ∙ u.broken in
+          let goes = f.goes in
+          absurd cc
     ]
 
 -- of two texts that begin one input, each is the other

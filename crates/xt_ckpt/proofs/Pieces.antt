@@ -1,6 +1,7 @@
 -- A text that is cut every 4,096 bytes.
-use Rattle.std.proofs.Common.{◌≡◌, ◌∙◌, ℕ, zero, suc, ◌+◌, ◌-◌, ◌/◌, ◌<◌, ◌≤◌, List, [], ◌∷◌, ◌++◌, length, take, drop, min, sym, ap, refl, arith, append_assoc}
-use Rattle.std.proofs.lemmas.List.{length-drop, nil_from_length, append-nil, take_min, drop_min}
+use Rattle.std.proofs.Common.{◌≡◌, ◌∙◌, ℕ, zero, suc, ◌+◌, ◌-◌, ◌*◌, ◌/◌, ◌<◌, ◌≤◌, List, [], ◌∷◌, ◌++◌, length, take, drop, min, sym, ap, refl, arith, append_assoc}
+use Rattle.std.specs.List.{concat}
+use Rattle.std.proofs.lemmas.List.{length-drop, nil_from_length, append-nil, take-append-drop, take_min, drop_min}
 use Rattle.xt_base.specs.Text.{first_pieces, piece_count, pieces}
 
 -- what is not empty has one piece more than what is behind its first
@@ -33,3 +34,14 @@ length-first_pieces (suc n) text = ap suc (length-first_pieces n (drop 4096 text
 -- a text of at most 263,200 bytes has at most 65
 pub few : (text : List ℕ) → length text ≤ 263200 → length (pieces text) ≤ 65
 few text h = omega (arith, length-first_pieces (piece_count text) text)
+
+-- the first pieces that cover a text are its bytes
+joined : (n : ℕ) (text : List ℕ) → length text ≤ 4096 * n → concat (first_pieces n text) ≡ text
+joined zero text h = sym (nil_from_length text (omega arith))
+joined (suc n) text h =
+    let left : length (drop 4096 text) ≤ 4096 * n = omega (arith, length-drop 4096 text) in
+    ap (λ rest. take 4096 text ++ rest) (joined n (drop 4096 text) left) ∙ take-append-drop 4096 text
+
+-- the pieces together are the text
+pub concat_pieces : (text : List ℕ) → concat (pieces text) ≡ text
+concat_pieces text = joined (piece_count text) text (omega arith)

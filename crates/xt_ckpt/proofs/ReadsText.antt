@@ -1,16 +1,15 @@
 -- What is read, field by field, is a text of the grammar.
-use Rattle.std.proofs.Common.{◌≡◌, ◌∙◌, ℕ, suc, ◌+◌, ◌*◌, ◌^◌, ◌<◌, ◌≤◌, Bool, true, false, List, [], ◌∷◌, ◌++◌, length, Option, Some, None, sym, ap, refl, subst, arith, append_assoc, inl, inr, ◌⊎◌, eqb-true, leb-true, ne_eqb, zero}
+use Rattle.std.proofs.Common.{◌≡◌, ◌∙◌, ℕ, suc, ◌*◌, ◌<◌, ◌≤◌, Bool, true, false, List, [], ◌∷◌, ◌++◌, length, Option, Some, sym, ap, refl, subst, arith, append_assoc, inl, inr, eqb-true, leb-true, ne_eqb, zero}
 use Rattle.std.specs.Int.{from_be_bytes, to_be_bytes, w32, w64}
 use Rattle.std.specs.Prelude.{codes, nat_le, ◌==◌, ◌&&◌, if◌then◌else◌}
 use Rattle.std.proofs.lemmas.Bool.{cases_eq}
 use Rattle.std.proofs.lemmas.List.{append-nil, length_push}
 use Rattle.xt_base.specs.Chunks.{places_of}
 use Rattle.xt_base.proofs.ChunkLemmas.{places_of-zero}
-use Rattle.xt_ckpt.specs.Grammar.{Entry, IsCancel, IsLogged, IsItem, AreItems, IsText}
-use Rattle.xt_ckpt.specs.Fields.{Draft, Reads, opening, width, after, after_field, provided, at_item, with_item, start_word, end_word}
+use Rattle.xt_ckpt.specs.Grammar.{Entry, IsCancel, IsLogged, AreItems, IsText}
+use Rattle.xt_ckpt.specs.Fields.{Draft, Reads, opening, width, after_field, provided, at_item, with_item, start_word, end_word}
 use Rattle.xt_ckpt.specs.declared.draft.Field.{Field}
-use Rattle.xt_ckpt.specs.declared.draft.Field.TheVariants as Field
-use Rattle.xt_ckpt.proofs.TextReads.{block_next, end_next, joined}
+use Rattle.xt_ckpt.proofs.TextReads.{block_next, end_next}
 use Rattle.xt_ckpt.proofs.Stands.{IsBytes, IsBytes-left, IsBytes-right, four_back, four_below, eight_back, eight_below, Holds, holds_more, holds_item, head_of, Stands, least_behind}
 
 -- a rule that held, and where it led
@@ -57,7 +56,11 @@ count_on d e front f h len is goes =
     let next : Draft = record d { count = n } in
     let fields : front ++ f ≡ head_of d.number n = ap (λ z. z ++ f) h.0 ∙ ap (λ z. codes "XCP1" ++ to_be_bytes w64 d.number ++ z) (four_back f n len is refl) in
     let holds : Holds d.number n d.items d.least (front ++ f) [] = record {
-      first = h.3; range = h.4; some = leb-true 1 n tests.0; few = leb-true n 64 tests.1; body = [];
+      first = h.3;
+      range = h.4;
+      some = leb-true 1 n tests.0;
+      few = leb-true n 64 tests.1;
+      body = [];
       each = subst (λ es. AreItems 0 [] es) (sym h.1) refl;
       above = h.2 ∙ ap (λ es. least_behind 0 es) (sym h.1);
       parts = fields ∙ sym (append-nil (head_of d.number n)) ∙ sym (append-nil (head_of d.number n ++ []));
@@ -70,14 +73,14 @@ block_on d e front f h len is goes =
     let b = from_be_bytes w64 f in
     let p = provided_some (nat_le d.least b) (record d { next = Field.Map b }) e goes in
     subst (λ z. Ready z (front ++ f)) p.1
-        (holds_more d.number d.count d.items d.least front [] f (to_be_bytes w64 b) h.0 (eight_back f b len is refl), h.1, leb-true d.least b p.0, eight_below f is)
+    (holds_more d.number d.count d.items d.least front [] f (to_be_bytes w64 b) h.0 (eight_back f b len is refl), h.1, leb-true d.least b p.0, eight_below f is)
 
 map_on : (b : ℕ) (d e : Draft) (front f : List ℕ) → Stands (Field.Map b) d front → length f ≡ 4 → IsBytes f → after_field (Field.Map b) f d ≡ Some e → Ready e (front ++ f)
 map_on b d e front f h len is goes =
     let bits = from_be_bytes w32 f in
     let p : record d { next = Field.Flag b bits } ≡ e = some_is (record d { next = Field.Flag b bits }) e (after_field (Field.Map b) f d) refl goes in
     subst (λ z. Ready z (front ++ f)) p
-        (holds_more d.number d.count d.items d.least front (to_be_bytes w64 b) f (to_be_bytes w32 bits) h.0 (four_back f bits len is refl), h.1, h.2, h.3, four_below f is)
+    (holds_more d.number d.count d.items d.least front (to_be_bytes w64 b) f (to_be_bytes w32 bits) h.0 (four_back f bits len is refl), h.1, h.2, h.3, four_below f is)
 
 cancel_on : (b bits : ℕ) (d e : Draft) (front f : List ℕ) → bits ≡ 0 → Stands (Field.Flag b bits) d front → length f ≡ 4 → IsBytes f → after_field (Field.Flag b bits) f d ≡ Some e → Ready e (front ++ f)
 cancel_on b bits d e front f none h len is goes =
@@ -95,10 +98,10 @@ flag_on : (b bits : ℕ) (d e : Draft) (front f : List ℕ) → 0 < bits → Sta
 flag_on b bits d e front f some h len is goes =
     let other : (bits == 0) ≡ false = ne_eqb bits 0 (λ z. omega arith) in
     let rule : after_field (Field.Flag b bits) f d ≡ provided (from_be_bytes w32 f == 0) (record d { next = Field.Content b bits }) =
-        ap (λ t. provided (from_be_bytes w32 f == (if t then 1 else 0)) (if t then with_item b 0 [] d else record d { next = Field.Content b bits })) other in
+    ap (λ t. provided (from_be_bytes w32 f == (if t then 1 else 0)) (if t then with_item b 0 [] d else record d { next = Field.Content b bits })) other in
     let p = provided_some (from_be_bytes w32 f == 0) (record d { next = Field.Content b bits }) e (sym rule ∙ goes) in
     subst (λ z. Ready z (front ++ f)) p.1
-        (holds_more d.number d.count d.items d.least front (to_be_bytes w64 b ++ to_be_bytes w32 bits) f (to_be_bytes w32 0) h.0 (four_back f 0 len is (eqb-true _ _ p.0)), h.1, h.2, h.3, h.4, some)
+    (holds_more d.number d.count d.items d.least front (to_be_bytes w64 b ++ to_be_bytes w32 bits) f (to_be_bytes w32 0) h.0 (four_back f 0 len is (eqb-true _ _ p.0)), h.1, h.2, h.3, h.4, some)
 
 content_on : (b bits : ℕ) (d e : Draft) (front f : List ℕ) → Stands (Field.Content b bits) d front → length f ≡ 128 * length (places_of bits) → after_field (Field.Content b bits) f d ≡ Some e → Ready e (front ++ f)
 content_on b bits d e front f h len goes =
@@ -129,9 +132,14 @@ three_parts front a b c = simp append_assoc
 holds_text : (number count : ℕ) (items : List Entry) (least : ℕ) (front : List ℕ) → Holds number count items least front (codes "XCE1" ++ to_be_bytes w32 count ++ to_be_bytes w64 number) → length items ≡ count → IsText front number items
 holds_text number count items least front h all =
     let body_fields : front ≡ head_of number count ++ h.body ++ codes "XCE1" ++ to_be_bytes w32 count ++ to_be_bytes w64 number =
-        h.parts ∙ three_parts (head_of number count ++ h.body) (codes "XCE1") (to_be_bytes w32 count) (to_be_bytes w64 number) in
+    h.parts ∙ three_parts (head_of number count ++ h.body) (codes "XCE1") (to_be_bytes w32 count) (to_be_bytes w64 number) in
     record {
-      first = h.first; range = h.range; some = omega (arith, h.some); few = omega (arith, h.few); body = h.body; each = h.each;
+      first = h.first;
+      range = h.range;
+      some = omega (arith, h.some);
+      few = omega (arith, h.few);
+      body = h.body;
+      each = h.each;
       fields = body_fields ∙ ap (λ n. head_of number n ++ h.body ++ codes "XCE1" ++ to_be_bytes w32 n ++ to_be_bytes w64 number) (sym all);
     }
 

@@ -1,5 +1,5 @@
 -- What stands before each field, as the grammar says it.
-use Rattle.std.proofs.Common.{◌≡◌, ◌∙◌, ℕ, suc, ◌+◌, ◌*◌, ◌^◌, ◌<◌, ◌≤◌, Bool, true, false, List, [], ◌∷◌, ◌++◌, length, get_or, Option, Some, None, sym, ap, refl, subst, arith, append_assoc, inl, inr, ◌⊎◌}
+use Rattle.std.proofs.Common.{◌≡◌, ◌∙◌, ℕ, suc, ◌+◌, ◌^◌, ◌<◌, ◌≤◌, List, [], ◌∷◌, ◌++◌, length, get_or, sym, ap, refl, subst, arith, append_assoc, inl, inr}
 use Rattle.std.specs.Int.{from_be_bytes, to_be_bytes, w32, w64}
 use Rattle.std.specs.Prelude.{codes}
 use Rattle.std.proofs.lemmas.Bool.{cases_lt}
@@ -10,7 +10,6 @@ use Rattle.xt_base.specs.ChunkWords.{word_back}
 use Rattle.xt_ckpt.specs.Grammar.{Entry, IsItem, AreItems, IsText}
 use Rattle.xt_ckpt.specs.Fields.{Draft, width}
 use Rattle.xt_ckpt.specs.declared.draft.Field.{Field}
-use Rattle.xt_ckpt.specs.declared.draft.Field.TheVariants as Field
 
 -- each is below 256
 abbrev pub IsBytes : List ℕ → Type 0
@@ -76,7 +75,13 @@ pub record Holds (number count : ℕ) (items : List Entry) (least : ℕ) (front 
 -- a longer tail
 pub holds_more : (number count : ℕ) (items : List Entry) (least : ℕ) (front tail f g : List ℕ) → Holds number count items least front tail → f ≡ g → Holds number count items least (front ++ f) (tail ++ g)
 holds_more number count items least front tail f g h e = record {
-  first = h.first; range = h.range; some = h.some; few = h.few; body = h.body; each = h.each; above = h.above;
+  first = h.first;
+  range = h.range;
+  some = h.some;
+  few = h.few;
+  body = h.body;
+  each = h.each;
+  above = h.above;
   parts = ap (λ z. z ++ f) h.parts ∙ append_assoc (head_of number count ++ h.body) tail f ∙ ap (λ z. head_of number count ++ h.body ++ (tail ++ z)) e;
 }
 
@@ -84,7 +89,11 @@ holds_more number count items least front tail f g h e = record {
 pub holds_item : (number count : ℕ) (items : List Entry) (least : ℕ) (front tail : List ℕ) (e : Entry) → Holds number count items least front tail → least ≤ e.block → IsItem tail e
     → Holds number count (items ++ e ∷ []) (suc e.block) front []
 holds_item number count items least front tail e h above item = record {
-  first = h.first; range = h.range; some = h.some; few = h.few; body = h.body ++ tail;
+  first = h.first;
+  range = h.range;
+  some = h.some;
+  few = h.few;
+  body = h.body ++ tail;
   each = items_more 0 h.body tail items e h.each (subst (λ l. l ≤ e.block) h.above above) item;
   above = sym (least_more 0 items e);
   parts = h.parts ∙ append_assoc (head_of number count) h.body tail ∙ sym (append-nil (head_of number count ++ (h.body ++ tail)));

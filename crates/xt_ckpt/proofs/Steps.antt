@@ -1,8 +1,8 @@
 -- One field that obeys its rule: the draft that it leads to.
-use Rattle.std.proofs.Common.{◌≡◌, ◌∙◌, ℕ, ◌+◌, ◌*◌, ◌<◌, ◌≤◌, Bool, true, false, List, [], ◌∷◌, ◌++◌, length, Option, Some, None, sym, ap, refl, arith, le-leb, eq-eqb, ne_eqb}
+use Rattle.std.proofs.Common.{◌≡◌, ◌∙◌, ℕ, ◌<◌, ◌≤◌, Bool, true, false, List, [], Some, ap, arith, le-leb, eq-eqb, ne_eqb}
 use Rattle.std.specs.Int.{from_be_bytes, w32, w64}
 use Rattle.std.specs.Prelude.{nat_le, ◌==◌, ◌&&◌, if◌then◌else◌}
-use Rattle.xt_ckpt.specs.Fields.{Draft, Reads, width, after, after_field, provided, at_item, with_item, start_word, end_word}
+use Rattle.xt_ckpt.specs.Fields.{Draft, after_field, provided, at_item, with_item, start_word, end_word}
 use Rattle.xt_ckpt.specs.declared.draft.Field.TheVariants as Field
 
 -- a rule that holds

@@ -1,13 +1,13 @@
 -- A text of the grammar is read, field by field, to its end.
-use Rattle.std.proofs.Common.{◌≡◌, ◌∙◌, ℕ, suc, ◌+◌, ◌*◌, ◌^◌, ◌<◌, ◌≤◌, Bool, true, false, List, [], ◌∷◌, ◌++◌, length, Option, Some, None, sym, ap, refl, subst, arith, append_assoc, inl, inr, ◌⊎◌, eq-eqb, ne_eqb}
-use Rattle.std.specs.Int.{from_be_bytes, to_be_bytes, w32, w64}
-use Rattle.std.specs.Prelude.{codes, ◌==◌, if◌then◌else◌}
-use Rattle.std.proofs.lemmas.List.{append-nil, length-append, length_push}
+use Rattle.std.proofs.Common.{◌≡◌, ◌∙◌, ℕ, suc, ◌+◌, ◌*◌, ◌^◌, ◌<◌, ◌≤◌, List, [], ◌∷◌, ◌++◌, length, Some, sym, ap, refl, subst, arith, append_assoc, inl, inr, eq-eqb, ne_eqb}
+use Rattle.std.specs.Int.{to_be_bytes, w32, w64}
+use Rattle.std.specs.Prelude.{codes, if◌then◌else◌}
+use Rattle.std.proofs.lemmas.List.{append-nil, length_push}
 use Rattle.std.proofs.lemmas.Nat.{from_be_bytes-to_be_bytes_4, from_be_bytes-to_be_bytes_8}
 use Rattle.xt_base.specs.Chunks.{places_of}
 use Rattle.xt_base.proofs.ChunkLemmas.{places_of-zero}
 use Rattle.xt_ckpt.specs.Grammar.{Entry, IsCancel, IsLogged, IsItem, AreItems, IsText}
-use Rattle.xt_ckpt.specs.Fields.{Draft, Reads, opening, width, after, after_field, at_item, with_item}
+use Rattle.xt_ckpt.specs.Fields.{Draft, Reads, opening, width, after, at_item, with_item}
 use Rattle.xt_ckpt.specs.declared.draft.Field.TheVariants as Field
 use Rattle.xt_ckpt.proofs.Ways.{reads_on}
 use Rattle.xt_ckpt.proofs.Steps.{start_step, number_step, count_step, block_step, map_step, cancel_step, flag_step, end_step, end_count_step, end_number_step}
@@ -33,11 +33,11 @@ head_reads : (d : Draft) (block bits : ℕ) → length d.items < d.count → d.l
     → Reads (at_item d) (to_be_bytes w64 block ++ to_be_bytes w32 bits) (record d { next = Field.Flag block bits })
 head_reads d block bits room above b m =
     let first : Reads (record d { next = Field.Block }) (to_be_bytes w64 block) (record d { next = Field.Map block }) =
-        one_field (record d { next = Field.Block }) (record d { next = Field.Map block }) (to_be_bytes w64 block) refl (block_step (record d { next = Field.Block }) (to_be_bytes w64 block) block (from_be_bytes-to_be_bytes_8 block b) above) in
+    one_field (record d { next = Field.Block }) (record d { next = Field.Map block }) (to_be_bytes w64 block) refl (block_step (record d { next = Field.Block }) (to_be_bytes w64 block) block (from_be_bytes-to_be_bytes_8 block b) above) in
     let second : Reads (record d { next = Field.Map block }) (to_be_bytes w32 bits) (record d { next = Field.Flag block bits }) =
-        one_field (record d { next = Field.Map block }) (record d { next = Field.Flag block bits }) (to_be_bytes w32 bits) refl (map_step (record d { next = Field.Map block }) (to_be_bytes w32 bits) block bits (from_be_bytes-to_be_bytes_4 bits m)) in
+    one_field (record d { next = Field.Map block }) (record d { next = Field.Flag block bits }) (to_be_bytes w32 bits) refl (map_step (record d { next = Field.Map block }) (to_be_bytes w32 bits) block bits (from_be_bytes-to_be_bytes_4 bits m)) in
     subst (λ z. Reads z (to_be_bytes w64 block ++ to_be_bytes w32 bits) (record d { next = Field.Flag block bits })) (sym (block_next d room))
-        (reads_on _ _ _ (to_be_bytes w64 block) (to_be_bytes w32 bits) first second)
+    (reads_on _ _ _ (to_be_bytes w64 block) (to_be_bytes w32 bits) first second)
 
 -- a cancel
 cancel_reads : (d : Draft) (bytes : List ℕ) (e : Entry) → length d.items < d.count → d.least ≤ e.block → IsCancel bytes e → Reads (at_item d) bytes (joined e d)
@@ -45,9 +45,9 @@ cancel_reads d bytes e room above is =
     let made : Entry = record { block = e.block; chunks = places_of 0; content = [] } in
     let same : made ≡ e = ap (λ c. record { block = e.block; chunks = c; content = [] }) (places_of-zero ∙ sym is.chunks) ∙ ap (λ c. record { block = e.block; chunks = e.chunks; content = c }) (sym is.content) in
     let flag : Reads (record d { next = Field.Flag e.block 0 }) (to_be_bytes w32 1) (with_item e.block 0 [] d) =
-        one_field (record d { next = Field.Flag e.block 0 }) (with_item e.block 0 [] d) (to_be_bytes w32 1) refl (cancel_step (record d { next = Field.Flag e.block 0 }) (to_be_bytes w32 1) e.block refl) in
+    one_field (record d { next = Field.Flag e.block 0 }) (with_item e.block 0 [] d) (to_be_bytes w32 1) refl (cancel_step (record d { next = Field.Flag e.block 0 }) (to_be_bytes w32 1) e.block refl) in
     let all : Reads (at_item d) ((to_be_bytes w64 e.block ++ to_be_bytes w32 0) ++ to_be_bytes w32 1) (with_item e.block 0 [] d) =
-        reads_on _ _ _ (to_be_bytes w64 e.block ++ to_be_bytes w32 0) (to_be_bytes w32 1) (head_reads d e.block 0 room above is.block (omega arith)) flag in
+    reads_on _ _ _ (to_be_bytes w64 e.block ++ to_be_bytes w32 0) (to_be_bytes w32 1) (head_reads d e.block 0 room above is.block (omega arith)) flag in
     subst (λ xs. Reads (at_item d) xs (joined e d)) (sym is.fields) (subst (λ i. Reads (at_item d) (to_be_bytes w64 e.block ++ to_be_bytes w32 0 ++ to_be_bytes w32 1) (joined i d)) same all)
 
 -- logged chunks
@@ -59,10 +59,10 @@ logged_reads d bytes e room above is =
     let at_content : Draft = record d { next = Field.Content e.block is.bits } in
     let flag : Reads at_flag (to_be_bytes w32 0) at_content = one_field at_flag at_content (to_be_bytes w32 0) refl (flag_step at_flag (to_be_bytes w32 0) e.block is.bits is.some refl) in
     let content : Reads at_content e.content (with_item e.block is.bits e.content d) =
-        one_field at_content (with_item e.block is.bits e.content d) e.content (is.content ∙ ap (λ c. 128 * length c) is.chunks) refl in
+    one_field at_content (with_item e.block is.bits e.content d) e.content (is.content ∙ ap (λ c. 128 * length c) is.chunks) refl in
     let all : Reads (at_item d) (((to_be_bytes w64 e.block ++ to_be_bytes w32 is.bits) ++ to_be_bytes w32 0) ++ e.content) (with_item e.block is.bits e.content d) =
-        reads_on _ _ _ ((to_be_bytes w64 e.block ++ to_be_bytes w32 is.bits) ++ to_be_bytes w32 0) e.content
-            (reads_on _ _ _ (to_be_bytes w64 e.block ++ to_be_bytes w32 is.bits) (to_be_bytes w32 0) (head_reads d e.block is.bits room above is.block is.word) flag) content in
+    reads_on _ _ _ ((to_be_bytes w64 e.block ++ to_be_bytes w32 is.bits) ++ to_be_bytes w32 0) e.content
+    (reads_on _ _ _ (to_be_bytes w64 e.block ++ to_be_bytes w32 is.bits) (to_be_bytes w32 0) (head_reads d e.block is.bits room above is.block is.word) flag) content in
     subst (λ xs. Reads (at_item d) xs (joined e d)) (sym is.fields) (subst (λ i. Reads (at_item d) (to_be_bytes w64 e.block ++ to_be_bytes w32 is.bits ++ to_be_bytes w32 0 ++ e.content) (joined i d)) same all)
 
 -- an item
@@ -79,9 +79,11 @@ items_read d bytes (e ∷ es) all is =
     let here = item_reads d is.0 e (omega arith) is.3 is.4 in
     let next : Draft = record d { items = d.items ++ e ∷ []; least = suc e.block } in
     let rest = items_read next is.1 es (omega (arith, length_push d.items e)) is.5 in
-    let both = reads_on (at_item d) (at_item next) (at_item (record next { items = next.items ++ es; least = rest.0 })) is.0 is.1 here rest.1 in
-    (rest.0, subst (λ xs. Reads (at_item d) xs (at_item (record d { items = d.items ++ e ∷ es; least = rest.0 }))) (sym is.2)
-        (subst (λ items. Reads (at_item d) (is.0 ++ is.1) (at_item (record d { items = items; least = rest.0 }))) (append_assoc d.items (e ∷ []) es) both))
+    let both = reads_on (at_item d) (at_item next) (at_item (record next { items = next.items ++ es; least = rest.0 })) is.0 is.1 here rest.1 in (
+      rest.0,
+      subst (λ xs. Reads (at_item d) xs (at_item (record d { items = d.items ++ e ∷ es; least = rest.0 }))) (sym is.2)
+          (subst (λ items. Reads (at_item d) (is.0 ++ is.1) (at_item (record d { items = items; least = rest.0 }))) (append_assoc d.items (e ∷ []) es) both),
+    )
 
 -- the draft of a whole text
 abbrev pub whole : ℕ → List Entry → ℕ → Draft
@@ -109,7 +111,7 @@ end_reads d front range few before =
     let two = one_field at_count at_number (to_be_bytes w32 d.count) refl (end_count_step at_count (to_be_bytes w32 d.count) (from_be_bytes-to_be_bytes_4 d.count (omega arith))) in
     let three = one_field at_number (record d { next = Field.Nothing }) (to_be_bytes w64 d.number) refl (end_number_step at_number (to_be_bytes w64 d.number) (from_be_bytes-to_be_bytes_8 d.number range)) in
     reads_on _ _ _ (front ++ codes "XCE1" ++ to_be_bytes w32 d.count) (to_be_bytes w64 d.number)
-        (reads_on _ _ _ (front ++ codes "XCE1") (to_be_bytes w32 d.count) (reads_on _ _ _ front (codes "XCE1") before one) two) three
+    (reads_on _ _ _ (front ++ codes "XCE1") (to_be_bytes w32 d.count) (reads_on _ _ _ front (codes "XCE1") before one) two) three
 
 -- a text
 pub text_reads : (bytes : List ℕ) (number : ℕ) (items : List Entry) → IsText bytes number items → (least : ℕ) × Reads opening bytes (whole number items least)

@@ -1,9 +1,8 @@
 -- Reading fields: how it goes on, and that it goes one way.
-use Rattle.std.proofs.Common.{◌≡◌, ◌∙◌, ℕ, ◌+◌, ◌<◌, ◌≤◌, List, [], ◌∷◌, ◌++◌, length, take, drop, Option, Some, None, sym, ap, refl, subst, arith, append_assoc, inl, inr, ◌⊎◌}
-use Rattle.std.proofs.lemmas.List.{append-nil, take_at, drop_at, length-append}
+use Rattle.std.proofs.Common.{◌≡◌, ◌∙◌, ℕ, List, [], ◌++◌, length, take, drop, Option, Some, None, sym, ap, refl, subst, append_assoc, inl, inr, ◌⊎◌}
+use Rattle.std.proofs.lemmas.List.{append-nil, take_at, drop_at}
 use Rattle.xt_ckpt.specs.Fields.{Draft, Reads, width, after, after_field}
 use Rattle.xt_ckpt.specs.declared.draft.Field.{Field}
-use Rattle.xt_ckpt.specs.declared.draft.Field.TheVariants as Field
 
 -- one field more
 pub reads_more : (d mid last : Draft) (front bytes : List ℕ) → Reads d front mid → length bytes ≡ width mid.next → after mid bytes ≡ Some last → Reads d (front ++ bytes) last

@@ -1,6 +1,6 @@
 -- The reader's draft, as the fields are judged.
-use Rattle.std.specs.Prelude.{Bool, List, None, Option, Some, false, suc, true, ℕ, ◌≡◌}
-use Rattle.xt_ckpt.specs.Fields.{Draft, after}
+use Rattle.std.specs.Prelude.{Bool, None, Option, Some, false, suc, true, ℕ, ◌≡◌}
+use Rattle.xt_ckpt.specs.Fields.{Draft}
 use Rattle.xt_ckpt.specs.Grammar.{entries}
 use Rattle.xt_ckpt.specs.declared.draft.Draft.{Draft as Stored}
 

@@ -1,10 +1,9 @@
 -- How the fields of a text are judged: one after another, each once all its bytes are there.
 use Rattle.std.specs.Int.{from_be_bytes, w32, w64}
-use Rattle.std.specs.Prelude.{Bool, List, None, Option, Some, [], codes, if◌then◌else◌, length, nat_le, suc, ℕ, ◌&&◌, ◌*◌, ◌++◌, ◌+◌, ◌<◌, ◌==◌, ◌≡◌, ◌∷◌}
+use Rattle.std.specs.Prelude.{Bool, List, None, Option, Some, [], codes, if◌then◌else◌, length, nat_le, suc, ℕ, ◌&&◌, ◌*◌, ◌++◌, ◌<◌, ◌==◌, ◌≡◌, ◌∷◌}
 use Rattle.xt_base.specs.Chunks.{places_of}
 use Rattle.xt_ckpt.specs.Grammar.{Entry}
 use Rattle.xt_ckpt.specs.declared.draft.Field.{Field}
-use Rattle.xt_ckpt.specs.declared.draft.Field.TheVariants as Field
 
 -- what the fields so far say, and which field is next
 pub record Draft : Type 0 where

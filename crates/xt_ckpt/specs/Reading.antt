@@ -4,7 +4,6 @@ use Rattle.xt_ckpt.specs.Fields.{IsFaultAt, IsUnfinished}
 use Rattle.xt_ckpt.specs.Grammar.{Entry, IsText, entries}
 use Rattle.xt_ckpt.specs.declared.reading.Checkpoint.{Checkpoint}
 use Rattle.xt_ckpt.specs.declared.reading.ReadFault.{ReadFault}
-use Rattle.xt_ckpt.specs.declared.reading.ReadFault.TheVariants as ReadFault
 
 -- the first `len` bytes of the input are the text of the checkpoint
 abbrev pub Begins : List ℕ → Checkpoint → ℕ → Type 0

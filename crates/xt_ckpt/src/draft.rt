@@ -6,8 +6,7 @@ ghost use Rattle.xt_ckpt.specs.Fields.{opening, width, after, after_field, provi
 ghost use Rattle.xt_ckpt.specs.declared.draft.Field.TheVariants as Field;
 ghost use Rattle.xt_ckpt.specs.Drafts.{seen, above, IsAfter};
 
-use crate::item::{Item, MAX_ITEMS};
-use crate::item::{END, START};
+use crate::item::{END, Item, MAX_ITEMS, START};
 use crate::reading::Checkpoint;
 use std::alloc::{AllocError, Global};
 use xt_base::chunks::{CHUNK_BYTES, Chunks};

@@ -1,10 +1,12 @@
 //! The writer: the text of a checkpoint, cut into pieces that share one buffer.
 
 ghost use Rattle.std.specs.Prelude.{◌≡◌, ◌++◌, ◌==◌, ◌≤◌, All, length, flat_map, if◌then◌else◌, IfOk, IfErr, OnOk};
+ghost use Rattle.std.specs.List.{concat};
 ghost use Rattle.std.specs.Int.{w32, w64, to_be_bytes};
 ghost use Rattle.xt_base.specs.Text.{pieces as pieces_of};
 ghost use Rattle.xt_base.specs.declared.steps.Errno.TheVariants.{NoMemory};
-ghost use Rattle.xt_ckpt.specs.Items.{item_bytes, checkpoint_text, checkpoint_len, item_len, HasForm, BlocksRise};
+ghost use Rattle.xt_ckpt.specs.Items.{item_bytes, checkpoint_text, checkpoint_len, item_len, HasForm, IsStored, BlocksRise};
+ghost use Rattle.xt_ckpt.specs.Grammar.{IsText, entries};
 
 use crate::item::{END, Item, START};
 use bytes::Bytes;
@@ -44,7 +46,8 @@ fn cancel_flag(chunks: Chunks) -> u32
 }
 
 fn put_item(out: &mut Vec<u8>, item: &Item) -> Result<(), AllocError>
-    ensures { OnOk result (out.new.items ≡ out.old.items ++ item_bytes item.now) }
+    ensures text { OnOk result (out.new.items ≡ out.old.items ++ item_bytes item.now) }
+    ensures stored { OnOk result (IsStored item.now) }
 {
     out.extend_from_slice(&item.block.0.to_be_bytes())?;
     out.extend_from_slice(&item.chunks.word().to_be_bytes())?;
@@ -54,7 +57,8 @@ fn put_item(out: &mut Vec<u8>, item: &Item) -> Result<(), AllocError>
 }
 
 fn put_items(out: &mut Vec<u8>, items: &[Item]) -> Result<(), AllocError>
-    ensures { OnOk result (out.new.items ≡ out.old.items ++ flat_map item_bytes items.now) }
+    ensures text { OnOk result (out.new.items ≡ out.old.items ++ flat_map item_bytes items.now) }
+    ensures stored { OnOk result (All IsStored items.now) }
 {
     for item in items {
         put_item(out, item)?;
@@ -65,9 +69,12 @@ fn put_items(out: &mut Vec<u8>, items: &[Item]) -> Result<(), AllocError>
 /// The whole text, in a buffer of just its length.
 #[tactic(auto, using(crate::proofs::Lengths::length_text))]
 fn write_text(alloc: Global, no: CkptNo, items: &[Item]) -> Result<Vec<u8>, AllocError>
-    requires count { length items.now ≤ 64 }
+    requires number { 1 ≤ no }
+    requires count { (1 ≤ length items.now) × (length items.now ≤ 64) }
     requires form { All HasForm items.now }
+    requires rising { BlocksRise items.now }
     ensures text { IfOk result (λ text. text.items ≡ checkpoint_text no items.now) }
+    ensures grammar { IfOk result (λ text. IsText (checkpoint_text no items.now) no (entries items.now)) }
     ensures range { IfOk result (λ text. length (checkpoint_text no items.now) ≤ 263200) }
 {
     let count = items.len() as u32;
@@ -95,11 +102,14 @@ fn cut(alloc: Global, text: Bytes) -> Result<Vec<Bytes>, AllocError>
     Ok(pieces)
 }
 
-#[tactic(auto, using(crate::proofs::Pieces::few))]
+#[tactic(auto, using(crate::proofs::Pieces::few, crate::proofs::Written::pieces_are))]
 fn write_pieces(alloc: Global, no: CkptNo, items: &[Item]) -> Result<Vec<Bytes>, AllocError>
-    requires count { length items.now ≤ 64 }
+    requires number { 1 ≤ no }
+    requires count { (1 ≤ length items.now) × (length items.now ≤ 64) }
     requires form { All HasForm items.now }
+    requires rising { BlocksRise items.now }
     ensures text { IfOk result (λ pieces. pieces.items ≡ pieces_of (checkpoint_text no items.now)) }
+    ensures grammar { IfOk result (λ pieces. IsText (concat pieces.items) no (entries items.now)) }
     ensures few { IfOk result (λ pieces. length pieces.items ≤ 65) }
 {
     let text = write_text(alloc, no, items)?;
@@ -114,6 +124,8 @@ pub fn write_checkpoint(alloc: Global, no: CkptNo, items: &[Item]) -> Result<Vec
     requires form { All HasForm items.now }
     requires rising { BlocksRise items.now }
     ensures text { IfOk result (λ pieces. pieces.items ≡ pieces_of (checkpoint_text no items.now)) }
+    // The pieces together are a text of the grammar, which `read_checkpoint` reads again, whatever follows it.
+    ensures grammar { IfOk result (λ pieces. IsText (concat pieces.items) no (entries items.now)) }
     ensures few { IfOk result (λ pieces. length pieces.items ≤ 65) }
     ensures memory { IfErr result (λ e. e ≡ NoMemory) }
 {

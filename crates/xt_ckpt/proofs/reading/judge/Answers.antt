@@ -1,6 +1,6 @@
-use Rattle.std.proofs.Common.{◌≡◌, ◌∙◌, ◌+◌, ◌≤◌, ◌<◌, ℕ, None, Some, drop, length, take, rules, arith, sym, ap}
+use Rattle.std.proofs.Common.{◌≡◌, None, Some, drop, take, rules, arith}
 use Rattle.xt_ckpt.specs.Drafts.{seen}
-use Rattle.xt_ckpt.specs.Fields.{Reads, after, opening, width}
+use Rattle.xt_ckpt.specs.Fields.{after, width}
 use Rattle.xt_ckpt.specs.declared.draft.Field.TheVariants as Field
 use Rattle.xt_ckpt.proofs.Judging.{opened, positive, unfinished_at, fault_at, field_at, whole_at, accepted, refused, begins}
 use Rattle.xt_ckpt.proofs.reading.judge.Goals as goal
@@ -17,7 +17,7 @@ returns-then-not-branch c =
     let more : c.fields.draft.next ≡ Field.Nothing → ⊥ = search rules in
     let some = positive (seen c.fields.draft) c.args.input.now c.fields.at (λ i. omega (arith, c.type_inv.input i)) c.fields.invariant.reads more in
     let broken : after (seen c.fields.draft) (take c.width-width.result (drop c.fields.at c.args.input.now)) ≡ None =
-        refused c.in_ok-accept.field-0 (seen c.fields.draft) (seen c.accept.new.self) c.args.input.now c.fields.at c.width-width.result c.if-not-branch.true c.in_ok-accept.ensures in
+    refused c.in_ok-accept.field-0 (seen c.fields.draft) (seen c.accept.new.self) c.args.input.now c.fields.at c.width-width.result c.if-not-branch.true c.in_ok-accept.ensures in
     fault_at (seen c.fields.draft) c.args.input.now c.fields.at c.width-width.result c.fields.invariant.reads wide (omega arith) (omega arith) broken
 
 pub fields-smaller : goal.fields-smaller
@@ -31,7 +31,7 @@ pub fields-preserved : goal.fields-preserved
 fields-preserved c =
     let wide : c.width-width.result ≡ width (seen c.fields.draft).next = search rules in
     let goes : after (seen c.fields.draft) (take c.width-width.result (drop c.fields.at c.args.input.now)) ≡ Some (seen c.accept.new.self) =
-        accepted c.in_ok-accept.field-0 (seen c.fields.draft) (seen c.accept.new.self) c.args.input.now c.fields.at c.width-width.result c.if-not-branch.false c.in_ok-accept.ensures in
+    accepted c.in_ok-accept.field-0 (seen c.fields.draft) (seen c.accept.new.self) c.args.input.now c.fields.at c.width-width.result c.if-not-branch.false c.in_ok-accept.ensures in
     record { within = omega arith; reads = field_at (seen c.fields.draft) (seen c.accept.new.self) c.args.input.now c.fields.at c.width-width.result c.fields.invariant.reads wide (omega arith) goes }
 
 pub returns : goal.returns

@@ -1,4 +1,3 @@
-use Rattle.std.proofs.Common.{rules}
 use Rattle.xt_ckpt.proofs.Judging.{read_as, none_read}
 use Rattle.xt_ckpt.proofs.reading.read_checkpoint.Goals as goal
 
