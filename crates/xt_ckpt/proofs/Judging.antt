@@ -5,13 +5,14 @@ use Rattle.std.proofs.lemmas.List.{take-append-drop, take-take, drop-take, lengt
 use Rattle.xt_ckpt.specs.Grammar.{Entry, IsText, entries}
 use Rattle.xt_ckpt.specs.Drafts.{IsAfter}
 use Rattle.xt_ckpt.specs.Fields.{Draft, Reads, IsUnfinished, IsFaultAt, opening, width, after}
+use Rattle.xt_ckpt.specs.Laws.{AreBytes}
 use Rattle.xt_ckpt.specs.Reading.{BeginsNoText, IsJudged, IsReadAs}
 use Rattle.xt_ckpt.specs.declared.draft.Draft.{Draft as Stored}
 use Rattle.xt_ckpt.specs.declared.draft.Field.TheVariants as Field
 use Rattle.xt_ckpt.specs.declared.reading.Checkpoint.{Checkpoint}
 use Rattle.xt_ckpt.specs.declared.reading.ReadFault.{ReadFault}
 use Rattle.xt_ckpt.proofs.Ways.{reads_more}
-use Rattle.xt_ckpt.proofs.Stands.{IsBytes, IsBytes-left, Stands, has_width}
+use Rattle.xt_ckpt.proofs.Stands.{AreBytes-left, Stands, has_width}
 use Rattle.xt_ckpt.proofs.ReadsText.{ready}
 use Rattle.xt_ckpt.proofs.OneText.{unfinished_none, fault_none, same_text}
 
@@ -20,11 +21,11 @@ pub opened : (d : Draft) → d ≡ opening → Reads opening [] d
 opened d e = subst (λ z. Reads opening [] z) (sym e) (Reads.nothing opening)
 
 -- the front of bytes is bytes
-front_bytes : (input : List ℕ) (at : ℕ) → IsBytes input → IsBytes (take at input)
-front_bytes input at is = IsBytes-left (take at input) (drop at input) (subst IsBytes (sym (take-append-drop at input)) is)
+front_bytes : (input : List ℕ) (at : ℕ) → AreBytes input → AreBytes (take at input)
+front_bytes input at is = AreBytes-left (take at input) (drop at input) (subst AreBytes (sym (take-append-drop at input)) is)
 
 -- the next field has a byte
-pub positive : (d : Draft) (input : List ℕ) (at : ℕ) → IsBytes input → Reads opening (take at input) d → (d.next ≡ Field.Nothing → ⊥) → 0 < width d.next
+pub positive : (d : Draft) (input : List ℕ) (at : ℕ) → AreBytes input → Reads opening (take at input) d → (d.next ≡ Field.Nothing → ⊥) → 0 < width d.next
 positive d input at is way more = has_width d.next d (take at input) (ready d (take at input) (front_bytes input at is) way) more
 
 -- the input ends within the next field
@@ -75,7 +76,7 @@ refused b d e input at w not_so h =
     ap (after d) (sym (field_bytes input at w)) ∙ subst (λ t. IsAfter t e (after d (take (at + w - at) (drop at input)))) not_so h
 
 -- all fields are read
-pub whole_at : (d : Draft) (input : List ℕ) (at : ℕ) → IsBytes input → Reads opening (take at input) d → d.next ≡ Field.Nothing → IsText (take at input) d.number d.items
+pub whole_at : (d : Draft) (input : List ℕ) (at : ℕ) → AreBytes input → Reads opening (take at input) d → d.next ≡ Field.Nothing → IsText (take at input) d.number d.items
 whole_at d input at is way ends = subst (λ f. Stands f d (take at input)) ends (ready d (take at input) (front_bytes input at is) way)
 
 -- the text of a draft is that of its checkpoint

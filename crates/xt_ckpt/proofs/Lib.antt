@@ -8,3 +8,4 @@ pub mod ReadsText
 pub mod OneText
 pub mod Judging
 pub mod Written
+pub mod Faults

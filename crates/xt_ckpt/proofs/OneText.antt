@@ -7,9 +7,10 @@ use Rattle.xt_base.specs.Chunks.{places_of, word_of}
 use Rattle.xt_base.specs.ChunkWords.{word_back}
 use Rattle.xt_ckpt.specs.Grammar.{Entry, IsItem, AreItems, IsText}
 use Rattle.xt_ckpt.specs.Fields.{Draft, Reads, IsUnfinished, IsFaultAt, opening, width, after}
+use Rattle.xt_ckpt.specs.Laws.{whole}
 use Rattle.xt_ckpt.specs.Reading.{BeginsNoText}
 use Rattle.xt_ckpt.proofs.Ways.{one_way, whole_ends}
-use Rattle.xt_ckpt.proofs.TextReads.{text_reads, whole}
+use Rattle.xt_ckpt.proofs.TextReads.{text_reads}
 use Rattle.xt_ckpt.proofs.Stands.{some_chunk, head_of}
 
 -- the first field of some bytes

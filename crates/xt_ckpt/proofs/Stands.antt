@@ -1,5 +1,5 @@
 -- What stands before each field, as the grammar says it.
-use Rattle.std.proofs.Common.{◌≡◌, ◌∙◌, ℕ, suc, ◌+◌, ◌^◌, ◌<◌, ◌≤◌, List, [], ◌∷◌, ◌++◌, length, get_or, sym, ap, refl, subst, arith, append_assoc, inl, inr}
+use Rattle.std.proofs.Common.{◌≡◌, ◌∙◌, ℕ, suc, ◌+◌, ◌^◌, ◌<◌, ◌≤◌, List, [], ◌∷◌, ◌++◌, length, sym, ap, refl, subst, arith, append_assoc, inl, inr}
 use Rattle.std.specs.Int.{from_be_bytes, to_be_bytes, w32, w64}
 use Rattle.std.specs.Prelude.{codes}
 use Rattle.std.proofs.lemmas.Bool.{cases_lt}
@@ -9,36 +9,33 @@ use Rattle.xt_base.specs.Chunks.{places_of, word_of}
 use Rattle.xt_base.specs.ChunkWords.{word_back}
 use Rattle.xt_ckpt.specs.Grammar.{Entry, IsItem, AreItems, IsText}
 use Rattle.xt_ckpt.specs.Fields.{Draft, width}
+use Rattle.xt_ckpt.specs.Laws.{AreBytes}
 use Rattle.xt_ckpt.specs.declared.draft.Field.{Field}
 
--- each is below 256
-abbrev pub IsBytes : List ℕ → Type 0
-IsBytes bytes = (i : ℕ) → get_or bytes i 0 < 256
-
--- so is each of the front
-pub IsBytes-left : (a b : List ℕ) → IsBytes (a ++ b) → IsBytes a
-IsBytes-left a b h i =
+-- each of the front is below 256
+pub AreBytes-left : (a b : List ℕ) → AreBytes (a ++ b) → AreBytes a
+AreBytes-left a b h i =
     elim (cases_lt i (length a)) [
       | inl lt ↦ subst (λ n. n < 256) (get_or_append_left a b 0 i lt) (h i)
       | inr le ↦ subst (λ n. n < 256) (sym (get_or_past a i 0 le)) (omega arith)
     ]
 
--- and each behind it
-pub IsBytes-right : (a b : List ℕ) → IsBytes (a ++ b) → IsBytes b
-IsBytes-right a b h i = subst (λ n. n < 256) (get_or-append-add a b i 0) (h (length a + i))
+-- and so is each behind it
+pub AreBytes-right : (a b : List ℕ) → AreBytes (a ++ b) → AreBytes b
+AreBytes-right a b h i = subst (λ n. n < 256) (get_or-append-add a b i 0) (h (length a + i))
 
 -- four bytes are those of their number
-pub four_back : (f : List ℕ) (n : ℕ) → length f ≡ 4 → IsBytes f → from_be_bytes w32 f ≡ n → f ≡ to_be_bytes w32 n
+pub four_back : (f : List ℕ) (n : ℕ) → length f ≡ 4 → AreBytes f → from_be_bytes w32 f ≡ n → f ≡ to_be_bytes w32 n
 four_back f n len is e = sym (be_bytes_4 f n len is (sym e))
 
-pub four_below : (f : List ℕ) → IsBytes f → from_be_bytes w32 f < 2 ^ 32
+pub four_below : (f : List ℕ) → AreBytes f → from_be_bytes w32 f < 2 ^ 32
 four_below f is = omega (arith, is 0, is 1, is 2, is 3)
 
 -- eight bytes are those of their number
-pub eight_back : (f : List ℕ) (n : ℕ) → length f ≡ 8 → IsBytes f → from_be_bytes w64 f ≡ n → f ≡ to_be_bytes w64 n
+pub eight_back : (f : List ℕ) (n : ℕ) → length f ≡ 8 → AreBytes f → from_be_bytes w64 f ≡ n → f ≡ to_be_bytes w64 n
 eight_back f n len is e = sym (be_bytes_8 f n len is (sym e))
 
-pub eight_below : (f : List ℕ) → IsBytes f → from_be_bytes w64 f < 2 ^ 64
+pub eight_below : (f : List ℕ) → AreBytes f → from_be_bytes w64 f < 2 ^ 64
 eight_below f is = omega (arith, is 0, is 1, is 2, is 3, is 4, is 5, is 6, is 7)
 
 -- the least block behind some items

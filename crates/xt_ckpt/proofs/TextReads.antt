@@ -8,6 +8,7 @@ use Rattle.xt_base.specs.Chunks.{places_of}
 use Rattle.xt_base.proofs.ChunkLemmas.{places_of-zero}
 use Rattle.xt_ckpt.specs.Grammar.{Entry, IsCancel, IsLogged, IsItem, AreItems, IsText}
 use Rattle.xt_ckpt.specs.Fields.{Draft, Reads, opening, width, after, at_item, with_item}
+use Rattle.xt_ckpt.specs.Laws.{whole}
 use Rattle.xt_ckpt.specs.declared.draft.Field.TheVariants as Field
 use Rattle.xt_ckpt.proofs.Ways.{reads_on}
 use Rattle.xt_ckpt.proofs.Steps.{start_step, number_step, count_step, block_step, map_step, cancel_step, flag_step, end_step, end_count_step, end_number_step}
@@ -84,10 +85,6 @@ items_read d bytes (e ∷ es) all is =
       subst (λ xs. Reads (at_item d) xs (at_item (record d { items = d.items ++ e ∷ es; least = rest.0 }))) (sym is.2)
           (subst (λ items. Reads (at_item d) (is.0 ++ is.1) (at_item (record d { items = items; least = rest.0 }))) (append_assoc d.items (e ∷ []) es) both),
     )
-
--- the draft of a whole text
-abbrev pub whole : ℕ → List Entry → ℕ → Draft
-whole number items least = record { number = number; count = length items; items = items; least = least; next = Field.Nothing }
 
 -- the fields before the items
 start_reads : (number count : ℕ) → 1 ≤ number → number < 2 ^ 64 → 1 ≤ count → count ≤ 64

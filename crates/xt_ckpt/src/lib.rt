@@ -3,5 +3,6 @@
 
 pub mod draft;
 pub mod item;
+pub mod laws;
 pub mod reading;
 pub mod writing;
