@@ -5,4 +5,6 @@ pub mod draft;
 pub mod item;
 pub mod laws;
 pub mod reading;
+#[cfg(test)]
+mod tests;
 pub mod writing;
