@@ -23,6 +23,7 @@ both_true : (a b : Bool) → (a && b) ≡ true → (a ≡ true) × (b ≡ true)
 both_true true b h = (refl, h)
 both_true false b h = absurd cc
 
+-- what an option has is one
 some_is : (d e : Draft) (o : Option Draft) → o ≡ Some d → o ≡ Some e → d ≡ e
 some_is d e o h k = cc
 
@@ -38,17 +39,20 @@ ready_item d front h le =
       | inr ne ↦ subst (λ z. Ready z front) (sym (block_next d (omega (arith, ne)))) (h, omega (arith, ne))
     ]
 
+-- the first word, and what stands behind it
 start_on : (d e : Draft) (front f : List ℕ) → Stands Field.Start d front → length f ≡ 4 → AreBytes f → after_field Field.Start f d ≡ Some e → Ready e (front ++ f)
 start_on d e front f h len is goes =
     let p = provided_some (from_be_bytes w32 f == start_word) (record d { next = Field.Number }) e goes in
     subst (λ z. Ready z (front ++ f)) p.1 (ap (λ z. z ++ f) h.0 ∙ four_back f start_word len is (eqb-true _ _ p.0), h.1, h.2)
 
+-- the number
 number_on : (d e : Draft) (front f : List ℕ) → Stands Field.Number d front → length f ≡ 8 → AreBytes f → after_field Field.Number f d ≡ Some e → Ready e (front ++ f)
 number_on d e front f h len is goes =
     let n = from_be_bytes w64 f in
     let p = provided_some (nat_le 1 n) (record d { number = n; next = Field.Count }) e goes in
     subst (λ z. Ready z (front ++ f)) p.1 (ap (λ z. z ++ f) h.0 ∙ ap (λ z. codes "XCP1" ++ z) (eight_back f n len is refl), h.1, h.2, leb-true 1 n p.0, eight_below f is)
 
+-- the count of items
 count_on : (d e : Draft) (front f : List ℕ) → Stands Field.Count d front → length f ≡ 4 → AreBytes f → after_field Field.Count f d ≡ Some e → Ready e (front ++ f)
 count_on d e front f h len is goes =
     let n = from_be_bytes w32 f in
@@ -69,6 +73,7 @@ count_on d e front f h len is goes =
     let none : length d.items ≡ 0 = ap length h.1 in
     subst (λ z. Ready z (front ++ f)) p.1 (ready_item next (front ++ f) holds (omega arith))
 
+-- the block of an item
 block_on : (d e : Draft) (front f : List ℕ) → Stands Field.Block d front → length f ≡ 8 → AreBytes f → after_field Field.Block f d ≡ Some e → Ready e (front ++ f)
 block_on d e front f h len is goes =
     let b = from_be_bytes w64 f in
@@ -76,6 +81,7 @@ block_on d e front f h len is goes =
     subst (λ z. Ready z (front ++ f)) p.1
     (holds_more d.number d.count d.items d.least front [] f (to_be_bytes w64 b) h.0 (eight_back f b len is refl), h.1, leb-true d.least b p.0, eight_below f is)
 
+-- the map of its chunks
 map_on : (b : ℕ) (d e : Draft) (front f : List ℕ) → Stands (Field.Map b) d front → length f ≡ 4 → AreBytes f → after_field (Field.Map b) f d ≡ Some e → Ready e (front ++ f)
 map_on b d e front f h len is goes =
     let bits = from_be_bytes w32 f in
@@ -83,6 +89,7 @@ map_on b d e front f h len is goes =
     subst (λ z. Ready z (front ++ f)) p
     (holds_more d.number d.count d.items d.least front (to_be_bytes w64 b) f (to_be_bytes w32 bits) h.0 (four_back f bits len is refl), h.1, h.2, h.3, four_below f is)
 
+-- the flag of a cancel, which is whole with it
 cancel_on : (b bits : ℕ) (d e : Draft) (front f : List ℕ) → bits ≡ 0 → Stands (Field.Flag b bits) d front → length f ≡ 4 → AreBytes f → after_field (Field.Flag b bits) f d ≡ Some e → Ready e (front ++ f)
 cancel_on b bits d e front f none h len is goes =
     let goes0 : after_field (Field.Flag b 0) f d ≡ Some e = subst (λ m. after_field (Field.Flag b m) f d ≡ Some e) none goes in
@@ -95,6 +102,7 @@ cancel_on b bits d e front f none h len is goes =
     let holds = holds_item d.number d.count d.items d.least (front ++ f) tail made more h.2 (inl item) in
     subst (λ z. Ready z (front ++ f)) p.1 (ready_item next (front ++ f) holds (omega (arith, length_push d.items made)))
 
+-- the flag of logged chunks
 flag_on : (b bits : ℕ) (d e : Draft) (front f : List ℕ) → 0 < bits → Stands (Field.Flag b bits) d front → length f ≡ 4 → AreBytes f → after_field (Field.Flag b bits) f d ≡ Some e → Ready e (front ++ f)
 flag_on b bits d e front f some h len is goes =
     let other : (bits == 0) ≡ false = ne_eqb bits 0 (λ z. omega arith) in
@@ -104,6 +112,7 @@ flag_on b bits d e front f some h len is goes =
     subst (λ z. Ready z (front ++ f)) p.1
     (holds_more d.number d.count d.items d.least front (to_be_bytes w64 b ++ to_be_bytes w32 bits) f (to_be_bytes w32 0) h.0 (four_back f 0 len is (eqb-true _ _ p.0)), h.1, h.2, h.3, h.4, some)
 
+-- the bytes of the chunks, with which an item is whole
 content_on : (b bits : ℕ) (d e : Draft) (front f : List ℕ) → Stands (Field.Content b bits) d front → length f ≡ 128 * length (places_of bits) → after_field (Field.Content b bits) f d ≡ Some e → Ready e (front ++ f)
 content_on b bits d e front f h len goes =
     let p : with_item b bits f d ≡ e = some_is (with_item b bits f d) e (after_field (Field.Content b bits) f d) refl goes in
@@ -115,11 +124,13 @@ content_on b bits d e front f h len goes =
     let holds = holds_item d.number d.count d.items d.least (front ++ f) tail made more h.2 (inr item) in
     subst (λ z. Ready z (front ++ f)) p (ready_item next (front ++ f) holds (omega (arith, length_push d.items made)))
 
+-- the word behind the items
 end_on : (d e : Draft) (front f : List ℕ) → Stands Field.End d front → length f ≡ 4 → AreBytes f → after_field Field.End f d ≡ Some e → Ready e (front ++ f)
 end_on d e front f h len is goes =
     let p = provided_some (from_be_bytes w32 f == end_word) (record d { next = Field.EndCount }) e goes in
     subst (λ z. Ready z (front ++ f)) p.1 (holds_more d.number d.count d.items d.least front [] f (codes "XCE1") h.0 (four_back f end_word len is (eqb-true _ _ p.0)), h.1)
 
+-- the count again
 end_count_on : (d e : Draft) (front f : List ℕ) → Stands Field.EndCount d front → length f ≡ 4 → AreBytes f → after_field Field.EndCount f d ≡ Some e → Ready e (front ++ f)
 end_count_on d e front f h len is goes =
     let p = provided_some (from_be_bytes w32 f == d.count) (record d { next = Field.EndNumber }) e goes in
@@ -144,6 +155,7 @@ holds_text number count items least front h all =
       fields = body_fields ∙ ap (λ n. head_of number n ++ h.body ++ codes "XCE1" ++ to_be_bytes w32 n ++ to_be_bytes w64 number) (sym all);
     }
 
+-- the number again, with which the text is whole
 end_number_on : (d e : Draft) (front f : List ℕ) → Stands Field.EndNumber d front → length f ≡ 8 → AreBytes f → after_field Field.EndNumber f d ≡ Some e → Ready e (front ++ f)
 end_number_on d e front f h len is goes =
     let p = provided_some (from_be_bytes w64 f == d.number) (record d { next = Field.Nothing }) e goes in

@@ -28,6 +28,7 @@ AreBytes-right a b h i = subst (λ n. n < 256) (get_or-append-add a b i 0) (h (l
 pub four_back : (f : List ℕ) (n : ℕ) → length f ≡ 4 → AreBytes f → from_be_bytes w32 f ≡ n → f ≡ to_be_bytes w32 n
 four_back f n len is e = sym (be_bytes_4 f n len is (sym e))
 
+-- and it is below 2 ^ 32
 pub four_below : (f : List ℕ) → AreBytes f → from_be_bytes w32 f < 2 ^ 32
 four_below f is = omega (arith, is 0, is 1, is 2, is 3)
 
@@ -35,6 +36,7 @@ four_below f is = omega (arith, is 0, is 1, is 2, is 3)
 pub eight_back : (f : List ℕ) (n : ℕ) → length f ≡ 8 → AreBytes f → from_be_bytes w64 f ≡ n → f ≡ to_be_bytes w64 n
 eight_back f n len is e = sym (be_bytes_8 f n len is (sym e))
 
+-- and it is below 2 ^ 64
 pub eight_below : (f : List ℕ) → AreBytes f → from_be_bytes w64 f < 2 ^ 64
 eight_below f is = omega (arith, is 0, is 1, is 2, is 3, is 4, is 5, is 6, is 7)
 
@@ -50,6 +52,7 @@ items_more least bytes here [] e is above item = (here, [], ap (λ z. z ++ here)
 items_more least bytes here (o ∷ es) e is above item =
     (is.0, is.1 ++ here, ap (λ z. z ++ here) is.2 ∙ append_assoc is.0 is.1 here, is.3, is.4, items_more (suc o.block) is.1 here es e is.5 above item)
 
+-- the least block behind one item more
 pub least_more : (least : ℕ) (es : List Entry) (e : Entry) → least_behind least (es ++ e ∷ []) ≡ suc e.block
 least_more least [] e = refl
 least_more least (o ∷ es) e = least_more (suc o.block) es e

@@ -34,6 +34,7 @@ same_front : (n : ℕ) (f g x y : List ℕ) → length f ≡ n → length g ≡ 
 same_front n f g x y lf lg e =
     (sym (take_at f x n lf) ∙ ap (take n) e ∙ take_at g y n lg, sym (drop_at f x n lf) ∙ ap (drop n) e ∙ drop_at g y n lg)
 
+-- what two equal options have is one
 some_same : (a b : Draft) (o p : Option Draft) → o ≡ Some a → p ≡ Some b → o ≡ p → a ≡ b
 some_same a b o p h k e = cc
 

@@ -6,7 +6,8 @@ ghost use Rattle.xt_ckpt.specs.Fields.{opening, width, after, after_field, provi
 ghost use Rattle.xt_ckpt.specs.declared.draft.Field.TheVariants as Field;
 ghost use Rattle.xt_ckpt.specs.Drafts.{seen, above, IsAfter};
 
-use crate::item::{END, Item, MAX_ITEMS, START};
+use crate::format::{END, MAX_ITEMS, START};
+use crate::item::Item;
 use crate::reading::Checkpoint;
 use std::alloc::{AllocError, Global};
 use xt_base::chunks::{CHUNK_BYTES, Chunks};
@@ -42,11 +43,13 @@ pub enum Field {
 /// A text that has been read as far as some field.
 #[derive(Debug, Drop)]
 pub struct Draft {
-    pub number: u64,
+    pub number: CkptNo,
+    /// How many items it is to have.
     pub count: u32,
     pub items: Vec<Item>,
     /// The block of the last item.
-    pub last: Option<u64>,
+    pub last: Option<Block>,
+    /// The field that is judged next.
     pub next: Field,
 }
 
@@ -89,7 +92,7 @@ impl Draft {
         ensures { seen result ≡ opening }
     {
         Draft {
-            number: 0,
+            number: CkptNo(0),
             count: 0,
             items: Vec::new(alloc),
             last: None,
@@ -110,7 +113,7 @@ impl Draft {
         ensures items { result.items.items ≡ self.items.items }
     {
         Checkpoint {
-            no: CkptNo(self.number),
+            no: self.number,
             items: self.items,
         }
     }
@@ -146,8 +149,9 @@ impl Draft {
         ensures { OnOk result (seen self.new ≡ with_item block map content.now (seen self.old)) }
     {
         let content = Vec::from_slice(alloc, content)?;
+        let block = Block(block);
         self.items.push(Item {
-            block: Block(block),
+            block,
             chunks: Chunks::of_word(map),
             content,
         })?;
@@ -186,7 +190,7 @@ impl Draft {
     {
         Ok(match self.next {
             Field::Start => self.go_on(u32_of(bytes) == START, Field::Number),
-            Field::Number => self.accept_number(u64_of(bytes)),
+            Field::Number => self.accept_number(CkptNo(u64_of(bytes))),
             Field::Count => self.accept_count(u32_of(bytes)),
             Field::Block => self.accept_block(u64_of(bytes)),
             Field::Map { block } => {
@@ -200,16 +204,16 @@ impl Draft {
             }
             Field::End => self.go_on(u32_of(bytes) == END, Field::EndCount),
             Field::EndCount => self.go_on(u32_of(bytes) == self.count, Field::EndNumber),
-            Field::EndNumber => self.go_on(u64_of(bytes) == self.number, Field::Nothing),
+            Field::EndNumber => self.go_on(u64_of(bytes) == self.number.0, Field::Nothing),
             Field::Nothing => false,
         })
     }
 
-    fn accept_number(&mut self, number: u64) -> bool
+    fn accept_number(&mut self, number: CkptNo) -> bool
         ensures { IsAfter result (seen self.new) (provided (nat_le 1 number) (record (seen self.old) { number = number; next = Field.Count })) }
     {
         self.number = number;
-        self.go_on(number >= 1, Field::Count)
+        self.go_on(number.0 >= 1, Field::Count)
     }
 
     fn accept_count(&mut self, count: u32) -> bool
@@ -225,7 +229,7 @@ impl Draft {
     {
         let rises = match self.last {
             None => true,
-            Some(last) => last < block,
+            Some(last) => last.0 < block,
         };
         self.go_on(rises, Field::Map { block })
     }

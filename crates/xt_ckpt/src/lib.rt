@@ -1,7 +1,8 @@
 //! The text of a checkpoint: written from its items, and read again.
 #![tactic(auto)]
 
-pub mod draft;
+mod draft;
+pub mod format;
 pub mod item;
 pub mod laws;
 pub mod reading;

@@ -283,3 +283,36 @@ fn cancel_written(rt: HostRuntime) -> Result<(), Fail> {
     assert_eq!(rt; pieces[0].as_slice(), bytes_of(alloc, OF_48)?.as_slice());
     Ok(())
 }
+
+/// Where a growth is refused the reader says so, and else gives the same answer. Run it with
+/// each allocation failing in turn.
+#[test]
+fn growth_refused(rt: HostRuntime) {
+    let places = [
+        (0, 0x58),
+        (1, 0x43),
+        (2, 0x50),
+        (3, 0x31),
+        (11, 1),
+        (15, 1),
+        (23, 7),
+        (27, 2),
+        (34, 1),
+        (160, 0x58),
+        (161, 0x43),
+        (162, 0x45),
+        (163, 0x31),
+        (167, 1),
+        (175, 1),
+    ];
+    let mut input = [0u8; 176];
+    for (at, byte) in places {
+        assert!(rt; at < 176);
+        input[at] = byte;
+    }
+    match read_checkpoint(rt.alloc(), &input) {
+        Ok(Some((_, len))) => assert_eq!(rt; len, 176),
+        Ok(None) => panic!(rt; "a whole text is not unfinished"),
+        Err(fault) => assert_eq!(rt; fault, ReadFault::Memory),
+    }
+}

@@ -8,7 +8,8 @@ ghost use Rattle.xt_base.specs.declared.steps.Errno.TheVariants.{NoMemory};
 ghost use Rattle.xt_ckpt.specs.Items.{item_bytes, checkpoint_text, checkpoint_len, item_len, HasForm, IsStored, BlocksRise};
 ghost use Rattle.xt_ckpt.specs.Grammar.{IsText, entries};
 
-use crate::item::{END, Item, START};
+use crate::format::{END, START};
+use crate::item::Item;
 use bytes::Bytes;
 use std::alloc::{AllocError, Global};
 use xt_base::chunks::Chunks;
