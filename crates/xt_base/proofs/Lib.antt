@@ -1,1 +1,13 @@
 pub mod ChunkLemmas
+pub mod PlaceLemmas
+pub mod RankLemmas
+pub mod MapLemmas
+pub mod RisingLemmas
+pub mod KeyLemmas
+pub mod ChunkCounts
+pub mod CostLemmas
+pub mod BusyLemmas
+pub mod LegLemmas
+pub mod SoundParts
+pub mod SoundSteps
+pub mod SoundBounds

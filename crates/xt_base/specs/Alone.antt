@@ -40,8 +40,8 @@ mount_refusals log_bytes blocks s =
     ∷ []
 
 -- the next life
-abbrev pub mounted_new : ℕ → ℕ → Lone → Turn
-mounted_new log_bytes blocks s = turn (Reply.Life (s.last_life + 1)) (record s { last_life = s.last_life + 1; mounted = Some (mount_of (s.last_life + 1) log_bytes blocks) })
+abbrev pub mounted_new : ℕ → ℕ → ℕ → Lone → Turn
+mounted_new slot log_bytes blocks s = turn (Reply.Life (s.last_life + 1)) (record s { last_life = s.last_life + 1; mounted = Some (mount_of slot (s.last_life + 1) log_bytes blocks) })
 
 -- refused and unchanged, or else this
 abbrev pub unless_refused : Option Errno → Lone → Turn → Turn
@@ -49,8 +49,8 @@ unless_refused None s t = t
 unless_refused (Some e) s t = turn (Refused e) s
 
 -- makes an empty mount
-abbrev pub mount : ℕ → ℕ → Lone → Turn
-mount log_bytes blocks s = unless_refused (first_of (mount_refusals log_bytes blocks s)) s (mounted_new log_bytes blocks s)
+abbrev pub mount : ℕ → ℕ → ℕ → Lone → Turn
+mount slot log_bytes blocks s = unless_refused (first_of (mount_refusals log_bytes blocks s)) s (mounted_new slot log_bytes blocks s)
 
 -- ---- a call
 -- whether a reply is ok
@@ -92,7 +92,7 @@ shown (Some m) s = record s { seen_life = m.life; seen_reason = m.shut }
 
 -- ---- any step; the blocks in dropped found no memory when they settled
 abbrev pub step_with : Dropped → Step → Lone → Turn
-step_with dropped (Mount slot log_bytes blocks) s = mount log_bytes blocks s
+step_with dropped (Mount slot log_bytes blocks) s = mount slot log_bytes blocks s
 step_with dropped (Call slot life request answer) s = call dropped life request answer s s.mounted
 step_with dropped (Post name) s = on_mount s.mounted s (λ m. turn Okay (with_mount (posted name.kind m) s))
 step_with dropped (Take worker name) s = turn Okay s

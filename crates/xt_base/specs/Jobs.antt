@@ -6,7 +6,7 @@ use Rattle.xt_base.specs.Maps.{has, is_in, put, without}
 use Rattle.xt_base.specs.Settle.{Dropped, settled}
 use Rattle.xt_base.specs.Space.{cost, flight_items, greatest, still_needed}
 use Rattle.xt_base.specs.State.{Flight, Items, Jobs, State}
-use Rattle.xt_base.specs.Text.{content_at, log_offers_of, piece_count, pieces, text_of}
+use Rattle.xt_base.specs.Text.{content_at, log_offers_of, pieces, text_of}
 use Rattle.xt_base.specs.declared.names.JobKind.{JobKind}
 use Rattle.xt_base.specs.declared.names.JobName.{JobName}
 use Rattle.xt_base.specs.declared.steps.HomeAnswers.{HomeAnswers}
@@ -79,24 +79,24 @@ abbrev pub finished : JobKind → State → State
 finished kind s = record s { jobs = with_job kind None s.jobs }
 
 -- ---- begin
--- the text that a checkpoint would have now
-abbrev pub next_text : State → List ℕ
-next_text s = text_of s.items.open_number s.items.cil s.frames.committed
+-- the pieces that a checkpoint would have now
+abbrev pub next_pieces : State → List (List ℕ)
+next_pieces s = pieces (text_of s.items.open_number s.items.cil s.frames.committed)
 
 -- the committed item list becomes the flight, the next number opens, and the asking is met
-abbrev pub flown : List ℕ → State → State
-flown text s = record s {
-  items = record s.items { open_number = s.items.open_number + 1; cil = []; flight = Some (record { number = s.items.open_number; items = s.items.cil; text = text }) };
+abbrev pub flown : List (List ℕ) → State → State
+flown ps s = record s {
+  items = record s.items { open_number = s.items.open_number + 1; cil = []; flight = Some (record { number = s.items.open_number; items = s.items.cil; pieces = ps }) };
   jobs = record s.jobs { asked_ckpt = false };
 }
 
 -- the reply to a begin, and the flight
-abbrev pub begun : List ℕ → State → Outcome
-begun text s = gives (Begun s.items.open_number (piece_count text)) (flown text s)
+abbrev pub begun : List (List ℕ) → State → Outcome
+begun ps s = gives (Begun s.items.open_number (length ps)) (flown ps s)
 
 -- on a shut mount there is nothing to do
 abbrev pub begin : State → Outcome
-begin s = if is_some s.shut then gives Nothing (finished JobKind.Ckpt s) else begun (next_text s) s
+begin s = if is_some s.shut then gives Nothing (finished JobKind.Ckpt s) else begun (next_pieces s) s
 
 -- ---- end
 -- cancelled blocks leave the active list, and each other block goes there unless it is there
@@ -139,14 +139,14 @@ end_of dropped answers s (Some f) = if is_ok answers.sync then gives (Landed f.n
 abbrev pub end : Dropped → LogAnswers → State → Outcome
 end dropped answers s = end_of dropped answers s s.items.flight
 
--- the text in flight
-abbrev pub flight_text : Option Flight → List ℕ
-flight_text None = []
-flight_text (Some f) = f.text
+-- the pieces in flight
+abbrev pub flight_pieces : Option Flight → List (List ℕ)
+flight_pieces None = []
+flight_pieces (Some f) = f.pieces
 
 -- what an end offered to the log
 abbrev pub end_offers : LogAnswers → State → List LogOffer
-end_offers answers s = log_offers_of answers (pieces (flight_text s.items.flight))
+end_offers answers s = log_offers_of answers (flight_pieces s.items.flight)
 
 -- all pieces were taken and the sync answered, or one was not taken
 abbrev pub fits_pieces : LogAnswers → ℕ → Bool

@@ -1,4 +1,5 @@
 pub mod Maps
+pub mod Places
 pub mod Chunks
 pub mod ChunkWords
 pub mod State
@@ -11,3 +12,4 @@ pub mod Calls
 pub mod Jobs
 pub mod Alone
 pub mod Order
+pub mod Sound

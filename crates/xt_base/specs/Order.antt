@@ -1,12 +1,11 @@
 -- Orderly lists, said over the list and its replies, without any queue.
 use Rattle.std.specs.List.{list_any}
-use Rattle.std.specs.Prelude.{Bool, List, None, Option, Some, [], false, filter, filter_map, if◌then◌else◌, map, not, option_map, suc, true, ℕ, ◌&&◌, ◌++◌, ◌==◌, ◌∷◌}
+use Rattle.std.specs.Prelude.{Bool, List, None, Option, Some, [], false, filter, filter_map, if◌then◌else◌, length, map, not, option_map, suc, true, ℕ, ◌&&◌, ◌++◌, ◌==◌, ◌∷◌}
 use Rattle.xt_base.specs.Alone.{after, alone}
 use Rattle.xt_base.specs.Calls.{asks}
-use Rattle.xt_base.specs.Jobs.{fits_pieces, fits_plan, flight_text, flush_plan, is_begun, is_ckpt, is_owed_as, is_waiting}
+use Rattle.xt_base.specs.Jobs.{fits_pieces, fits_plan, flight_pieces, flush_plan, is_begun, is_ckpt, is_owed_as, is_waiting}
 use Rattle.xt_base.specs.State.{Lone, State, empty}
 use Rattle.xt_base.specs.Steps.{slot_of}
-use Rattle.xt_base.specs.Text.{piece_count}
 use Rattle.xt_base.specs.declared.names.JobKind.{JobKind}
 use Rattle.xt_base.specs.declared.names.JobName.{JobName}
 use Rattle.xt_base.specs.declared.steps.Answer.{Answer}
@@ -146,7 +145,7 @@ abbrev pub suits : Step → Lone → Bool
 suits (Call slot life request answer) s = is_there (mount_is (of_life life request) s.mounted) answer
 suits (Post name) s = mount_is (is_owed_as name) s.mounted
 suits (Begin worker name) s = is_ckpt name.kind && mount_is (is_waiting name) s.mounted
-suits (End worker name answers) s = mount_is (λ m. is_begun name m && fits_pieces answers (piece_count (flight_text m.items.flight))) s.mounted
+suits (End worker name answers) s = mount_is (λ m. is_begun name m && fits_pieces answers (length (flight_pieces m.items.flight))) s.mounted
 suits (Flush worker name answers) s = not (is_ckpt name.kind) && mount_is (λ m. is_waiting name m && fits_plan answers (flush_plan m)) s.mounted
 suits other s = true
 

@@ -28,11 +28,11 @@ pub record Frames : Type 0 where
   pub fresh : List ℕ
   pub idle : List (ℕ × List ℕ)
 
--- a checkpoint that is being written, with the text formed at its begin
+-- a checkpoint that is being written, with the pieces of its text, formed at its begin
 pub record Flight : Type 0 where
   pub number : ℕ
   pub items : List (ℕ × List ℕ)
-  pub text : List ℕ
+  pub pieces : List (List ℕ)
 
 -- the lists of items; an item is a block with its chunks, and a cancelled block with none
 pub record Items : Type 0 where
@@ -54,6 +54,7 @@ pub record Jobs : Type 0 where
 
 -- one life of a slot
 pub record State : Type 0 where
+  pub slot : ℕ
   pub life : ℕ
   pub log_bytes : ℕ
   pub blocks : ℕ
@@ -77,8 +78,9 @@ abbrev pub empty : Lone
 empty = record { last_life = 0; seen_life = 0; seen_reason = None; mounted = None }
 
 -- a new mount
-abbrev pub mount_of : ℕ → ℕ → ℕ → State
-mount_of life log_bytes blocks = record {
+abbrev pub mount_of : ℕ → ℕ → ℕ → ℕ → State
+mount_of slot life log_bytes blocks = record {
+  slot = slot;
   life = life;
   log_bytes = log_bytes;
   blocks = blocks;

@@ -4,5 +4,7 @@
 
 pub mod chunks;
 pub mod content;
+pub mod map;
 pub mod names;
+pub mod set;
 pub mod steps;

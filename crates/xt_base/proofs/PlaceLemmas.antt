@@ -1,0 +1,137 @@
+-- What stands at the place of a key.
+use Rattle.std.proofs.Common.{◌≡◌, ◌≢◌, ◌∙◌, ℕ, zero, suc, ◌+◌, ◌<◌, ◌≤◌, List, [], ◌∷◌, ◌++◌, Bool, true, false, Option, None, Some, sym, ap, refl, length, arith, inl, inr, ◌⊎◌, subst, get_or, drop, take, not}
+use Rattle.std.specs.Prelude.{◌==◌, nat_lt, nat_eq, cond, insert, remove, if◌then◌else◌}
+use Rattle.std.proofs.Math.ListN.{set}
+use Rattle.std.specs.Ordering.{nat_cmp, match_ordering}
+use Rattle.std.proofs.lemmas.Bool.Decides.{nat_tests}
+use Rattle.std.proofs.lemmas.Bool.{cases_eq, cases_order}
+use Rattle.xt_base.specs.Maps.{at, put, without, is_in}
+use Rattle.xt_base.specs.Places.{place, spot}
+
+differ : (a b : ℕ) → a ≡ b → b < a → ⊥
+differ a b e h = omega arith
+
+shorter : (p n : ℕ) → suc p < suc n → p < n
+shorter p n h = omega arith
+
+longer : (n p : ℕ) → suc n ≤ suc p → n ≤ p
+longer n p h = omega arith
+
+none_left : (n p : ℕ) → p ≡ 0 → suc n ≤ p → ⊥
+none_left n p e h = omega arith
+
+module _ {V : Type 0} where
+  -- one entry of `put`, by how its key stands
+  pub put_less : (k : ℕ) (v : V) (e : ℕ × V) (es : List (ℕ × V)) → k < e.0 → put k v (e ∷ es) ≡ (k, v) ∷ e ∷ es
+  put_less k v e es h = grind (arith, nat_tests)
+
+  pub put_same : (k : ℕ) (v : V) (e : ℕ × V) (es : List (ℕ × V)) → k ≡ e.0 → put k v (e ∷ es) ≡ (k, v) ∷ es
+  put_same k v e es h = grind (arith, nat_tests)
+
+  pub put_more : (k : ℕ) (v : V) (e : ℕ × V) (es : List (ℕ × V)) → e.0 < k → put k v (e ∷ es) ≡ e ∷ put k v es
+  put_more k v e es h = grind (arith, nat_tests)
+
+  -- the place, by how the first key stands
+  place_low : (k : ℕ) (e : ℕ × V) (es : List (ℕ × V)) → e.0 < k → place k (e ∷ es) ≡ suc (place k es)
+  place_low k e es h = grind (arith, nat_tests)
+
+  place_here : (k : ℕ) (e : ℕ × V) (es : List (ℕ × V)) → k ≤ e.0 → place k (e ∷ es) ≡ 0
+  place_here k e es h = grind (arith, nat_tests)
+
+  -- a new key goes in at its place
+  insert_is : (k : ℕ) (v : V) (m : List (ℕ × V)) (d : ℕ × V) (p : ℕ) → p ≡ place k m → (p < length m → (get_or m p d).0 ≢ k) → insert {X = ℕ × V} m p (k, v) ≡ put k v m
+  insert_is k v [] d p is new = subst (λ n. insert {X = ℕ × V} [] n (k, v) ≡ (k, v) ∷ []) (sym is) refl
+  insert_is k v (e ∷ es) d p is new =
+      elim (cases_order k e.0) [
+        | inl same ↦ absurd (subst (λ n. n < length (e ∷ es) → (get_or (e ∷ es) n d).0 ≢ k) (is ∙ place_here k e es (omega arith)) new (omega arith) (sym same))
+        | inr (inl lt) ↦ subst (λ n. insert {X = ℕ × V} (e ∷ es) n (k, v) ≡ put k v (e ∷ es)) (sym (is ∙ place_here k e es (omega arith))) (sym (put_less k v e es lt))
+        | inr (inr gt) ↦ subst (λ n. insert {X = ℕ × V} (e ∷ es) n (k, v) ≡ put k v (e ∷ es)) (sym (is ∙ place_low k e es gt))
+            (ap (λ xs. e ∷ xs) (insert_is k v es d (place k es) refl (λ h. subst (λ n. n < length (e ∷ es) → (get_or (e ∷ es) n d).0 ≢ k) (is ∙ place_low k e es gt) new (omega arith)))
+            ∙ sym (put_more k v e es gt))
+      ]
+
+  pub put_new : (k : ℕ) (v : V) (m : List (ℕ × V)) (d : ℕ × V) → (place k m < length m → (get_or m (place k m) d).0 ≢ k) → insert {X = ℕ × V} m (place k m) (k, v) ≡ put k v m
+  put_new k v m d new = insert_is k v m d (place k m) refl new
+
+  -- an entry is written where its key stands
+  set_is : (k : ℕ) (v : V) (m : List (ℕ × V)) (d : ℕ × V) (p : ℕ) → p ≡ place k m → p < length m → (get_or m p d).0 ≡ k → set {A = ℕ × V} m p (k, v) ≡ put k v m
+  set_is k v [] d p is lt here = absurd (omega arith)
+  set_is k v (e ∷ es) d p is lt here =
+      elim (cases_order k e.0) [
+        | inl same ↦ subst (λ n. set {A = ℕ × V} (e ∷ es) n (k, v) ≡ put k v (e ∷ es)) (sym (is ∙ place_here k e es (omega arith))) (sym (put_same k v e es same))
+        | inr (inl less) ↦ absurd (differ e.0 k (subst (λ n. (get_or (e ∷ es) n d).0 ≡ k) (is ∙ place_here k e es (omega arith)) here) less)
+        | inr (inr gt) ↦ subst (λ n. set {A = ℕ × V} (e ∷ es) n (k, v) ≡ put k v (e ∷ es)) (sym (is ∙ place_low k e es gt))
+            (ap (λ xs. e ∷ xs) (set_is k v es d (place k es) refl (shorter (place k es) (length es) (subst (λ n. n < length (e ∷ es)) (is ∙ place_low k e es gt) lt))
+            (subst (λ n. (get_or (e ∷ es) n d).0 ≡ k) (is ∙ place_low k e es gt) here)) ∙ sym (put_more k v e es gt))
+      ]
+
+  pub put_old : (k : ℕ) (v : V) (m : List (ℕ × V)) (d : ℕ × V) → place k m < length m → (get_or m (place k m) d).0 ≡ k → set {A = ℕ × V} m (place k m) (k, v) ≡ put k v m
+  put_old k v m d lt here = set_is k v m d (place k m) refl lt here
+
+  -- the spot, by whether the first key is k
+  spot_here : (k : ℕ) (e : ℕ × V) (es : List (ℕ × V)) → e.0 ≡ k → spot k (e ∷ es) ≡ 0
+  spot_here k e es h = grind (arith, nat_tests)
+
+  spot_later : (k : ℕ) (e : ℕ × V) (es : List (ℕ × V)) → e.0 ≢ k → spot k (e ∷ es) ≡ suc (spot k es)
+  spot_later k e es h = grind (arith, nat_tests)
+
+  pub at_here : (k : ℕ) (e : ℕ × V) (es : List (ℕ × V)) → e.0 ≡ k → at k (e ∷ es) ≡ Some e.1
+  at_here k e es h = grind (arith, nat_tests)
+
+  pub at_later : (k : ℕ) (e : ℕ × V) (es : List (ℕ × V)) → e.0 ≢ k → at k (e ∷ es) ≡ at k es
+  at_later k e es h = grind (arith, nat_tests)
+
+  pub without_here : (k : ℕ) (e : ℕ × V) (es : List (ℕ × V)) → e.0 ≡ k → without k (e ∷ es) ≡ es
+  without_here k e es h = grind (arith, nat_tests)
+
+  pub without_later : (k : ℕ) (e : ℕ × V) (es : List (ℕ × V)) → e.0 ≢ k → without k (e ∷ es) ≡ e ∷ without k es
+  without_later k e es h = grind (arith, nat_tests)
+
+  -- what the map has stands at the key's spot
+  found_is : (k : ℕ) (m : List (ℕ × V)) (d : ℕ × V) (p : ℕ) → p ≡ spot k m → p < length m → (at k m ≡ Some (get_or m p d).1) × (remove m p ≡ without k m)
+  found_is k [] d p is lt = absurd (omega arith)
+  found_is k (e ∷ es) d p is lt =
+      elim (cases_eq e.0 k) [
+        | inl same ↦ subst (λ n. (at k (e ∷ es) ≡ Some (get_or (e ∷ es) n d).1) × (remove (e ∷ es) n ≡ without k (e ∷ es))) (sym (is ∙ spot_here k e es same)) (at_here k e es same, sym (without_here k e es same))
+        | inr other ↦ let rest = found_is k es d (spot k es) refl (shorter (spot k es) (length es) (subst (λ n. n < length (e ∷ es)) (is ∙ spot_later k e es other) lt)) in
+            subst (λ n. (at k (e ∷ es) ≡ Some (get_or (e ∷ es) n d).1) × (remove (e ∷ es) n ≡ without k (e ∷ es))) (sym (is ∙ spot_later k e es other))
+            (at_later k e es other ∙ rest.0, ap (λ xs. e ∷ xs) rest.1 ∙ sym (without_later k e es other))
+      ]
+
+  pub found : (k : ℕ) (m : List (ℕ × V)) (d : ℕ × V) → spot k m < length m → (at k m ≡ Some (get_or m (spot k m) d).1) × (remove m (spot k m) ≡ without k m)
+  found k m d lt = found_is k m d (spot k m) refl lt
+
+  -- and nothing where there is none
+  missing_is : (k : ℕ) (m : List (ℕ × V)) (p : ℕ) → p ≡ spot k m → length m ≤ p → (at k m ≡ None) × (without k m ≡ m)
+  missing_is k [] p is le = (refl, refl)
+  missing_is k (e ∷ es) p is le =
+      elim (cases_eq e.0 k) [
+        | inl same ↦ absurd (none_left (length es) p (is ∙ spot_here k e es same) le)
+        | inr other ↦ let rest = missing_is k es (spot k es) refl (longer (length es) (spot k es) (subst (λ n. length (e ∷ es) ≤ n) (is ∙ spot_later k e es other) le)) in
+            (at_later k e es other ∙ rest.0, without_later k e es other ∙ ap (λ xs. e ∷ xs) rest.1)
+      ]
+
+  pub missing : (k : ℕ) (m : List (ℕ × V)) → length m ≤ spot k m → (at k m ≡ None) × (without k m ≡ m)
+  missing k m le = missing_is k m (spot k m) refl le
+
+  -- the same of an element that was read there
+  pub value_found : (k : ℕ) (m : List (ℕ × V)) (p : ℕ) (e : ℕ × V) → p ≡ spot k m → p < length m → e ≡ get_or m p e → Some e.1 ≡ at k m
+  value_found k m p e is lt here = ap (λ x. Some x.1) here ∙ sym (found_is k m e p is lt).0
+
+  pub rest_found : (k : ℕ) (m n : List (ℕ × V)) (p : ℕ) (e : ℕ × V) → p ≡ spot k m → p < length m → n ≡ remove m p → n ≡ without k m
+  rest_found k m n p e is lt left = left ∙ (found_is k m e p is lt).1
+
+  pub value_missing : (k : ℕ) (m : List (ℕ × V)) (p : ℕ) → p ≡ spot k m → length m ≤ p → None ≡ at k m
+  value_missing k m p is le = sym (missing_is k m p is le).0
+
+  pub rest_missing : (k : ℕ) (m : List (ℕ × V)) (p : ℕ) → p ≡ spot k m → length m ≤ p → m ≡ without k m
+  rest_missing k m p is le = sym (missing_is k m p is le).1
+
+  pub put_found : (k : ℕ) (v : V) (m : List (ℕ × V)) (p : ℕ) (e : ℕ × V) → p ≡ place k m → p < length m → e ≡ get_or m p e → e.0 ≡ k → set {A = ℕ × V} m p (k, v) ≡ put k v m
+  put_found k v m p e is lt here same = set_is k v m e p is lt (ap (λ (x : ℕ × V). x.0) (sym here) ∙ same)
+
+  pub put_there : (k : ℕ) (v : V) (m n : List (ℕ × V)) (p : ℕ) (e : ℕ × V) → p ≡ place k m → n ≡ insert {X = ℕ × V} m p (k, v) → e ≡ get_or m p e → e.0 ≢ k → n ≡ put k v m
+  put_there k v m n p e is left here other = left ∙ insert_is k v m e p is (λ h same. other (ap (λ (x : ℕ × V). x.0) here ∙ same))
+
+  pub put_last : (k : ℕ) (v : V) (m n : List (ℕ × V)) (p : ℕ) → p ≡ place k m → n ≡ insert {X = ℕ × V} m p (k, v) → length m ≤ p → n ≡ put k v m
+  put_last k v m n p is left le = left ∙ insert_is k v m (k, v) p is (λ h. absurd (omega arith))

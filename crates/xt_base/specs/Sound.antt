@@ -1,0 +1,96 @@
+-- What holds of every mount: its log space is within the log, at most 64 blocks are busy, its maps rise, and what is granted covers what is changed.
+use Rattle.std.specs.Prelude.{Bool, List, None, Option, Some, [], false, is_none, is_some, length, suc, sum_by, true, ℕ, ◌+◌, ◌<◌, ◌∷◌, ◌≡◌, ◌≤◌}
+use Rattle.xt_base.specs.Legs.{own_count}
+use Rattle.xt_base.specs.Maps.{at, has, is_in}
+use Rattle.xt_base.specs.Space.{charge, cost, count_beside, flight_items, granted, greatest, is_busy, is_listed}
+use Rattle.xt_base.specs.State.{Change, Flight, Frames, Items, Jobs, State, Transaction}
+use Rattle.xt_base.specs.declared.steps.Owner.{Owner}
+
+module _ {V : Type 0} where
+  -- the keys rise, the first from n on
+  abbrev pub RisesFrom : ℕ → List (ℕ × V) → Type 0
+  RisesFrom n [] = Unit {0}
+  RisesFrom n (e ∷ es) = (n ≤ e.0) × RisesFrom (suc e.0) es
+
+  -- the keys rise
+  abbrev pub IsRising : List (ℕ × V) → Type 0
+  IsRising m = RisesFrom 0 m
+
+  -- a fact of each element
+  abbrev pub Each : (V → Type 0) → List V → Type 0
+  Each P [] = Unit {0}
+  Each P (e ∷ es) = P e × Each P es
+
+-- the numbers rise, the first from n on
+abbrev pub RisesFromKeys : ℕ → List ℕ → Type 0
+RisesFromKeys n [] = Unit {0}
+RisesFromKeys n (k ∷ ks) = (n ≤ k) × RisesFromKeys (suc k) ks
+
+-- each chunk marked in a block was charged
+abbrev pub IsCovered : ℕ × Change → Type 0
+IsCovered e = (k : ℕ) → has e.1.marks k ≡ true → has e.1.charged k ≡ true
+
+-- the transaction has a block
+abbrev pub Owns : List (ℕ × Owner) → ℕ → ℕ → Type 0
+Owns owners t b = is_some (own_count t (at b owners)) ≡ true
+
+-- a leg of an open transaction is charged within its unit, what it marked was charged, and it owns what it changed
+pub record IsFair (owners : List (ℕ × Owner)) (e : ℕ × Transaction) : Type 0 where
+  pub unit : charge e.1.leg.changes ≤ e.1.unit
+  pub rising : IsRising e.1.leg.changes
+  pub covered : Each IsCovered e.1.leg.changes
+  pub owned : Each (λ c. Owns owners e.0 c.0) e.1.leg.changes
+
+-- each landed checkpoint has a number below n
+abbrev pub AllBelow : ℕ → List (ℕ × ℕ) → Type 0
+AllBelow n landed = Each (λ e. e.0 < n) landed
+
+-- the checkpoint in flight comes after the landed ones and before the open one
+abbrev pub IsBetween : Option Flight → Items → Type 0
+IsBetween None l = Unit {0}
+IsBetween (Some f) l = (f.number < l.open_number) × AllBelow f.number l.landed
+
+-- what holds of a log of so many bytes, the owners, the open transactions and the item lists
+pub record AreSound (log_bytes : ℕ) (owners : List (ℕ × Owner)) (transactions : List (ℕ × Transaction)) (l : Items) : Type 0 where
+  pub space : granted transactions + cost l.cil + cost (flight_items l.flight) + sum_by (λ e. e.1) l.landed ≤ log_bytes
+  pub busy : length owners + count_beside owners l ≤ 64
+  pub owners_rise : IsRising owners
+  pub transactions_rise : IsRising transactions
+  pub cil_rises : IsRising l.cil
+  pub flight_rises : IsRising (flight_items l.flight)
+  pub ail_rises : IsRising l.ail
+  pub landed_rises : IsRising l.landed
+  pub landed_below : AllBelow l.open_number l.landed
+  pub flying : IsBetween l.flight l
+  pub fair : Each (IsFair owners) transactions
+
+-- what holds of the frames: contents and fresh marks are of busy blocks
+pub record AreKept (busy : ℕ → Bool) (frames : Frames) : Type 0 where
+  pub committed_rises : IsRising frames.committed
+  pub committed_busy : Each (λ e. busy e.0 ≡ true) frames.committed
+  pub fresh_rises : RisesFromKeys 0 frames.fresh
+  pub fresh_busy : Each (λ b. busy b ≡ true) frames.fresh
+
+-- a checkpoint that is outstanding and not begun has something to write, and a number is left for the list after it
+pub record IsReady (l : Items) (j : Jobs) : Type 0 where
+  pub numbered : 1 ≤ l.open_number
+  pub bounded : l.open_number ≤ greatest
+  pub worth : is_some j.ckpt ≡ true → is_none l.flight ≡ true → 0 < length l.cil
+  pub room : is_some j.ckpt ≡ true → is_none l.flight ≡ true → l.open_number < greatest
+
+-- a block that somebody has, on no list, which no open transaction changed
+pub record IsUnwritten (owners : List (ℕ × Owner)) (transactions : List (ℕ × Transaction)) (l : Items) (b : ℕ) : Type 0 where
+  pub owned : is_in b owners ≡ true
+  pub unlisted : is_listed l b ≡ false
+  pub unchanged : Each (λ e. is_in b e.1.leg.changes ≡ false) transactions
+
+-- what holds of every mount
+pub record IsSound (s : State) : Type 0 where
+  pub log_small : s.log_bytes ≤ 16777216
+  pub parts : AreSound s.log_bytes s.owners s.transactions s.items
+  pub kept : AreKept (is_busy s) s.frames
+  pub ready : IsReady s.items s.jobs
+  -- on a live mount each open transaction has a leg left, so that its grant covers its charge; where one is shut, nothing that was changed is committed
+  pub legs_left : is_none s.shut ≡ true → Each (λ e. 1 ≤ e.1.legs) s.transactions
+  -- on a live mount; where one is shut, a leg that was given up may leave a listed block fresh
+  pub fresh_owned : is_none s.shut ≡ true → Each (IsUnwritten s.owners s.transactions s.items) s.frames.fresh

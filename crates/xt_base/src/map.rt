@@ -1,0 +1,157 @@
+//! A finite map from numbers, for a mount's small tables.
+
+ghost use Rattle.std.specs.Prelude.{◌≡◌, ◌+◌, ◌≤◌, ◌<◌, ◌==◌, ◌∷◌, ◌++◌, [], length, take, drop, slice_get, IfOk, IfSome, MatchOption, option_copied};
+ghost use Rattle.xt_base.specs.Maps.{at, is_in, put as with_entry, without};
+ghost use Rattle.xt_base.specs.Places.{place, spot};
+
+use std::alloc::{AllocError, Global};
+use std::marker::Model;
+
+/// For how many entries a map has room from the start. A mount has at most 64 busy blocks and 32 open
+/// transactions; the room is twice 64, so that a list may take in another one before what it replaces leaves.
+pub const ROOM: usize = 128;
+
+/// A map from numbers with room for 128 entries, made once: to put an entry takes no memory.
+/// Clauses see the list of its entries by rising key.
+#[derive(Debug, Drop)]
+pub struct NumberMap<V> {
+    entries: Vec<(u64, V)>,
+}
+
+impl<V> Model for NumberMap<V> {
+    ghost use Rattle.std.specs.Prelude.{List, ℕ, ◌≤◌, length, vec_capacity};
+
+    ghost Value = { List (ℕ × V) };
+
+    ghost view = { λ m. m.entries.items };
+
+    ghost invariant = { λ m. (length m.entries.items ≤ 128) × (128 ≤ vec_capacity m.entries) };
+}
+
+impl<V> NumberMap<V> {
+    /// An empty map. The one error is want of memory.
+    pub fn new(alloc: Global) -> Result<Self, AllocError>
+        ensures { IfOk result (λ map. map ≡ []) }
+    {
+        let entries = Vec::with_capacity(alloc, ROOM)?;
+        Ok(NumberMap { entries })
+    }
+
+    /// Its entries, by rising key.
+    pub fn entries(&self) -> &[(u64, V)]
+        ensures value { result.now ≡ self.now }
+        ensures small { length result.now ≤ 128 }
+    {
+        &self.entries
+    }
+
+    /// How many entries it has.
+    pub fn len(&self) -> usize
+        ensures value { result ≡ length self.now }
+        ensures small { result ≤ 128 }
+    {
+        self.entries.len()
+    }
+
+    /// Whether it has none.
+    pub fn is_empty(&self) -> bool
+        ensures { result ≡ (length self.now == 0) }
+    {
+        self.entries.len() == 0
+    }
+
+    /// What it has at a key.
+    pub fn get(&self, key: u64) -> Option<&V>
+        ensures { option_copied result ≡ at key self.now }
+    {
+        let found = spot_of(&self.entries, key);
+        if found < self.entries.len() {
+            Some(&self.entries[found].1)
+        } else {
+            None
+        }
+    }
+
+    /// Whether it has a key.
+    pub fn contains(&self, key: u64) -> bool
+        ensures { result ≡ is_in key self.now }
+    {
+        self.get(key).is_some()
+    }
+
+    /// Puts a value at a key, which may be new. It takes no memory.
+    pub fn put(&mut self, key: u64, value: V)
+    where
+        V: Drop,
+        requires { length self.old < 128 }
+        ensures { self.new ≡ with_entry key value self.old }
+    {
+        let at = place_of(&self.entries, key);
+        if at < self.entries.len() && self.entries[at].0 == key {
+            self.entries[at] = (key, value);
+        } else {
+            self.entries.insert(at, (key, value)).unwrap();
+        }
+    }
+
+    /// Takes the entry of a key away.
+    pub fn remove(&mut self, key: u64) -> Option<V>
+        ensures value { result ≡ at key self.old }
+        ensures rest { self.new ≡ without key self.old }
+        ensures room { IfSome result (λ _. length self.new < 128) }
+    {
+        let found = spot_of(&self.entries, key);
+        if found < self.entries.len() {
+            let (_, value) = self.entries.remove(found);
+            Some(value)
+        } else {
+            None
+        }
+    }
+
+    /// Takes the entry of the least key.
+    pub fn pop_first(&mut self) -> Option<(u64, V)>
+        ensures { MatchOption result ((self.old ≡ []) × (self.new ≡ [])) (λ e. self.old ≡ e ∷ self.new) }
+    {
+        if self.entries.is_empty() {
+            None
+        } else {
+            Some(self.entries.remove(0))
+        }
+    }
+
+    /// Takes the entry at a place among the entries.
+    pub fn remove_at(&mut self, index: usize) -> (u64, V)
+        requires { index < length self.old }
+        ensures value { slice_get self.old index ≡ Some result }
+        ensures rest { self.new ≡ take index self.old ++ drop (index + 1) self.old }
+    {
+        self.entries.remove(index)
+    }
+}
+
+/// How many entries stand before the first whose key is not below `key`.
+fn place_of<V>(entries: &[(u64, V)], key: u64) -> usize
+    ensures value { result ≡ place key entries.now }
+    ensures range { result ≤ length entries.now }
+{
+    for (i, e) in entries.iter().enumerate() {
+        if e.0 >= key {
+            return i;
+        }
+    }
+    entries.len()
+}
+
+/// How many entries stand before the first whose key is `key`; all, where there is none.
+pub fn spot_of<V>(entries: &[(u64, V)], key: u64) -> usize
+    ensures value { result ≡ spot key entries.now }
+    ensures range { result ≤ length entries.now }
+{
+    for (i, e) in entries.iter().enumerate() {
+        if e.0 == key {
+            return i;
+        }
+    }
+    entries.len()
+}

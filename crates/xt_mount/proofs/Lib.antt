@@ -1,0 +1,6 @@
+pub mod EntryLemmas
+pub mod ChangeLemmas
+pub mod FrameLemmas
+pub mod LandedLemmas
+pub mod SettleLemmas
+pub mod KeepLemmas

@@ -1,0 +1,5 @@
+pub mod Layers
+pub mod Changes
+pub mod Lists
+pub mod Machines
+pub mod Settling

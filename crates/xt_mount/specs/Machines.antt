@@ -1,0 +1,19 @@
+-- A machine, as the definitions have one life of a slot.
+use Rattle.xt_base.specs.State.{State}
+use Rattle.xt_mount.specs.declared.machine.Machine.{Machine}
+
+-- its parts, side by side
+abbrev pub state_of : Machine → State
+state_of m = record {
+  slot = m.slot;
+  life = m.life;
+  log_bytes = m.log_bytes;
+  blocks = m.blocks;
+  frames = m.frames;
+  owners = m.locks;
+  transactions = m.transactions;
+  last_trans = m.last_trans;
+  items = m.items;
+  jobs = m.jobs;
+  shut = m.shut;
+}

@@ -1,0 +1,315 @@
+//! The item lists: committed items, the flight, the active list, and what landed checkpoints cost.
+
+ghost use Rattle.std.specs.Prelude.{◌≡◌, ◌+◌, ◌<◌, ◌≤◌, ◌==◌, [], ◌∷◌, length, not, sum_by, Some, None, true, is_some, is_none, unwrap_or, if◌then◌else◌, IfOk, IfSome, OnOk, OnErr};
+ghost use Rattle.xt_base.specs.Chunks.{union};
+ghost use Rattle.xt_base.specs.Maps.{at, is_in, put, without};
+ghost use Rattle.xt_base.specs.Space.{cost, flight_items, is_listed, is_needed, still_needed};
+ghost use Rattle.xt_base.specs.Jobs.{activated, flight_pieces, landed_items};
+ghost use Rattle.xt_base.specs.Sound.{IsRising, AllBelow};
+ghost use Rattle.xt_mount.specs.Lists.{no_items, flight_number, is_front_unneeded};
+
+use bytes::Bytes;
+use std::alloc::{AllocError, Global};
+use std::collections::VecDeque;
+use std::marker::Model;
+use std::mem;
+use xt_base::chunks::Chunks;
+use xt_base::map::NumberMap;
+
+/// A checkpoint that is being written: its number, its items, and the pieces of its text.
+#[derive(Debug, Drop)]
+pub struct Flight {
+    number: u64,
+    items: NumberMap<Chunks>,
+    pieces: Vec<Bytes>,
+}
+
+impl Model for Flight {
+    ghost use Rattle.xt_base.specs.State.{Flight as FlightValue};
+
+    ghost Value = { FlightValue };
+
+    ghost view = { λ f. record { number = f.number; items = f.items; pieces = f.pieces.items } };
+}
+
+/// The lists of items of a mount (commit list, checkpoint in flight, active list), and the costs of
+/// landed checkpoints that still count, with their total.
+#[derive(Debug, Drop)]
+pub struct Items {
+    open_number: u64,
+    cil: NumberMap<Chunks>,
+    flight: Option<Flight>,
+    ail: NumberMap<u64>,
+    landed: VecDeque<(u64, u64)>,
+    landed_total: u64,
+}
+
+impl Model for Items {
+    ghost use Rattle.std.specs.Prelude.{◌≡◌, ◌<◌, sum_by, is_some, true};
+    ghost use Rattle.std.specs.VecDeque.{deque_len, deque_capacity};
+    ghost use Rattle.xt_base.specs.State.{Items as ItemsValue};
+
+    ghost Value = { ItemsValue };
+
+    ghost view = { λ l. record { open_number = l.open_number; cil = l.cil; flight = l.flight; ail = l.ail; landed = l.landed.items } };
+
+    ghost invariant = { λ l. (l.landed_total ≡ sum_by (λ e. e.1) l.landed.items) × (is_some l.flight ≡ true → deque_len l.landed < deque_capacity l.landed) };
+}
+
+impl Items {
+    /// Empty lists; the open checkpoint has number 1. The one error is want of memory.
+    pub fn new(alloc: Global) -> Result<Self, AllocError>
+        ensures { IfOk result (λ items. items ≡ no_items) }
+    {
+        let cil = NumberMap::new(alloc)?;
+        let ail = NumberMap::new(alloc)?;
+        Ok(Items {
+            open_number: 1,
+            cil,
+            flight: None,
+            ail,
+            landed: VecDeque::new(alloc),
+            landed_total: 0,
+        })
+    }
+
+    /// The number of the open checkpoint.
+    pub fn open_number(&self) -> u64
+        ensures { result ≡ self.now.open_number }
+    {
+        self.open_number
+    }
+
+    /// The committed items, by rising block.
+    pub fn cil(&self) -> &[(u64, Chunks)]
+        ensures value { result.now ≡ self.now.cil }
+        ensures small { length result.now ≤ 128 }
+    {
+        self.cil.entries()
+    }
+
+    /// The items in flight, by rising block; none where nothing is in flight.
+    pub fn is_in_flight(&self, block: u64) -> bool
+        ensures { result ≡ is_in block (flight_items self.now.flight) }
+    {
+        match &self.flight {
+            Some(flight) => flight.items.contains(block),
+            None => false,
+        }
+    }
+
+    /// Whether a block is on the commit list.
+    pub fn is_committed(&self, block: u64) -> bool
+        ensures { result ≡ is_in block self.now.cil }
+    {
+        self.cil.contains(block)
+    }
+
+    /// Whether a block is on a list.
+    pub fn is_listed(&self, block: u64) -> bool
+        ensures { result ≡ is_listed self.now block }
+    {
+        self.is_committed(block) || self.is_in_flight(block) || self.ail.contains(block)
+    }
+
+    /// Whether a checkpoint is in flight.
+    pub fn is_flying(&self) -> bool
+        ensures { result ≡ is_some self.now.flight }
+    {
+        self.flight.is_some()
+    }
+
+    /// The number of the checkpoint in flight.
+    pub fn flight_number(&self) -> Option<u64>
+        ensures { result ≡ flight_number self.now.flight }
+    {
+        match &self.flight {
+            Some(flight) => Some(flight.number),
+            None => None,
+        }
+    }
+
+    /// The active list: each block with the number of its checkpoint.
+    pub fn ail(&self) -> &[(u64, u64)]
+        ensures value { result.now ≡ self.now.ail }
+        ensures small { length result.now ≤ 128 }
+    {
+        self.ail.entries()
+    }
+
+    /// The items in flight, by rising block.
+    pub fn flight_items(&self) -> Option<&[(u64, Chunks)]>
+        ensures some { IfSome result (λ items. (items.now ≡ flight_items self.now.flight) × (length items.now ≤ 128)) }
+        ensures none { is_some result ≡ is_some self.now.flight }
+    {
+        match &self.flight {
+            Some(flight) => Some(flight.items.entries()),
+            None => None,
+        }
+    }
+
+    /// The pieces of the flight's text; none where nothing is in flight.
+    pub fn pieces(&self) -> &[Bytes]
+        ensures { result.now ≡ flight_pieces self.now.flight }
+    {
+        match &self.flight {
+            Some(flight) => &flight.pieces,
+            None => &[],
+        }
+    }
+
+    /// Marks of a commit are joined to those of the block's item. It takes no memory.
+    pub fn mark(&mut self, block: u64, marks: Chunks)
+        requires { length self.old.cil < 128 }
+        ensures { self.new ≡ record self.old { cil = put block (union (unwrap_or (at block self.old.cil) []) marks) self.old.cil } }
+    {
+        let before = self.cil.get(block).copied().unwrap_or(Chunks::none());
+        self.cil.put(block, before.union(marks));
+    }
+
+    /// The cost of the commit list: the length of its checkpoint text.
+    pub fn cil_cost(&self) -> u64
+        ensures value { result ≡ cost self.now.cil }
+        ensures range { result ≤ 526368 }
+    {
+        cost_of(self.cil.entries())
+    }
+
+    /// The cost of the flight; 0 where nothing is in flight.
+    pub fn flight_cost(&self) -> u64
+        ensures value { result ≡ cost (flight_items self.now.flight) }
+        ensures range { result ≤ 526368 }
+    {
+        match &self.flight {
+            Some(flight) => cost_of(flight.items.entries()),
+            None => 0,
+        }
+    }
+
+    /// What landed checkpoints cost, as far as they still count.
+    pub fn landed_cost(&self) -> u64
+        ensures { result ≡ sum_by (λ e. e.1) self.now.landed }
+    {
+        self.landed_total
+    }
+
+    /// The committed items become the flight, with these pieces, and the next number opens.
+    /// Where memory is refused nothing changes. Room for the landing is made here.
+    pub fn fly(&mut self, alloc: Global, pieces: Vec<Bytes>) -> Result<(), AllocError>
+        requires none { is_none self.old.flight ≡ true }
+        requires number { self.old.open_number < 18446744073709551615 }
+        ensures ok { OnOk result (self.new ≡ record self.old {
+            open_number = self.old.open_number + 1;
+            cil = [];
+            flight = Some (record { number = self.old.open_number; items = self.old.cil; pieces = pieces.items });
+        }) }
+        ensures err { OnErr result (self.new ≡ self.old) }
+    {
+        let cil = NumberMap::new(alloc)?;
+        self.landed.reserve(1)?;
+        let items = mem::replace(&mut self.cil, cil);
+        self.flight = Some(Flight {
+            number: self.open_number,
+            items,
+            pieces,
+        });
+        self.open_number += 1;
+        Ok(())
+    }
+
+    /// The flight has landed: cancelled blocks leave the active list, each other block goes there unless it
+    /// is there, and the cost of the flight counts as landed. It takes no memory.
+    pub fn land(&mut self)
+        requires flying { is_some self.old.flight ≡ true }
+        requires rising { IsRising self.old.landed }
+        requires below { IfSome self.old.flight (λ f. AllBelow f.number self.old.landed) }
+        requires room { length self.old.ail + length (flight_items self.old.flight) ≤ 128 }
+        requires small { cost (flight_items self.old.flight) + sum_by (λ e. e.1) self.old.landed ≤ 16777216 }
+        ensures { IfSome self.old.flight (λ f. self.new ≡ landed_items f self.old) }
+    {
+        if let Some(flight) = self.flight.take() {
+            let price = cost_of(flight.items.entries());
+            activate(&mut self.ail, flight.number, flight.items.entries());
+            self.landed.push_back((flight.number, price)).unwrap();
+            self.landed_total += price;
+            prune(&mut self.landed, &mut self.landed_total, &self.ail);
+        }
+    }
+
+    /// The flight is given up.
+    pub fn fail(&mut self)
+        ensures { self.new ≡ record self.old { flight = None } }
+    {
+        self.flight = None;
+    }
+}
+
+/// The cost of a list of items: 0 where it is empty, else 32, and 16 and 128 for each chunk of each item.
+fn cost_of(items: &[(u64, Chunks)]) -> u64
+    requires { length items.now ≤ 128 }
+    ensures value { result ≡ cost items.now }
+    ensures range { result ≤ 526368 }
+{
+    if items.is_empty() {
+        return 0;
+    }
+    let mut sum = 32;
+    for e in items {
+        sum += 16 + 128 * e.1.count() as u64;
+    }
+    sum
+}
+
+/// Cancelled blocks leave the active list, and each other block goes there unless it is there.
+fn activate(ail: &mut NumberMap<u64>, number: u64, items: &[(u64, Chunks)])
+    requires { length ail.old + length items.now ≤ 128 }
+    ensures { ail.new ≡ activated number items.now ail.old }
+{
+    for e in items {
+        activate_one(ail, number, e.0, e.1);
+    }
+}
+
+/// The same for one item.
+fn activate_one(ail: &mut NumberMap<u64>, number: u64, block: u64, chunks: Chunks)
+    requires { length ail.old < 128 }
+    ensures list { ail.new ≡ (if length chunks == 0 then without block ail.old else (if is_in block ail.old then ail.old else put block number ail.old)) }
+    ensures count { length ail.new ≤ length ail.old + 1 }
+{
+    if chunks.is_empty() {
+        let _left = ail.remove(block);
+    } else if !ail.contains(block) {
+        ail.put(block, number);
+    }
+}
+
+/// Gives up the costs of checkpoints that are older than each block of the active list.
+fn prune(landed: &mut VecDeque<(u64, u64)>, total: &mut u64, ail: &NumberMap<u64>)
+    requires rising { IsRising landed.old.items }
+    requires total { total.old ≡ sum_by (λ e. e.1) landed.old.items }
+    ensures landed { landed.new.items ≡ still_needed ail.now landed.old.items }
+    ensures total { total.new ≡ sum_by (λ e. e.1) landed.new.items }
+{
+    while is_front_unneeded(landed, ail) {
+        if let Some((_, price)) = landed.pop_front() {
+            *total -= price;
+        }
+    }
+}
+
+/// Whether there is a first checkpoint, and it is older than each block of the active list.
+fn is_front_unneeded(landed: &VecDeque<(u64, u64)>, ail: &NumberMap<u64>) -> bool
+    ensures { result ≡ is_front_unneeded ail.now landed.now.items }
+{
+    match landed.front() {
+        Some(front) => !is_needed(ail, front.0),
+        None => false,
+    }
+}
+
+/// Whether a checkpoint is no older than some block of the active list.
+fn is_needed(ail: &NumberMap<u64>, number: u64) -> bool
+    ensures { result ≡ is_needed ail.now number }
+{
+    ail.entries().iter().any(|e| e.1 <= number)
+}

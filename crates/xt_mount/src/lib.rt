@@ -1,0 +1,14 @@
+//! One mount, step by step: transactions over locked buffers, the committed item list, checkpoints.
+#![tactic(auto)]
+
+mod alloc;
+mod frames;
+mod get;
+mod items;
+mod jobs;
+mod locks;
+mod log;
+mod machine;
+mod settle;
+mod space;
+mod trans;

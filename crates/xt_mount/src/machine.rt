@@ -1,0 +1,128 @@
+//! The parts of a mount, and what several requests ask of them.
+
+ghost use Rattle.std.specs.Prelude.{◌≡◌, ◌+◌, ◌<◌, ◌≤◌, is_some, IfOk};
+ghost use Rattle.xt_base.specs.Calls.{asks_ckpt, asks_flush, is_elsewhere, is_own};
+ghost use Rattle.xt_base.specs.Space.{busy_count, is_busy, used};
+ghost use Rattle.xt_base.specs.Sound.{IsSound};
+ghost use Rattle.xt_base.specs.State.{mount_of};
+ghost use Rattle.xt_mount.specs.Machines.{state_of};
+
+use crate::frames::Frames;
+use crate::items::Items;
+use crate::jobs::JobTable;
+use crate::locks::Locks;
+use crate::space::{beside_ail, beside_cil, beside_flight, granted};
+use crate::trans::TransRec;
+use std::alloc::{AllocError, Global};
+use xt_base::map::NumberMap;
+use xt_base::names::{Life, Slot};
+use xt_base::steps::Reason;
+
+/// One life of a slot: the layers side by side.
+#[derive(Debug, Drop)]
+pub struct Machine {
+    pub alloc: Global,
+    pub slot: Slot,
+    pub life: Life,
+    pub log_bytes: u32,
+    pub blocks: u64,
+    pub frames: Frames,
+    pub locks: Locks,
+    pub transactions: NumberMap<TransRec>,
+    pub last_trans: u64,
+    pub items: Items,
+    pub jobs: JobTable,
+    pub shut: Option<Reason>,
+}
+
+impl Machine {
+    /// A new mount. The one error is want of memory.
+    pub fn new(alloc: Global, slot: Slot, life: Life, log_bytes: u32, blocks: u64) -> Result<Self, AllocError>
+        ensures { IfOk result (λ machine. state_of machine ≡ mount_of slot life log_bytes blocks) }
+    {
+        let frames = Frames::new(alloc)?;
+        let locks = Locks::new(alloc)?;
+        let transactions = NumberMap::new(alloc)?;
+        let items = Items::new(alloc)?;
+        Ok(Machine {
+            alloc,
+            slot,
+            life,
+            log_bytes,
+            blocks,
+            frames,
+            locks,
+            transactions,
+            last_trans: 0,
+            items,
+            jobs: JobTable::new(),
+            shut: None,
+        })
+    }
+
+    /// Whether the mount is shut.
+    pub fn is_shut(&self) -> bool
+        ensures { result ≡ is_some (state_of self.now).shut }
+    {
+        self.shut.is_some()
+    }
+
+    /// Whether a block is locked, held or on a list.
+    pub fn is_busy(&self, block: u64) -> bool
+        ensures { result ≡ is_busy (state_of self.now) block }
+    {
+        self.locks.is_locked(block) || self.items.is_listed(block)
+    }
+
+    /// How many blocks are busy.
+    pub fn busy_count(&self) -> usize
+        ensures { result ≡ busy_count (state_of self.now) }
+    {
+        self.locks.len()
+            + beside_cil(&self.locks, &self.items)
+            + beside_flight(&self.locks, &self.items)
+            + beside_ail(&self.locks, &self.items)
+    }
+
+    /// The log space in use.
+    pub fn used(&self) -> u64
+        requires { used (state_of self.now) ≤ 16777216 }
+        ensures { result ≡ used (state_of self.now) }
+    {
+        granted(self.transactions.entries())
+            + self.items.cil_cost()
+            + self.items.flight_cost()
+            + self.items.landed_cost()
+    }
+
+    /// Whether a transaction has a block.
+    pub fn is_own(&self, trans: u64, block: u64) -> bool
+        ensures { result ≡ is_own (state_of self.now) trans block }
+    {
+        self.locks.own_count(trans, block).is_some()
+    }
+
+    /// Whether somebody else has a block.
+    pub fn is_elsewhere(&self, trans: u64, block: u64) -> bool
+        ensures { result ≡ is_elsewhere (state_of self.now) trans block }
+    {
+        self.locks.is_locked(block) && !self.is_own(trans, block)
+    }
+
+    /// A checkpoint is asked, if there is something to write.
+    pub fn ask_ckpt(&mut self)
+        ensures { state_of self.new ≡ asks_ckpt (state_of self.old) }
+    {
+        if !self.items.cil().is_empty() {
+            self.jobs.ask_ckpt();
+        }
+    }
+
+    /// A checkpoint, if there is something to write, and a flush are asked.
+    pub fn ask_space(&mut self)
+        ensures { state_of self.new ≡ asks_flush (asks_ckpt (state_of self.old)) }
+    {
+        self.ask_ckpt();
+        self.jobs.ask_flush();
+    }
+}
