@@ -7,10 +7,11 @@ use Rattle.std.proofs.lemmas.Bool.{cases_eq, ne_eqb}
 use Rattle.std.proofs.lemmas.List.{append-nil, length-map, nil_from_length}
 use Rattle.std.proofs.lemmas.List.Elements.{recursion_from_All}
 use Rattle.xt_base.specs.Chunks.{places_of, word_of}
+use Rattle.xt_base.specs.Sound.{RisesFromKeys}
 use Rattle.xt_base.specs.Text.{item_text, pieces}
 use Rattle.xt_base.proofs.ChunkLemmas.{places_of-zero}
 use Rattle.xt_ckpt.specs.declared.item.Item.{Item}
-use Rattle.xt_ckpt.specs.Items.{item_bytes, checkpoint_text, HasForm, IsStored, RisesFrom, BlocksRise}
+use Rattle.xt_ckpt.specs.Items.{item_bytes, checkpoint_text, HasForm, IsStored, BlocksRise}
 use Rattle.xt_ckpt.proofs.Pieces.{concat_pieces}
 use Rattle.xt_ckpt.specs.Grammar.{Entry, entry, entries, IsItem, AreItems, IsText}
 
@@ -45,7 +46,7 @@ pub is_stored : (item : Item) (word : ℕ) → item.block < 2 ^ 64 → word < 2 
 is_stored item word range below is back = record { block = range; word = subst (λ w. w < 2 ^ 32) is below; back = ap places_of (sym is) ∙ back }
 
 -- the texts of items
-items_are : (least : ℕ) (items : List Item) → AllByRecursion IsStored items → AllByRecursion HasForm items → RisesFrom least (map (λ i. i.block) items) → AreItems least (flat_map item_bytes items) (entries items)
+items_are : (least : ℕ) (items : List Item) → AllByRecursion IsStored items → AllByRecursion HasForm items → RisesFromKeys least (map (λ i. i.block) items) → AreItems least (flat_map item_bytes items) (entries items)
 items_are least [] stored form rises = refl
 items_are least (i ∷ is) stored form rises =
     (item_bytes i, flat_map item_bytes is, refl, rises.0, item_is i.block i.chunks i.content.items stored.0.block stored.0.word stored.0.back form.0, items_are (suc i.block) is stored.1 form.1 rises.1)

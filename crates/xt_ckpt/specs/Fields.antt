@@ -52,15 +52,31 @@ at_item d = record d { next = if length d.items == d.count then Field.End else F
 abbrev pub with_item : ℕ → ℕ → List ℕ → Draft → Draft
 with_item block bits content d = at_item (record d { items = d.items ++ (record { block = block; chunks = places_of bits; content = content }) ∷ []; least = suc block })
 
--- the rule of each field, and what is said with it
+-- a number is at least 1
+abbrev pub number_rule : ℕ → Draft → Option Draft
+number_rule number d = provided (nat_le 1 number) (record d { number = number; next = Field.Count })
+
+-- there are 1 to 64 items
+abbrev pub count_rule : ℕ → Draft → Option Draft
+count_rule count d = provided (nat_le 1 count && nat_le count 64) (at_item (record d { count = count }))
+
+-- the block of an item is above that of the item before
+abbrev pub block_rule : ℕ → Draft → Option Draft
+block_rule block d = provided (nat_le d.least block) (record d { next = Field.Map block })
+
+-- the flag is 1 where the map is 0, and that is the whole item; else it is 0, and the chunks follow
+abbrev pub flag_rule : ℕ → ℕ → ℕ → Draft → Option Draft
+flag_rule block bits flag d =
+    provided (flag == (if bits == 0 then 1 else 0)) (if bits == 0 then with_item block 0 [] d else record d { next = Field.Content block bits })
+
+-- the rule of each field, and what is said with it; any map and any content will do
 abbrev pub after_field : Field → List ℕ → Draft → Option Draft
 after_field Field.Start bytes d = provided (from_be_bytes w32 bytes == start_word) (record d { next = Field.Number })
-after_field Field.Number bytes d = provided (nat_le 1 (from_be_bytes w64 bytes)) (record d { number = from_be_bytes w64 bytes; next = Field.Count })
-after_field Field.Count bytes d = provided (nat_le 1 (from_be_bytes w32 bytes) && nat_le (from_be_bytes w32 bytes) 64) (at_item (record d { count = from_be_bytes w32 bytes }))
-after_field Field.Block bytes d = provided (nat_le d.least (from_be_bytes w64 bytes)) (record d { next = Field.Map (from_be_bytes w64 bytes) })
+after_field Field.Number bytes d = number_rule (from_be_bytes w64 bytes) d
+after_field Field.Count bytes d = count_rule (from_be_bytes w32 bytes) d
+after_field Field.Block bytes d = block_rule (from_be_bytes w64 bytes) d
 after_field (Field.Map block) bytes d = Some (record d { next = Field.Flag block (from_be_bytes w32 bytes) })
-after_field (Field.Flag block bits) bytes d =
-    provided (from_be_bytes w32 bytes == (if bits == 0 then 1 else 0)) (if bits == 0 then with_item block 0 [] d else record d { next = Field.Content block bits })
+after_field (Field.Flag block bits) bytes d = flag_rule block bits (from_be_bytes w32 bytes) d
 after_field (Field.Content block bits) bytes d = Some (with_item block bits bytes d)
 after_field Field.End bytes d = provided (from_be_bytes w32 bytes == end_word) (record d { next = Field.EndCount })
 after_field Field.EndCount bytes d = provided (from_be_bytes w32 bytes == d.count) (record d { next = Field.EndNumber })

@@ -1,10 +1,10 @@
 //! What the fields of a text have said so far, and the rule of each field.
 
-ghost use Rattle.std.specs.Prelude.{◌≡◌, ◌↔◌, IsTrue, ◌==◌, ◌&&◌, [], nat_le, if◌then◌else◌, length, IfOk, OnOk};
+ghost use Rattle.std.specs.Prelude.{◌≡◌, ◌↔◌, IsTrue, length, IfOk, OnOk};
 ghost use Rattle.std.specs.Int.{w32, w64, from_be_bytes};
-ghost use Rattle.xt_ckpt.specs.Fields.{opening, width, after, after_field, provided, at_item, with_item};
+ghost use Rattle.xt_ckpt.specs.Fields.{opening, width, after, number_rule, count_rule, block_rule, flag_rule, provided, at_item, with_item};
 ghost use Rattle.xt_ckpt.specs.declared.draft.Field.TheVariants as Field;
-ghost use Rattle.xt_ckpt.specs.Drafts.{seen, above, IsAfter};
+ghost use Rattle.xt_ckpt.specs.Drafts.{seen, IsAfter};
 
 use crate::format::{END, MAX_ITEMS, START};
 use crate::item::Item;
@@ -139,6 +139,7 @@ impl Draft {
         }
     }
 
+    /// Adds an item, with which either the next begins or the end.
     fn push_item(
         &mut self,
         alloc: Global,
@@ -168,8 +169,7 @@ impl Draft {
         map: u32,
         flag: u32,
     ) -> Result<bool, AllocError>
-        ensures { IfOk result (λ accepted. IsAfter accepted (seen self.new)
-            (provided (flag == (if map == 0 then 1 else 0)) (if map == 0 then with_item block 0 [] (seen self.old) else record (seen self.old) { next = Field.Content block map }))) }
+        ensures { IfOk result (λ accepted. IsAfter accepted (seen self.new) (flag_rule block map flag (seen self.old))) }
     {
         if map == 0 {
             let accepted = flag == 1;
@@ -180,6 +180,34 @@ impl Draft {
         } else {
             Ok(self.go_on(flag == 0, Field::Content { block, map }))
         }
+    }
+
+    /// Judges the number.
+    fn accept_number(&mut self, number: CkptNo) -> bool
+        ensures { IsAfter result (seen self.new) (number_rule number (seen self.old)) }
+    {
+        self.number = number;
+        self.go_on(number.0 >= 1, Field::Count)
+    }
+
+    /// Judges the count of items.
+    fn accept_count(&mut self, count: u32) -> bool
+        ensures { IsAfter result (seen self.new) (count_rule count (seen self.old)) }
+    {
+        self.count = count;
+        let next = self.item_or_end();
+        self.go_on(count >= 1 && count as usize <= MAX_ITEMS, next)
+    }
+
+    /// Judges the block of an item.
+    fn accept_block(&mut self, block: u64) -> bool
+        ensures { IsAfter result (seen self.new) (block_rule block (seen self.old)) }
+    {
+        let rises = match self.last {
+            None => true,
+            Some(last) => last.0 < block,
+        };
+        self.go_on(rises, Field::Map { block })
     }
 
     /// Judges the next field, of which all bytes are here: whether it obeys its rule. After
@@ -207,30 +235,5 @@ impl Draft {
             Field::EndNumber => self.go_on(u64_of(bytes) == self.number.0, Field::Nothing),
             Field::Nothing => false,
         })
-    }
-
-    fn accept_number(&mut self, number: CkptNo) -> bool
-        ensures { IsAfter result (seen self.new) (provided (nat_le 1 number) (record (seen self.old) { number = number; next = Field.Count })) }
-    {
-        self.number = number;
-        self.go_on(number.0 >= 1, Field::Count)
-    }
-
-    fn accept_count(&mut self, count: u32) -> bool
-        ensures { IsAfter result (seen self.new) (provided (nat_le 1 count && nat_le count 64) (at_item (record (seen self.old) { count = count }))) }
-    {
-        self.count = count;
-        let next = self.item_or_end();
-        self.go_on(count >= 1 && count as usize <= MAX_ITEMS, next)
-    }
-
-    fn accept_block(&mut self, block: u64) -> bool
-        ensures { IsAfter result (seen self.new) (provided (nat_le (above self.old.last) block) (record (seen self.old) { next = Field.Map block })) }
-    {
-        let rises = match self.last {
-            None => true,
-            Some(last) => last.0 < block,
-        };
-        self.go_on(rises, Field::Map { block })
     }
 }

@@ -48,6 +48,7 @@ impl From<AllocError> for ReadFault {
     }
 }
 
+/// Judges the fields from the first on, each once all its bytes are there.
 fn judge(alloc: Global, input: &[u8]) -> Result<Option<(Checkpoint, usize)>, ReadFault>
     ensures { IsJudged input.now result }
 {

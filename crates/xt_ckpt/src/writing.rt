@@ -46,6 +46,7 @@ fn cancel_flag(chunks: Chunks) -> u32
     if chunks.is_empty() { 1 } else { 0 }
 }
 
+/// Puts an item's block, map, flag and bytes behind what is there.
 fn put_item(out: &mut Vec<u8>, item: &Item) -> Result<(), AllocError>
     ensures text { OnOk result (out.new.items ≡ out.old.items ++ item_bytes item.now) }
     ensures stored { OnOk result (IsStored item.now) }
@@ -57,6 +58,7 @@ fn put_item(out: &mut Vec<u8>, item: &Item) -> Result<(), AllocError>
     Ok(())
 }
 
+/// Puts the items one behind another.
 fn put_items(out: &mut Vec<u8>, items: &[Item]) -> Result<(), AllocError>
     ensures text { OnOk result (out.new.items ≡ out.old.items ++ flat_map item_bytes items.now) }
     ensures stored { OnOk result (All IsStored items.now) }
@@ -103,6 +105,7 @@ fn cut(alloc: Global, text: Bytes) -> Result<Vec<Bytes>, AllocError>
     Ok(pieces)
 }
 
+/// Writes the text and cuts it.
 #[tactic(auto, using(crate::proofs::Pieces::few, crate::proofs::Written::pieces_are))]
 fn write_pieces(alloc: Global, no: CkptNo, items: &[Item]) -> Result<Vec<Bytes>, AllocError>
     requires number { 1 ≤ no }
