@@ -155,54 +155,94 @@ fn cut_after_each_byte(rt: HostRuntime) -> Result<(), Fail> {
     Ok(())
 }
 
-/// The text of 176 bytes with one byte changed by exclusive or: which bytes, the bits that
-/// change, and what the rule of their field says.
-const CHANGED: [(usize, usize, u8, Outcome); 19] = [
+/// A text, the first of its bytes that change and the one behind the last, the bits that
+/// change in each of them alone, and what the rules say of it then.
+type Change = (&'static str, usize, usize, u8, Outcome);
+
+const CHANGES: [Change; 46] = [
     // the first word is another
-    (0, 4, 0xff, Outcome::Fault(0)),
+    (OF_176, 0, 4, 0xff, Outcome::Fault(0)),
     // another number, which differs from the one at the end
-    (4, 11, 0x01, Outcome::Fault(168)),
-    (11, 12, 0x02, Outcome::Fault(168)),
+    (OF_176, 4, 11, 0x01, Outcome::Fault(168)),
+    (OF_176, 11, 12, 0x02, Outcome::Fault(168)),
     // number 0
-    (11, 12, 0x01, Outcome::Fault(4)),
+    (OF_176, 11, 12, 0x01, Outcome::Fault(4)),
     // more than 64 items
-    (12, 15, 0x01, Outcome::Fault(12)),
-    (15, 16, 0x40, Outcome::Fault(12)),
+    (OF_176, 12, 15, 0x01, Outcome::Fault(12)),
+    (OF_176, 15, 16, 0x40, Outcome::Fault(12)),
     // no item
-    (15, 16, 0x01, Outcome::Fault(12)),
+    (OF_176, 15, 16, 0x01, Outcome::Fault(12)),
     // 3 items: the last 16 bytes are a cancel of another block, and a third is to come
-    (15, 16, 0x02, Outcome::Unfinished),
+    (OF_176, 15, 16, 0x02, Outcome::Unfinished),
     // another block
-    (16, 24, 0xff, Outcome::Text(176)),
+    (OF_176, 16, 24, 0xff, Outcome::Text(176)),
     // one chunk more, whose bytes are not all there
-    (24, 27, 0x01, Outcome::Unfinished),
-    (27, 28, 0x01, Outcome::Unfinished),
+    (OF_176, 24, 27, 0x01, Outcome::Unfinished),
+    (OF_176, 27, 28, 0x01, Outcome::Unfinished),
     // another chunk
-    (27, 28, 0x06, Outcome::Text(176)),
+    (OF_176, 27, 28, 0x06, Outcome::Text(176)),
     // no chunk, and the flag 0
-    (27, 28, 0x02, Outcome::Fault(28)),
+    (OF_176, 27, 28, 0x02, Outcome::Fault(28)),
     // a chunk, and another flag than 0
-    (28, 32, 0x01, Outcome::Fault(28)),
+    (OF_176, 28, 32, 0x01, Outcome::Fault(28)),
     // other bytes of the chunk
-    (32, 160, 0xff, Outcome::Text(176)),
+    (OF_176, 32, 160, 0xff, Outcome::Text(176)),
     // the word behind the items is another
-    (160, 164, 0x01, Outcome::Fault(160)),
+    (OF_176, 160, 164, 0x01, Outcome::Fault(160)),
     // another count at the end
-    (164, 168, 0x01, Outcome::Fault(164)),
+    (OF_176, 164, 168, 0x01, Outcome::Fault(164)),
     // another number at the end
-    (168, 175, 0x01, Outcome::Fault(168)),
-    (175, 176, 0xff, Outcome::Fault(168)),
+    (OF_176, 168, 175, 0x01, Outcome::Fault(168)),
+    (OF_176, 175, 176, 0xff, Outcome::Fault(168)),
+    // a cancel: its number, count and block
+    (OF_48, 0, 4, 0x01, Outcome::Fault(0)),
+    (OF_48, 4, 11, 0x80, Outcome::Fault(40)),
+    (OF_48, 12, 15, 0x80, Outcome::Fault(12)),
+    (OF_48, 16, 24, 0x80, Outcome::Text(48)),
+    // a chunk, and the flag 1
+    (OF_48, 24, 28, 0x10, Outcome::Fault(28)),
+    // no chunk, and another flag than 1
+    (OF_48, 28, 32, 0x01, Outcome::Fault(28)),
+    (OF_48, 32, 36, 0x20, Outcome::Fault(32)),
+    (OF_48, 36, 40, 0x20, Outcome::Fault(36)),
+    (OF_48, 40, 48, 0x20, Outcome::Fault(40)),
+    // one of two chunks is gone: the bytes of the other stand in the place of the end
+    (OF_304, 27, 28, 0x01, Outcome::Fault(160)),
+    (OF_304, 27, 28, 0x02, Outcome::Unfinished),
+    (OF_304, 28, 32, 0x40, Outcome::Fault(28)),
+    (OF_304, 32, 288, 0x40, Outcome::Text(304)),
+    (OF_304, 296, 304, 0x40, Outcome::Fault(296)),
+    // one of three
+    (OF_432, 27, 28, 0x01, Outcome::Fault(288)),
+    (OF_432, 32, 416, 0x01, Outcome::Text(432)),
+    (OF_432, 416, 420, 0x01, Outcome::Fault(416)),
+    // one of 32
+    (OF_4144, 24, 28, 0x01, Outcome::Fault(4000)),
+    (OF_4144, 28, 32, 0x01, Outcome::Fault(28)),
+    (OF_4144, 32, 4128, 0x01, Outcome::Text(4144)),
+    (OF_4144, 4136, 4144, 0x01, Outcome::Fault(4136)),
+    // 29 of 30 items: the block of the last stands in the place of the end
+    (OF_4096, 15, 16, 0x03, Outcome::Fault(4064)),
+    // the first block is above the second
+    (OF_4096, 16, 23, 0x01, Outcome::Fault(160)),
+    (OF_4096, 23, 24, 0x01, Outcome::Fault(160)),
+    // the second is above the third
+    (OF_8192, 288, 295, 0x01, Outcome::Fault(560)),
+    // the second is the first
+    (OF_8192, 295, 296, 0x01, Outcome::Fault(288)),
+    (OF_8192, 8176, 8180, 0x01, Outcome::Fault(8176)),
 ];
 
 #[test]
 fn one_byte_changed(rt: HostRuntime) -> Result<(), Fail> {
-    for (first, end, bits, wanted) in CHANGED {
+    for (text, first, end, bits, wanted) in CHANGES {
+        let mut input = bytes_of(rt.alloc(), text)?;
         for at in first..end {
-            let mut input = bytes_of(rt.alloc(), OF_176)?;
             assert!(rt; at < input.len());
             input[at] ^= bits;
             let outcome = read_outcome(rt.alloc(), &input)?;
             assert_eq!(rt; outcome, wanted, "byte {at} changed by {bits}");
+            input[at] ^= bits;
         }
     }
     Ok(())
@@ -212,6 +252,8 @@ fn one_byte_changed(rt: HostRuntime) -> Result<(), Fail> {
 #[test]
 fn logs(rt: HostRuntime) -> Result<(), Fail> {
     let wanted = [
+        ("", "", 0, Outcome::Unfinished),
+        (OF_48, "", 48, Outcome::Unfinished),
         (OF_4144, "5843503100", 4144, Outcome::Unfinished),
         (OF_4144, "ffffffff", 4144, Outcome::Fault(0)),
         (OF_176, "", 176, Outcome::Unfinished),
