@@ -4,3 +4,5 @@ pub mod FrameLemmas
 pub mod LandedLemmas
 pub mod SettleLemmas
 pub mod KeepLemmas
+pub mod EndLemmas
+pub mod CkptLemmas

@@ -3,3 +3,5 @@ pub mod Changes
 pub mod Lists
 pub mod Machines
 pub mod Settling
+pub mod Ending
+pub mod Texts

@@ -2,6 +2,8 @@
 #![tactic(auto)]
 
 mod alloc;
+mod ckpt;
+mod commit;
 mod frames;
 mod get;
 mod items;

@@ -134,7 +134,8 @@ impl TransRec {
 
     /// The changes of the leg, whose transaction ends.
     pub fn into_changes(self) -> NumberMap<Change>
-        ensures { map change_entry result ≡ self.leg.changes }
+        ensures changes { map change_entry result ≡ self.leg.changes }
+        ensures holds { self.leg.holds ≡ [] }
     {
         self.changes
     }
