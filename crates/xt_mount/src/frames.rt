@@ -41,7 +41,11 @@ impl Frames {
         let committed = NumberMap::new(alloc)?;
         let fresh = NumberSet::new(alloc)?;
         let idle = Vec::with_capacity(alloc, IDLE + 1)?;
-        Ok(Frames { committed, fresh, idle })
+        Ok(Frames {
+            committed,
+            fresh,
+            idle,
+        })
     }
 
     /// Whether a block is fresh: it shows zeros until it is written whole.
@@ -116,8 +120,8 @@ impl Frames {
     pub fn settle_at(&mut self, index: usize, is_kept: bool)
         requires { index < length self.old.committed }
         ensures { IfSome (slice_get self.old.committed index) (λ e. self.new ≡ record self.old {
-            committed = take index self.old.committed ++ drop (index + 1) self.old.committed;
-            idle = if is_kept then take 64 (e ∷ self.old.idle) else self.old.idle;
+          committed = take index self.old.committed ++ drop (index + 1) self.old.committed;
+          idle = if is_kept then take 64 (e ∷ self.old.idle) else self.old.idle;
         }) }
     {
         let entry = self.committed.remove_at(index);

@@ -11,6 +11,8 @@ mod jobs;
 mod locks;
 mod log;
 mod machine;
+pub mod mount;
+mod serve;
 mod settle;
 mod space;
 mod trans;
