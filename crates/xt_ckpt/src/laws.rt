@@ -1,8 +1,12 @@
 //! Laws of the grammar. Each function does nothing: its clause is the law.
 
-ghost use Rattle.std.specs.Prelude.{◌≡◌, ◌++◌, ◌↔◌, ℕ, List};
+ghost use Rattle.std.specs.Prelude.{◌≡◌, ◌++◌, ◌+◌, ◌<◌, ◌≤◌, ◌↔◌, [], ℕ, List, All, length, slice_index_or};
+ghost use Rattle.std.specs.List.{concat};
+ghost use Rattle.xt_base.specs.Text.{pieces};
 ghost use Rattle.xt_ckpt.specs.Fields.{IsFaultAt, IsUnfinished};
 ghost use Rattle.xt_ckpt.specs.Grammar.{Entry, IsText};
+ghost use Rattle.xt_ckpt.specs.Items.{HasForm, checkpoint_len, checkpoint_text};
+ghost use Rattle.xt_ckpt.specs.declared.item.Item.{Item as AnItem};
 ghost use Rattle.xt_ckpt.specs.Laws.{AreBytes, ReadsText};
 
 /// A number and a list of items have one text.
@@ -27,4 +31,17 @@ pub fn fields_make_texts()
 pub fn one_fault()
     ensures same { (a b : ℕ) (input : List ℕ) → IsFaultAt a input → IsFaultAt b input → a ≡ b }
     ensures only { (a : ℕ) (input : List ℕ) → IsFaultAt a input → IsUnfinished input → ⊥ }
+{}
+
+/// The length of a text is the cost of its items.
+pub fn text_length()
+    ensures { (number : ℕ) (items : List AnItem) → All HasForm items → length (checkpoint_text number items) ≡ checkpoint_len items }
+{}
+
+/// The pieces of a text together are the text, and each but the last has 4,096 bytes; the
+/// last has 1 to 4,096.
+pub fn pieces_of_a_text()
+    ensures joined { (text : List ℕ) → concat (pieces text) ≡ text }
+    ensures whole { (text : List ℕ) (k : ℕ) → k + 1 < length (pieces text) → length (slice_index_or (pieces text) k []) ≡ 4096 }
+    ensures last { (text : List ℕ) (k : ℕ) → k + 1 ≡ length (pieces text) → (1 ≤ length (slice_index_or (pieces text) k [])) × (length (slice_index_or (pieces text) k []) ≤ 4096) }
 {}
