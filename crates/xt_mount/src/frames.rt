@@ -1,7 +1,7 @@
 //! Contents: the committed ones of busy blocks, fresh marks, and the idle list.
 
 ghost use Rattle.std.specs.Prelude.{◌≡◌, ◌+◌, Some, ◌<◌, ◌≤◌, ◌++◌, ◌∷◌, [], length, take, drop, slice_get, IfOk, IfSome, option_copied, if◌then◌else◌};
-ghost use Rattle.xt_base.specs.Maps.{at, has, put, with_member, without_member};
+ghost use Rattle.xt_base.specs.Maps.{at, has, is_in, put, with_member, without_member};
 ghost use Rattle.xt_mount.specs.Layers.{no_frames, brought_in};
 
 use std::alloc::{AllocError, Global};
@@ -53,6 +53,13 @@ impl Frames {
         ensures { result ≡ has self.now.fresh block }
     {
         self.fresh.contains(block)
+    }
+
+    /// Whether a block is idle.
+    pub fn is_idle(&self, block: u64) -> bool
+        ensures { result ≡ is_in block self.now.idle }
+    {
+        spot_of(&self.idle, block) < self.idle.len()
     }
 
     /// How many committed contents there are.

@@ -12,6 +12,7 @@ mod locks;
 mod log;
 mod machine;
 pub mod mount;
+mod read;
 mod serve;
 mod settle;
 mod space;

@@ -99,6 +99,15 @@ impl Mount {
         self.machine.items.pieces()
     }
 
+    /// The block that a request must ask the home device for, if there is one: a read's, where nothing refuses it and
+    /// the block is neither the transaction's own nor resident.
+    pub fn needs(&self, request: &Request) -> Option<Block>
+        ensures asked { is_some result ≡ asks request.now self.now }
+        ensures block { IfSome result (λ block. read_block request.now ≡ Some block) }
+    {
+        self.machine.needs(request)
+    }
+
     /// Serves a request: its reply and the state that it leaves are those of the machine of one mount. Where
     /// memory is refused the reply is ENOMEM, and nothing changes.
     pub fn serve(&mut self, request: &Request, answer: &Answer) -> Reply
