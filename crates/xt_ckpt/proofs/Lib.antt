@@ -1,2 +1,11 @@
 pub mod Pieces
 pub mod Lengths
+pub mod Ways
+pub mod Steps
+pub mod TextReads
+pub mod Stands
+pub mod ReadsText
+pub mod OneText
+pub mod Judging
+pub mod Written
+pub mod Faults

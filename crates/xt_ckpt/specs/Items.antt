@@ -1,5 +1,7 @@
 -- Items of a checkpoint, and what a list of them has to obey.
-use Rattle.std.specs.Prelude.{List, [], flat_map, length, map, suc, sum_by, ℕ, ◌*◌, ◌+◌, ◌≡◌, ◌≤◌, ◌∷◌}
+use Rattle.std.specs.Prelude.{List, flat_map, length, map, sum_by, ℕ, ◌*◌, ◌+◌, ◌<◌, ◌^◌, ◌≡◌}
+use Rattle.xt_base.specs.Chunks.{places_of, word_of}
+use Rattle.xt_base.specs.Sound.{RisesFromKeys}
 use Rattle.xt_base.specs.Text.{item_text, text_with}
 use Rattle.xt_ckpt.specs.declared.item.Item.{Item}
 
@@ -23,11 +25,12 @@ checkpoint_len items = 32 + sum_by item_len items
 abbrev pub HasForm : Item → Type 0
 HasForm item = length item.content.items ≡ 128 * length item.chunks
 
--- numbers that rise, from `least` on
-abbrev pub RisesFrom : ℕ → List ℕ → Type 0
-RisesFrom least [] = Unit {0}
-RisesFrom least (n ∷ ns) = (least ≤ n) × RisesFrom (suc n) ns
-
 -- the blocks of the items rise
 abbrev pub BlocksRise : List Item → Type 0
-BlocksRise items = RisesFrom 0 (map (λ item. item.block) items)
+BlocksRise items = RisesFromKeys 0 (map (λ item. item.block) items)
+
+-- an item as it is kept: its block is one of 64 bits, and its set is that of a word of 32
+pub record IsStored (item : Item) : Type 0 where
+  pub block : item.block < 2 ^ 64
+  pub word : word_of item.chunks < 2 ^ 32
+  pub back : places_of (word_of item.chunks) ≡ item.chunks

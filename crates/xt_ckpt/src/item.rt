@@ -3,9 +3,6 @@
 use xt_base::chunks::Chunks;
 use xt_base::names::Block;
 
-/// The greatest count of items in a checkpoint: as many as blocks can be busy.
-pub const MAX_ITEMS: usize = 64;
-
 /// What a checkpoint says of one block: which chunks it logs, and their bytes. An item
 /// without chunks is a cancel (`XFS_BLF_CANCEL` of `xfs_log_format.h`): what earlier
 /// checkpoints said of the block counts no more.

@@ -1,11 +1,14 @@
 //! The writer: the text of a checkpoint, cut into pieces that share one buffer.
 
 ghost use Rattle.std.specs.Prelude.{◌≡◌, ◌++◌, ◌==◌, ◌≤◌, All, length, flat_map, if◌then◌else◌, IfOk, IfErr, OnOk};
+ghost use Rattle.std.specs.List.{concat};
 ghost use Rattle.std.specs.Int.{w32, w64, to_be_bytes};
 ghost use Rattle.xt_base.specs.Text.{pieces as pieces_of};
 ghost use Rattle.xt_base.specs.declared.steps.Errno.TheVariants.{NoMemory};
-ghost use Rattle.xt_ckpt.specs.Items.{item_bytes, checkpoint_text, checkpoint_len, item_len, HasForm, BlocksRise};
+ghost use Rattle.xt_ckpt.specs.Items.{item_bytes, checkpoint_text, checkpoint_len, item_len, HasForm, IsStored, BlocksRise};
+ghost use Rattle.xt_ckpt.specs.Grammar.{IsText, entries};
 
+use crate::format::{END, START};
 use crate::item::Item;
 use bytes::Bytes;
 use std::alloc::{AllocError, Global};
@@ -13,12 +16,6 @@ use xt_base::chunks::Chunks;
 use xt_base::content::BLOCK_BYTES;
 use xt_base::names::CkptNo;
 use xt_base::steps::Errno;
-
-/// The first four bytes of a text, `XCP1`.
-pub const START: [u8; 4] = *b"XCP1";
-
-/// The four bytes behind its items, `XCE1`.
-pub const END: [u8; 4] = *b"XCE1";
 
 /// How many bytes an item takes in a text: 16, and 128 for each chunk.
 fn item_len(item: &Item) -> usize
@@ -49,8 +46,10 @@ fn cancel_flag(chunks: Chunks) -> u32
     if chunks.is_empty() { 1 } else { 0 }
 }
 
+/// Puts an item's block, map, flag and bytes behind what is there.
 fn put_item(out: &mut Vec<u8>, item: &Item) -> Result<(), AllocError>
-    ensures { OnOk result (out.new.items ≡ out.old.items ++ item_bytes item.now) }
+    ensures text { OnOk result (out.new.items ≡ out.old.items ++ item_bytes item.now) }
+    ensures stored { OnOk result (IsStored item.now) }
 {
     out.extend_from_slice(&item.block.0.to_be_bytes())?;
     out.extend_from_slice(&item.chunks.word().to_be_bytes())?;
@@ -59,8 +58,10 @@ fn put_item(out: &mut Vec<u8>, item: &Item) -> Result<(), AllocError>
     Ok(())
 }
 
+/// Puts the items one behind another.
 fn put_items(out: &mut Vec<u8>, items: &[Item]) -> Result<(), AllocError>
-    ensures { OnOk result (out.new.items ≡ out.old.items ++ flat_map item_bytes items.now) }
+    ensures text { OnOk result (out.new.items ≡ out.old.items ++ flat_map item_bytes items.now) }
+    ensures stored { OnOk result (All IsStored items.now) }
 {
     for item in items {
         put_item(out, item)?;
@@ -71,18 +72,21 @@ fn put_items(out: &mut Vec<u8>, items: &[Item]) -> Result<(), AllocError>
 /// The whole text, in a buffer of just its length.
 #[tactic(auto, using(crate::proofs::Lengths::length_text))]
 fn write_text(alloc: Global, no: CkptNo, items: &[Item]) -> Result<Vec<u8>, AllocError>
-    requires count { length items.now ≤ 64 }
+    requires number { 1 ≤ no }
+    requires count { (1 ≤ length items.now) × (length items.now ≤ 64) }
     requires form { All HasForm items.now }
+    requires rising { BlocksRise items.now }
     ensures text { IfOk result (λ text. text.items ≡ checkpoint_text no items.now) }
+    ensures grammar { IfOk result (λ text. IsText (checkpoint_text no items.now) no (entries items.now)) }
     ensures range { IfOk result (λ text. length (checkpoint_text no items.now) ≤ 263200) }
 {
     let count = items.len() as u32;
     let mut out = Vec::with_capacity(alloc, checkpoint_len(items))?;
-    out.extend_from_slice(&START)?;
+    out.extend_from_slice(&START.to_be_bytes())?;
     out.extend_from_slice(&no.0.to_be_bytes())?;
     out.extend_from_slice(&count.to_be_bytes())?;
     put_items(&mut out, items)?;
-    out.extend_from_slice(&END)?;
+    out.extend_from_slice(&END.to_be_bytes())?;
     out.extend_from_slice(&count.to_be_bytes())?;
     out.extend_from_slice(&no.0.to_be_bytes())?;
     Ok(out)
@@ -101,11 +105,15 @@ fn cut(alloc: Global, text: Bytes) -> Result<Vec<Bytes>, AllocError>
     Ok(pieces)
 }
 
-#[tactic(auto, using(crate::proofs::Pieces::few))]
+/// Writes the text and cuts it.
+#[tactic(auto, using(crate::proofs::Pieces::few, crate::proofs::Written::pieces_are))]
 fn write_pieces(alloc: Global, no: CkptNo, items: &[Item]) -> Result<Vec<Bytes>, AllocError>
-    requires count { length items.now ≤ 64 }
+    requires number { 1 ≤ no }
+    requires count { (1 ≤ length items.now) × (length items.now ≤ 64) }
     requires form { All HasForm items.now }
+    requires rising { BlocksRise items.now }
     ensures text { IfOk result (λ pieces. pieces.items ≡ pieces_of (checkpoint_text no items.now)) }
+    ensures grammar { IfOk result (λ pieces. IsText (concat pieces.items) no (entries items.now)) }
     ensures few { IfOk result (λ pieces. length pieces.items ≤ 65) }
 {
     let text = write_text(alloc, no, items)?;
@@ -120,6 +128,8 @@ pub fn write_checkpoint(alloc: Global, no: CkptNo, items: &[Item]) -> Result<Vec
     requires form { All HasForm items.now }
     requires rising { BlocksRise items.now }
     ensures text { IfOk result (λ pieces. pieces.items ≡ pieces_of (checkpoint_text no items.now)) }
+    // The pieces together are a text of the grammar, which `read_checkpoint` reads again, whatever follows it.
+    ensures grammar { IfOk result (λ pieces. IsText (concat pieces.items) no (entries items.now)) }
     ensures few { IfOk result (λ pieces. length pieces.items ≤ 65) }
     ensures memory { IfErr result (λ e. e ≡ NoMemory) }
 {

@@ -8,12 +8,12 @@ use Rattle.std.proofs.lemmas.List.Elements.{filter-append, All-push}
 use Rattle.xt_base.specs.Chunks.{below, chunks_where, places_of}
 use Rattle.xt_base.specs.Jobs.{landed, landed_items, waits_on}
 use Rattle.xt_base.specs.Settle.{settled}
-use Rattle.xt_base.specs.Sound.{IsRising, RisesFrom, AllBelow, IsBetween, IsSound}
+use Rattle.xt_base.specs.Sound.{IsRising, RisesFrom, AllBelow, IsBetween, IsSound, RisesFromKeys as NumbersRise}
 use Rattle.xt_base.specs.State.{Flight, Items, Jobs, State}
 use Rattle.xt_base.specs.Text.{chunk, chunk_bytes, zeros}
 use Rattle.xt_base.specs.declared.steps.Owner.{Owner}
 use Rattle.xt_base.proofs.MapLemmas.{some_same}
-use Rattle.xt_ckpt.specs.Items.{BlocksRise, HasForm, item_bytes, RisesFrom as NumbersRise}
+use Rattle.xt_ckpt.specs.Items.{BlocksRise, HasForm, item_bytes}
 use Rattle.xt_ckpt.specs.declared.item.Item.{Item}
 use Rattle.xt_mount.specs.Lists.{flight_number}
 use Rattle.xt_mount.specs.Texts.{entry_block, entry_bytes}

@@ -1,0 +1,360 @@
+//! Worked texts: read back, cut short after each byte, and with a byte changed.
+
+ghost use Rattle.std.specs.Prelude.{◌≡◌, ◌<◌, IfOk, IfSome};
+ghost use Rattle.xt_ckpt.specs.Items.{HasForm};
+
+mod texts;
+
+use crate::item::Item;
+use crate::reading::{Checkpoint, CkptFault, ReadFault, read_checkpoint};
+use crate::writing::write_checkpoint;
+use std::alloc::Global;
+use std::test::*;
+use texts::{OF_4096, OF_8192};
+use xt_base::chunks::Chunks;
+use xt_base::names::{Block, CkptNo};
+
+/// One chunk of block 7, 176 bytes.
+const OF_176: &str =
+    "58435031.00*7.0100000001.00*7.0700000002.00*6.0102.00*124.5843453100000001.00*7.01";
+/// Two chunks of block 7, 304 bytes.
+const OF_304: &str =
+    "58435031.00*7.0100000001.00*7.0700000009.00*4.11.00*143.22.00*111.5843453100000001.00*7.01";
+/// Three chunks of block 7, 432 bytes.
+const OF_432: &str =
+    "58435031.00*7.0100000001.00*7.0780000003.00*131.0102.00*254.ff5843453100000001.00*7.01";
+/// A cancel of block 7, 48 bytes.
+const OF_48: &str = "58435031.00*7.0100000001.00*7.07.00*7.015843453100000001.00*7.01";
+/// The whole of block 7, 4,144 bytes.
+const OF_4144: &str = "58435031.00*7.0100000001.00*7.07.ff*4.00*4.aa*4096.5843453100000001.00*7.01";
+
+/// What a hexadecimal digit stands for.
+fn digit(c: u8) -> Option<u8>
+    ensures { IfSome result (λ d. d < 16) }
+{
+    match c {
+        b'0'..=b'9' => Some(c - b'0'),
+        b'a'..=b'f' => Some(c - b'a' + 10),
+        _ => None,
+    }
+}
+
+/// Bytes that are spelled in pairs of hexadecimal digits: parts between dots, of which each
+/// may be one byte and how often it stands, as `00*7`.
+fn bytes_of(alloc: Global, spelled: &str) -> Result<Vec<u8>, Fail> {
+    let mut bytes = Vec::new(alloc);
+    for part in spelled.split('.') {
+        let (digits, count) = match part.split_once('*') {
+            Some((digits, count)) => (digits, count.parse::<u32>()?),
+            None => (part, 1),
+        };
+        for _ in 0..count {
+            push_pairs(&mut bytes, digits)?;
+        }
+    }
+    Ok(bytes)
+}
+
+fn push_pairs(bytes: &mut Vec<u8>, digits: &str) -> Result<(), Fail> {
+    let mut high = None;
+    for c in digits.bytes() {
+        let low = digit(c).ok_or("a digit")?;
+        high = match high {
+            None => Some(low),
+            Some(high) => {
+                bytes.push(high << 4 | low)?;
+                None
+            }
+        };
+    }
+    Ok(())
+}
+
+/// What reading gave, in a form that is compared whole.
+#[derive(Clone, Copy, Debug, PartialEq, Eq)]
+enum Outcome {
+    /// A text of so many bytes.
+    Text(usize),
+    Unfinished,
+    Fault(usize),
+}
+
+fn read_outcome(alloc: Global, input: &[u8]) -> Result<Outcome, Fail> {
+    match read_checkpoint(alloc, input) {
+        Ok(Some((_, len))) => Ok(Outcome::Text(len)),
+        Ok(None) => Ok(Outcome::Unfinished),
+        Err(ReadFault::Ckpt(CkptFault { at })) => Ok(Outcome::Fault(at)),
+        Err(ReadFault::Memory) => Err("out of memory".into()),
+    }
+}
+
+fn first_text(alloc: Global, input: &[u8]) -> Result<(Checkpoint, usize), Fail> {
+    let found = read_checkpoint(alloc, input)?;
+    Ok(found.ok_or("a text")?)
+}
+
+#[test]
+fn texts_of_one_item(rt: HostRuntime) -> Result<(), Fail> {
+    let wanted = [
+        (OF_176, 176, 0x2, "00*2.0102.00*124"),
+        (OF_304, 304, 0x9, "11.00*143.22.00*111"),
+        (OF_432, 432, 0x8000_0003, "00*127.0102.00*254.ff"),
+        (OF_48, 48, 0, ""),
+        (OF_4144, 4144, 0xffff_ffff, "aa*4096"),
+    ];
+    for (text, len, map, content) in wanted {
+        let mut input = bytes_of(rt.alloc(), text)?;
+        input.push(0x58)?;
+        let (checkpoint, read) = first_text(rt.alloc(), &input)?;
+        assert_eq!(rt; read, len);
+        assert_eq!(rt; checkpoint.no, CkptNo(1));
+        assert_eq!(rt; checkpoint.items.len(), 1);
+        for item in &checkpoint.items {
+            assert_eq!(rt; item.block, Block(7));
+            assert_eq!(rt; item.chunks.word(), map);
+            assert_eq!(rt;
+                item.content.as_slice(),
+                bytes_of(rt.alloc(), content)?.as_slice()
+            );
+        }
+    }
+    Ok(())
+}
+
+#[test]
+fn texts_of_thirty_items(rt: HostRuntime) -> Result<(), Fail> {
+    for (text, len, cancels) in [(OF_4096, 4096, 2), (OF_8192, 8192, 0)] {
+        let input = bytes_of(rt.alloc(), text)?;
+        let (checkpoint, read) = first_text(rt.alloc(), &input)?;
+        assert_eq!(rt; read, len);
+        assert_eq!(rt; checkpoint.items.len(), 30);
+        for (at, item) in checkpoint.items.iter().enumerate() {
+            assert_eq!(rt; item.block, Block(at as u64));
+        }
+        let found = checkpoint
+            .items
+            .iter()
+            .filter(|item| item.chunks.is_empty());
+        assert_eq!(rt; found.count(), cancels);
+    }
+    Ok(())
+}
+
+/// Every front of a text is unfinished: each field that is all there obeys its rule.
+#[test]
+fn cut_after_each_byte(rt: HostRuntime) -> Result<(), Fail> {
+    for text in [OF_176, OF_304, OF_432, OF_48, OF_4144, OF_4096, OF_8192] {
+        let input = bytes_of(rt.alloc(), text)?;
+        for len in 0..input.len() {
+            let outcome = read_outcome(rt.alloc(), &input[..len])?;
+            assert_eq!(rt; outcome, Outcome::Unfinished, "cut at {len}");
+        }
+        let outcome = read_outcome(rt.alloc(), &input)?;
+        assert_eq!(rt; outcome, Outcome::Text(input.len()));
+    }
+    Ok(())
+}
+
+/// A text, the first of its bytes that change and the one behind the last, the bits that
+/// change in each of them alone, and what the rules say of it then.
+type Change = (&'static str, usize, usize, u8, Outcome);
+
+const CHANGES: [Change; 46] = [
+    // the first word is another
+    (OF_176, 0, 4, 0xff, Outcome::Fault(0)),
+    // another number, which differs from the one at the end
+    (OF_176, 4, 11, 0x01, Outcome::Fault(168)),
+    (OF_176, 11, 12, 0x02, Outcome::Fault(168)),
+    // number 0
+    (OF_176, 11, 12, 0x01, Outcome::Fault(4)),
+    // more than 64 items
+    (OF_176, 12, 15, 0x01, Outcome::Fault(12)),
+    (OF_176, 15, 16, 0x40, Outcome::Fault(12)),
+    // no item
+    (OF_176, 15, 16, 0x01, Outcome::Fault(12)),
+    // 3 items: the last 16 bytes are a cancel of another block, and a third is to come
+    (OF_176, 15, 16, 0x02, Outcome::Unfinished),
+    // another block
+    (OF_176, 16, 24, 0xff, Outcome::Text(176)),
+    // one chunk more, whose bytes are not all there
+    (OF_176, 24, 27, 0x01, Outcome::Unfinished),
+    (OF_176, 27, 28, 0x01, Outcome::Unfinished),
+    // another chunk
+    (OF_176, 27, 28, 0x06, Outcome::Text(176)),
+    // no chunk, and the flag 0
+    (OF_176, 27, 28, 0x02, Outcome::Fault(28)),
+    // a chunk, and another flag than 0
+    (OF_176, 28, 32, 0x01, Outcome::Fault(28)),
+    // other bytes of the chunk
+    (OF_176, 32, 160, 0xff, Outcome::Text(176)),
+    // the word behind the items is another
+    (OF_176, 160, 164, 0x01, Outcome::Fault(160)),
+    // another count at the end
+    (OF_176, 164, 168, 0x01, Outcome::Fault(164)),
+    // another number at the end
+    (OF_176, 168, 175, 0x01, Outcome::Fault(168)),
+    (OF_176, 175, 176, 0xff, Outcome::Fault(168)),
+    // a cancel: its number, count and block
+    (OF_48, 0, 4, 0x01, Outcome::Fault(0)),
+    (OF_48, 4, 11, 0x80, Outcome::Fault(40)),
+    (OF_48, 12, 15, 0x80, Outcome::Fault(12)),
+    (OF_48, 16, 24, 0x80, Outcome::Text(48)),
+    // a chunk, and the flag 1
+    (OF_48, 24, 28, 0x10, Outcome::Fault(28)),
+    // no chunk, and another flag than 1
+    (OF_48, 28, 32, 0x01, Outcome::Fault(28)),
+    (OF_48, 32, 36, 0x20, Outcome::Fault(32)),
+    (OF_48, 36, 40, 0x20, Outcome::Fault(36)),
+    (OF_48, 40, 48, 0x20, Outcome::Fault(40)),
+    // one of two chunks is gone: the bytes of the other stand in the place of the end
+    (OF_304, 27, 28, 0x01, Outcome::Fault(160)),
+    (OF_304, 27, 28, 0x02, Outcome::Unfinished),
+    (OF_304, 28, 32, 0x40, Outcome::Fault(28)),
+    (OF_304, 32, 288, 0x40, Outcome::Text(304)),
+    (OF_304, 296, 304, 0x40, Outcome::Fault(296)),
+    // one of three
+    (OF_432, 27, 28, 0x01, Outcome::Fault(288)),
+    (OF_432, 32, 416, 0x01, Outcome::Text(432)),
+    (OF_432, 416, 420, 0x01, Outcome::Fault(416)),
+    // one of 32
+    (OF_4144, 24, 28, 0x01, Outcome::Fault(4000)),
+    (OF_4144, 28, 32, 0x01, Outcome::Fault(28)),
+    (OF_4144, 32, 4128, 0x01, Outcome::Text(4144)),
+    (OF_4144, 4136, 4144, 0x01, Outcome::Fault(4136)),
+    // 29 of 30 items: the block of the last stands in the place of the end
+    (OF_4096, 15, 16, 0x03, Outcome::Fault(4064)),
+    // the first block is above the second
+    (OF_4096, 16, 23, 0x01, Outcome::Fault(160)),
+    (OF_4096, 23, 24, 0x01, Outcome::Fault(160)),
+    // the second is above the third
+    (OF_8192, 288, 295, 0x01, Outcome::Fault(560)),
+    // the second is the first
+    (OF_8192, 295, 296, 0x01, Outcome::Fault(288)),
+    (OF_8192, 8176, 8180, 0x01, Outcome::Fault(8176)),
+];
+
+#[test]
+fn one_byte_changed(rt: HostRuntime) -> Result<(), Fail> {
+    for (text, first, end, bits, wanted) in CHANGES {
+        let mut input = bytes_of(rt.alloc(), text)?;
+        for at in first..end {
+            assert!(rt; at < input.len());
+            input[at] ^= bits;
+            let outcome = read_outcome(rt.alloc(), &input)?;
+            assert_eq!(rt; outcome, wanted, "byte {at} changed by {bits}");
+            input[at] ^= bits;
+        }
+    }
+    Ok(())
+}
+
+/// Logs of several texts: how many are whole, and what is behind them.
+#[test]
+fn logs(rt: HostRuntime) -> Result<(), Fail> {
+    let wanted = [
+        ("", "", 0, Outcome::Unfinished),
+        (OF_48, "", 48, Outcome::Unfinished),
+        (OF_4144, "5843503100", 4144, Outcome::Unfinished),
+        (OF_4144, "ffffffff", 4144, Outcome::Fault(0)),
+        (OF_176, "", 176, Outcome::Unfinished),
+        (OF_176, "ffffff", 176, Outcome::Unfinished),
+        // a cancel of block 7, and then block 7 again
+        (
+            OF_176,
+            "58435031.00*7.0200000002.00*7.07.00*7.01.00*7.07",
+            176,
+            Outcome::Fault(32),
+        ),
+        // flag 0 where there is no chunk
+        (
+            "",
+            "58435031.00*7.0100000001.00*7.07.00*8",
+            0,
+            Outcome::Fault(28),
+        ),
+    ];
+    for (text, behind, len, outcome) in wanted {
+        let mut log = bytes_of(rt.alloc(), text)?;
+        log.extend_from_slice(&bytes_of(rt.alloc(), behind)?)?;
+        if len > 0 {
+            assert_eq!(rt; read_outcome(rt.alloc(), &log)?, Outcome::Text(len));
+        }
+        assert!(rt; len <= log.len());
+        assert_eq!(rt; read_outcome(rt.alloc(), &log[len..])?, outcome);
+    }
+    Ok(())
+}
+
+/// The item of one block, with all bytes of its chunks the same.
+fn item_of(alloc: Global, block: u64, map: u32, byte: u8) -> Result<Item, Fail>
+    ensures block { IfOk result (λ item. item.block ≡ block) }
+    ensures form { IfOk result HasForm }
+{
+    let chunks = Chunks::of_word(map);
+    let content = vec![in alloc; byte; 128 * chunks.count() as usize]?;
+    Ok(Item {
+        block: Block(block),
+        chunks,
+        content,
+    })
+}
+
+#[test]
+fn written_and_read_again(rt: HostRuntime) -> Result<(), Fail> {
+    let alloc = rt.alloc();
+    let mut items = Vec::new(alloc);
+    items.push(item_of(alloc, 7, 0xffff_ffff, 0xaa)?)?;
+    let pieces = write_checkpoint(alloc, CkptNo(1), &items)?;
+    assert_eq!(rt; pieces.len(), 2);
+    let mut text = Vec::new(alloc);
+    for piece in &pieces {
+        assert!(rt; piece.len() == 4096 || piece.len() == 48);
+        text.extend_from_slice(piece.as_slice())?;
+    }
+    assert_eq!(rt; text.as_slice(), bytes_of(alloc, OF_4144)?.as_slice());
+    Ok(())
+}
+
+#[test]
+fn cancel_written(rt: HostRuntime) -> Result<(), Fail> {
+    let alloc = rt.alloc();
+    let mut items = Vec::new(alloc);
+    items.push(item_of(alloc, 7, 0, 0)?)?;
+    let pieces = write_checkpoint(alloc, CkptNo(1), &items)?;
+    assert_eq!(rt; pieces.len(), 1);
+    assert_eq!(rt; pieces[0].as_slice(), bytes_of(alloc, OF_48)?.as_slice());
+    Ok(())
+}
+
+/// Where a growth is refused the reader says so, and else gives the same answer. Run it with
+/// each allocation failing in turn.
+#[test]
+fn growth_refused(rt: HostRuntime) {
+    let places = [
+        (0, 0x58),
+        (1, 0x43),
+        (2, 0x50),
+        (3, 0x31),
+        (11, 1),
+        (15, 1),
+        (23, 7),
+        (27, 2),
+        (34, 1),
+        (160, 0x58),
+        (161, 0x43),
+        (162, 0x45),
+        (163, 0x31),
+        (167, 1),
+        (175, 1),
+    ];
+    let mut input = [0u8; 176];
+    for (at, byte) in places {
+        assert!(rt; at < 176);
+        input[at] = byte;
+    }
+    match read_checkpoint(rt.alloc(), &input) {
+        Ok(Some((_, len))) => assert_eq!(rt; len, 176),
+        Ok(None) => panic!(rt; "a whole text is not unfinished"),
+        Err(fault) => assert_eq!(rt; fault, ReadFault::Memory),
+    }
+}
