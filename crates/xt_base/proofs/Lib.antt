@@ -11,3 +11,13 @@ pub mod LegLemmas
 pub mod SoundParts
 pub mod SoundSteps
 pub mod SoundBounds
+mod RowsBuffers
+mod RowsJobs
+mod RowsManyBusy
+mod RowsIdleCut
+mod RowsIdleAsked
+mod RowsEdges
+mod RandomListsA
+mod RandomListsB
+mod RandomListsC
+mod RandomListsD
