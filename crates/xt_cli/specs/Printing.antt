@@ -1,0 +1,26 @@
+-- What is printed of the steps of a run.
+use Rattle.std.specs.Prelude.{ℕ, List, [], ◌∷◌, ◌++◌, flat_map}
+use Rattle.xt_base.specs.Alone.{Said}
+use Rattle.xt_base.specs.declared.steps.HomeOffer.{HomeOffer}
+use Rattle.xt_base.specs.declared.steps.LogOffer.{LogOffer}
+use Rattle.xt_text.specs.Replies.{home_offer_text, log_offer_text, slot_reply_text}
+
+-- a line with its newline
+abbrev pub ended : List ℕ → List ℕ
+ended line = line ++ 10 ∷ []
+
+-- the lines of offers to a log device
+abbrev pub log_lines : ℕ → List LogOffer → List ℕ
+log_lines slot offers = flat_map (λ o. ended (log_offer_text slot o)) offers
+
+-- the lines of offers to a home device
+abbrev pub home_lines : ℕ → List HomeOffer → List ℕ
+home_lines slot offers = flat_map (λ o. ended (home_offer_text slot o)) offers
+
+-- the slot and the reply of a step, and then its offers
+abbrev pub turn_text : Said → List ℕ
+turn_text t = ended (slot_reply_text t.slot t.reply) ++ log_lines t.slot t.log ++ home_lines t.slot t.home
+
+-- the lines of a run
+abbrev pub turns_text : List Said → List ℕ
+turns_text turns = flat_map turn_text turns
