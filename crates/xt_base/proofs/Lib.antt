@@ -11,3 +11,4 @@ pub mod LegLemmas
 pub mod SoundParts
 pub mod SoundSteps
 pub mod SoundBounds
+pub mod NameLemmas
