@@ -12,3 +12,4 @@ pub mod SoundParts
 pub mod SoundSteps
 pub mod SoundBounds
 pub mod NameLemmas
+pub mod TurnLemmas
