@@ -13,3 +13,4 @@ pub mod SoundSteps
 pub mod SoundBounds
 pub mod NameLemmas
 pub mod TurnLemmas
+pub mod LifeLemmas
