@@ -14,3 +14,4 @@ pub mod SoundBounds
 pub mod NameLemmas
 pub mod TurnLemmas
 pub mod LifeLemmas
+pub mod OrderLemmas

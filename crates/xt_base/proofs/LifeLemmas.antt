@@ -307,10 +307,16 @@ not_given last (Some m) n p given owed =
       let e : AreAlike n p = alike n p one in
       elim given [ inl old ↦ omega (arith, old, life, e.life) | inr now ↦ omega (arith, now.1, serial, e.serial) ])
 
--- a name that is owed was not given before
-pub fresh : (s : Lone) (n : JobName) (names : List JobName) → Each (IsGiven s) names → mount_is (is_owed_as n) s.mounted ≡ true → is_among names n ≡ false
+-- a name that is owed is not among names of its slot that were given
+pub fresh : (s : Lone) (n : JobName) (names : List JobName) → Each (λ p. p.slot ≡ n.slot → IsGiven s p) names → mount_is (is_owed_as n) s.mounted ≡ true → is_among names n ≡ false
 fresh s n [] all owed = refl
-fresh s n (p ∷ ps) all owed = ap (λ b. b || is_among ps n) (not_given s.last_life s.mounted n p all.0 owed) ∙ fresh s n ps all.1 owed
+fresh s n (p ∷ ps) all owed =
+    elim (cases_Bool (same_name n p)) [
+      | inl one ↦
+          let e : AreAlike n p = alike n p one in
+          absurd (false≢true (sym (not_given s.last_life s.mounted n p (all.0 (sym e.slot)) owed) ∙ one))
+      | inr other ↦ ap (λ b. b || is_among ps n) other ∙ fresh s n ps all.1 owed
+    ]
 
 given_last : (last : ℕ) (n : JobName) (m : State) (kind : JobKind) → n.life ≡ m.life → n.serial ≡ m.jobs.last_serial + 1 → IsGivenIn last (Some (posted kind m)) n
 given_last last n m JobKind.Ckpt life serial = inr (life, omega (arith, serial))
