@@ -15,3 +15,4 @@ pub mod NameLemmas
 pub mod TurnLemmas
 pub mod LifeLemmas
 pub mod OrderLemmas
+pub mod FitsLemmas
