@@ -16,3 +16,4 @@ pub mod TurnLemmas
 pub mod LifeLemmas
 pub mod OrderLemmas
 pub mod FitsLemmas
+pub mod RunLemmas

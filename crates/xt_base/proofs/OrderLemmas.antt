@@ -46,8 +46,8 @@ pub of_slot_other : (h : List Event) (e : Event) (m : ℕ) → slot_of e.step �
 of_slot_other h e m other = filter_none (λ y. slot_of y.step == m) h e (ne_eqb (slot_of e.step) m other)
 
 -- a slot's own turn
-pub turns_own : (ts : List Said) (t : Said) → turns_of t.slot (ts ++ t ∷ []) ≡ turns_of t.slot ts ++ t ∷ []
-turns_own ts t = filter_one (λ u. u.slot == t.slot) ts t (eq-eqb t.slot t.slot refl)
+pub turns_own : (ts : List Said) (t : Said) (m : ℕ) → t.slot ≡ m → turns_of m (ts ++ t ∷ []) ≡ turns_of m ts ++ t ∷ []
+turns_own ts t m same = filter_one (λ u. u.slot == m) ts t (eq-eqb t.slot m same)
 
 -- another slot's turn
 pub turns_other : (ts : List Said) (t : Said) (m : ℕ) → t.slot ≢ m → turns_of m (ts ++ t ∷ []) ≡ turns_of m ts

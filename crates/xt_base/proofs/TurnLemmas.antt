@@ -25,6 +25,10 @@ pub record IsTurn (h : List Event) (queue : List JobName) (hand : ℕ → Option
 pub turn_none : IsTurn [] [] (λ w. None)
 turn_none = record { posts = refl; takes = λ w. refl; new = refl; once = λ w. refl }
 
+-- hands that hold the same
+pub turn_hands : (h : List Event) (queue : List JobName) (hand hand' : ℕ → Option JobName) → IsTurn h queue hand → ((w : ℕ) → hand' w ≡ hand w) → IsTurn h queue hand'
+turn_hands h queue hand hand' t e = record { posts = t.posts; takes = λ w. t.takes w ∙ ap (λ o. finished_by w h ++ option_to_list o) (sym (e w)); new = t.new; once = t.once }
+
 -- ---- the names of a history are the queue and the hands
 -- the waiting names are the queue
 pub waiting_is : (h : List Event) (queue : List JobName) (hand : ℕ → Option JobName) → IsTurn h queue hand → waiting h ≡ queue
@@ -51,7 +55,8 @@ pub taken_among : (w : ℕ) (h : List Event) (n : JobName) → is_among (taken_b
 taken_among w h n there = among_more (λ e. take_by w e.step) (λ e. take_of e.step) (λ e. take_by_case w e.step) h n there
 
 -- ---- one more event
-one_more : {X : Type 0} (f : X → Option JobName) (xs : List X) (x : X) → filter_map f (xs ++ x ∷ []) ≡ filter_map f xs ++ option_to_list (f x)
+-- what a reading gives of one more
+pub one_more : {X : Type 0} (f : X → Option JobName) (xs : List X) (x : X) → filter_map f (xs ++ x ∷ []) ≡ filter_map f xs ++ option_to_list (f x)
 one_more f xs x = filter_map-append f xs (x ∷ []) ∙ ap (λ l. filter_map f xs ++ l) (single (f x)) where
   single : (o : Option JobName) → cons_option o [] ≡ option_to_list o
   single None = refl
@@ -81,7 +86,7 @@ turn_more h queue hand e queue' hand' t posts takes new once = record {
 }
 
 -- the queue and the hands after one more step
-unfoldable pub IsTurnAfter : List Event → List JobName → (ℕ → Option JobName) → Step → Reply → Type 0
+abbrev pub IsTurnAfter : List Event → List JobName → (ℕ → Option JobName) → Step → Reply → Type 0
 IsTurnAfter h queue hand x r = IsTurn (h ++ record { step = x; reply = r } ∷ []) (queue_after x queue) (λ w. hand_after x r w (hand w))
 
 -- a step that is on no name
@@ -162,7 +167,6 @@ in_hand hand worker w name first same = ap hand (sym (eqb-true worker w same)) �
 -- a step that the common part and the turn let come
 pub turn_step : (h : List Event) (queue : List JobName) (hand : ℕ → Option JobName) (x : Step) (r : Reply) → IsTurn h queue hand
     → keeps_common h x ≡ true → keeps_turn queue hand x ≡ true → IsTurnAfter h queue hand x r
-unfolding IsTurnAfter
 turn_step h queue hand (Mount slot log_bytes blocks) r t common turn = turn_still h queue hand _ t refl refl (λ w. refl) (λ w. refl)
 turn_step h queue hand (Call slot life request answer) r t common turn = turn_still h queue hand _ t refl refl (λ w. refl) (λ w. refl)
 turn_step h queue hand (Post name) r t common turn = turn_post h queue hand name r t (not-true (is_among (posted h) name) common)
