@@ -1,6 +1,6 @@
 //! A finite map from numbers, for a mount's small tables.
 
-ghost use Rattle.std.specs.Prelude.{◌≡◌, ◌+◌, ◌≤◌, ◌<◌, ◌==◌, ◌∷◌, ◌++◌, [], length, take, drop, slice_get, IfOk, MatchOption, option_copied};
+ghost use Rattle.std.specs.Prelude.{◌≡◌, ◌+◌, ◌≤◌, ◌<◌, ◌==◌, ◌∷◌, ◌++◌, [], length, take, drop, slice_get, IfOk, IfSome, IfNone, MatchOption, option_copied};
 ghost use Rattle.xt_base.specs.Maps.{at, is_in, put as with_entry, without};
 ghost use Rattle.xt_base.specs.Places.{place, spot};
 
@@ -98,6 +98,8 @@ impl<V> NumberMap<V> {
     pub fn remove(&mut self, key: u64) -> Option<V>
         ensures value { result ≡ at key self.old }
         ensures rest { self.new ≡ without key self.old }
+        ensures room { IfSome result (λ _. length self.new < 128) }
+        ensures missing { IfNone result (self.new ≡ self.old) }
     {
         let found = spot_of(&self.entries, key);
         if found < self.entries.len() {

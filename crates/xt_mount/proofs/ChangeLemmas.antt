@@ -1,9 +1,9 @@
 -- The changes of a leg, seen as the definitions have them.
 use Rattle.std.proofs.Common.{◌≡◌, ◌∙◌, ◌+◌, ◌*◌, ◌-◌, ◌≤◌, ℕ, List, [], Option, Some, None, Bool, true, false, sym, ap, refl, map, length, arith}
-use Rattle.std.specs.Prelude.{option_map, unwrap_or, sum_by}
+use Rattle.std.specs.Prelude.{◌&&◌, option_map, unwrap_or, sum_by, is_some, is_none}
 use Rattle.xt_base.specs.Maps.{at, put}
 use Rattle.xt_base.specs.State.{Change, Leg, Transaction}
-use Rattle.xt_base.specs.Legs.{change_of}
+use Rattle.xt_base.specs.Legs.{change_of, is_stale}
 use Rattle.xt_base.specs.Chunks.{union}
 use Rattle.xt_base.specs.Calls.{edited}
 use Rattle.xt_base.specs.Space.{charge, change_cost}
@@ -84,3 +84,12 @@ charge_put b total before price x cs rising whole was new =
     let less = charge_at_le b cs in
     let more = sum_put change_cost 0 b x cs rising in
     omega (arith, less, more, weight_is b (at b cs), charge-some (put b x cs) (length_put_positive b x cs))
+
+-- a change that has its bytes invalidates nothing
+stale_if : (o : Option Edited) → (is_some (option_map change_is o) && is_none (unwrap_or (option_map change_is o) no_change).edit) ≡ false
+stale_if None = refl
+stale_if (Some e) = refl
+
+pub stale_none : (b : ℕ) (es : List (ℕ × Edited)) (t : Transaction) → leg_is es ≡ t.leg → is_stale b t.leg ≡ false
+stale_none b es t of =
+    sym (ap (λ (l : Leg). is_stale b l) of) ∙ ap (λ x. is_some x && is_none (unwrap_or x no_change).edit) (at_map change_is b es) ∙ stale_if (at b es)

@@ -2,3 +2,6 @@ pub mod Layers
 pub mod Changes
 pub mod Lists
 pub mod Machines
+pub mod Settling
+pub mod Ending
+pub mod Texts

@@ -55,6 +55,7 @@ impl Frames {
     pub fn committed_len(&self) -> usize
         ensures value { result ≡ length self.now.committed }
         ensures small { result ≤ 128 }
+        ensures idle { length self.now.idle ≤ 64 }
     {
         self.committed.len()
     }

@@ -1,8 +1,8 @@
 //! An open transaction: its grant, and what its present leg changed.
 
-ghost use Rattle.std.specs.Prelude.{◌≡◌, ◌+◌, ◌*◌, ◌<◌, ◌≤◌, [], length, map, sum_by, IfOk, option_copied};
+ghost use Rattle.std.specs.Prelude.{◌≡◌, ◌+◌, ◌*◌, ◌<◌, ◌≤◌, [], length, map, sum_by, false, IfOk, option_copied};
 ghost use Rattle.xt_base.specs.Calls.{edited, new_trans};
-ghost use Rattle.xt_base.specs.Legs.{change_of, is_dirty};
+ghost use Rattle.xt_base.specs.Legs.{change_of, is_dirty, is_stale};
 ghost use Rattle.xt_base.specs.Space.{charge, change_cost};
 ghost use Rattle.xt_base.specs.Sound.{IsRising};
 ghost use Rattle.xt_mount.specs.Changes.{change_entry, charge_at};
@@ -71,9 +71,10 @@ impl TransRec {
         !self.changes.is_empty()
     }
 
-    /// The leg's bytes of a block.
+    /// The leg's bytes of a block. A change always has its bytes: no request that has come invalidates a block.
     pub fn edit_of(&self, block: u64) -> Option<&Content>
-        ensures { option_copied result ≡ (change_of block self.now.leg).edit }
+        ensures value { option_copied result ≡ (change_of block self.now.leg).edit }
+        ensures whole { is_stale block self.now.leg ≡ false }
     {
         match self.changes.get(block) {
             Some(change) => Some(&change.edit),
@@ -133,7 +134,8 @@ impl TransRec {
 
     /// The changes of the leg, whose transaction ends.
     pub fn into_changes(self) -> NumberMap<Change>
-        ensures { map change_entry result ≡ self.leg.changes }
+        ensures changes { map change_entry result ≡ self.leg.changes }
+        ensures holds { self.leg.holds ≡ [] }
     {
         self.changes
     }

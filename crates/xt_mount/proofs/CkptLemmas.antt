@@ -1,0 +1,101 @@
+-- The text of a checkpoint, chunk by chunk and item by item.
+use Rattle.std.proofs.Common.{◌≡◌, ◌∙◌, ◌+◌, ◌*◌, ◌-◌, ◌<◌, ◌≤◌, ℕ, suc, List, [], ◌∷◌, ◌++◌, Option, Some, None, Bool, true, false, sym, ap, subst, refl, length, arith, map, take, drop, filter, if◌then◌else◌, add-one, append-nil, length-append, IfSome}
+use Rattle.std.specs.Prelude.{All, ◌==◌, flat_map, get_or, replicate, not}
+use Rattle.std.specs.Int.{bit_at}
+use Rattle.std.proofs.lemmas.List.{drop-replicate, take-replicate, take_more, length-map, map-append}
+use Rattle.std.proofs.lemmas.List.Concat.{flat_map-append}
+use Rattle.std.proofs.lemmas.List.Elements.{filter-append, All-push}
+use Rattle.xt_base.specs.Chunks.{below, chunks_where, places_of}
+use Rattle.xt_base.specs.Jobs.{landed, landed_items, waits_on}
+use Rattle.xt_base.specs.Settle.{settled}
+use Rattle.xt_base.specs.Sound.{IsRising, RisesFrom, AllBelow, IsBetween, IsSound}
+use Rattle.xt_base.specs.State.{Flight, Items, Jobs, State}
+use Rattle.xt_base.specs.Text.{chunk, chunk_bytes, zeros}
+use Rattle.xt_base.specs.declared.steps.Owner.{Owner}
+use Rattle.xt_base.proofs.MapLemmas.{some_same}
+use Rattle.xt_ckpt.specs.Items.{BlocksRise, HasForm, item_bytes, RisesFrom as NumbersRise}
+use Rattle.xt_ckpt.specs.declared.item.Item.{Item}
+use Rattle.xt_mount.specs.Lists.{flight_number}
+use Rattle.xt_mount.specs.Texts.{entry_block, entry_bytes}
+
+-- a chunk of zeros
+pub zero_chunk : (k : ℕ) → k < 32 → replicate 128 0 ≡ chunk zeros k
+zero_chunk k lt = sym (ap (take 128) (drop-replicate (128 * k) 4096 0) ∙ take-replicate 128 (4096 - 128 * k) 0 (omega arith))
+
+-- one number more below
+marked_one : (p : ℕ → Bool) (k : ℕ) → filter p (below (k + 1)) ≡ filter p (below k) ++ filter p (k ∷ [])
+marked_one p k = ap (λ n. filter p (below n)) (add-one k) ∙ filter-append p (below k) (k ∷ [])
+
+one_chunk : (f : ℕ → List ℕ) (b : Bool) (k : ℕ) → flat_map f (filter (λ _. b) (k ∷ [])) ≡ (if b then f k else [])
+one_chunk f true k = append-nil (f k)
+one_chunk f false k = refl
+
+pub marked_step : (f : ℕ → List ℕ) (p : ℕ → Bool) (k : ℕ) → flat_map f (filter p (below (k + 1))) ≡ flat_map f (filter p (below k)) ++ (if p k then f k else [])
+marked_step f p k = ap (flat_map f) (marked_one p k) ∙ flat_map-append f (filter p (below k)) (filter p (k ∷ [])) ∙ ap (λ xs. flat_map f (filter p (below k)) ++ xs) (one_chunk f (p k) k)
+
+one_count : (b : Bool) (k : ℕ) → 128 * length (filter (λ _. b) (k ∷ [])) ≡ (if b then 128 else 0)
+one_count true k = refl
+one_count false k = refl
+
+pub marked_count : (p : ℕ → Bool) (k : ℕ) → 128 * length (filter p (below (k + 1))) ≡ 128 * length (filter p (below k)) + (if p k then 128 else 0)
+marked_count p k = omega (arith, ap length (marked_one p k), length-append (filter p (below k)) (filter p (k ∷ [])), one_count (p k) k)
+
+same : (k : ℕ) → 32 ≤ k → k ≤ 32 → k ≡ 32
+same k low high = omega arith
+
+-- all numbers of a word
+pub marked_all : (word k : ℕ) (set : List ℕ) → 32 ≤ k → k ≤ 32 → places_of word ≡ set → filter (λ i. bit_at word i == 1) (below k) ≡ set
+unfolding chunks_where
+marked_all word k set low high is = ap (λ n. filter (λ i. bit_at word i == 1) (below n)) (same k low high) ∙ is
+
+-- the numbers of rising entries rise
+numbers_rise : (n : ℕ) (es : List (ℕ × List ℕ)) → RisesFrom n es → NumbersRise n (map entry_block es)
+numbers_rise n [] rises = tt
+numbers_rise n (e ∷ es) rises = (rises.0 , numbers_rise (suc e.0) es rises.1)
+
+pub blocks_rise : (es : List (ℕ × List ℕ)) (items : List Item) → IsRising es → map entry_block es ≡ map (λ (i : Item). i.block) items → BlocksRise items
+blocks_rise es items rises same = subst (NumbersRise 0) same (numbers_rise 0 es rises)
+
+pub same_count : (es : List (ℕ × List ℕ)) (items : List Item) → map entry_block es ≡ map (λ (i : Item). i.block) items → length items ≡ length es
+same_count es items same = sym (length-map items (λ (i : Item). i.block)) ∙ sym (ap length same) ∙ length-map es entry_block
+
+-- the flight of this number has landed
+landed_by : (s : State) (o : Option Flight) (number : ℕ) (owners : List (ℕ × Owner)) (items : Items) (jobs : Jobs) (n : State) → flight_number o ≡ Some number
+    → owners ≡ filter (λ e. not (waits_on number e.1)) s.owners → IfSome o (λ f. items ≡ landed_items f s.items) → jobs ≡ record s.jobs { ckpt = None }
+    → n ≡ settled [] (record s { owners = owners; items = items; jobs = jobs }) → IfSome o (λ f. n ≡ landed [] f s)
+landed_by s None number owners items jobs n flying freed listed done is = tt
+landed_by s (Some f) number owners items jobs n flying freed listed done is =
+    is ∙ ap (λ x. settled [] (record s { owners = x; items = items; jobs = jobs })) (freed ∙ ap (λ k. filter (λ e. not (waits_on k e.1)) s.owners) (sym (some_same f.number number flying)))
+    ∙ ap (λ x. settled [] (record s { owners = filter (λ e. not (waits_on f.number e.1)) s.owners; items = x; jobs = jobs })) listed
+    ∙ ap (λ x. settled [] (record s { owners = filter (λ e. not (waits_on f.number e.1)) s.owners; items = landed_items f s.items; jobs = x })) done
+
+pub landed_is : (s : State) (number : ℕ) (owners : List (ℕ × Owner)) (items : Items) (jobs : Jobs) (n : State) → flight_number s.items.flight ≡ Some number
+    → owners ≡ filter (λ e. not (waits_on number e.1)) s.owners → IfSome s.items.flight (λ f. items ≡ landed_items f s.items) → jobs ≡ record s.jobs { ckpt = None }
+    → n ≡ settled [] (record s { owners = owners; items = items; jobs = jobs }) → IfSome s.items.flight (λ f. n ≡ landed [] f s)
+landed_is s number owners items jobs n flying freed listed done is = landed_by s s.items.flight number owners items jobs n flying freed listed done is
+
+-- what a landing finds
+below_by : (l : Items) (o : Option Flight) → IsBetween o l → IfSome o (λ f. AllBelow f.number l.landed)
+below_by l None between = tt
+below_by l (Some f) between = between.1
+
+pub landed_below : (s : State) → IsSound s → IfSome s.items.flight (λ f. AllBelow f.number s.items.landed)
+landed_below s sound = below_by s.items s.items.flight sound.parts.flying
+
+-- one item more
+pub record HasItems (contents : List (ℕ × List ℕ)) (es : List (ℕ × List ℕ)) (items : List Item) : Type 0 where
+  pub text : flat_map item_bytes items ≡ flat_map (entry_bytes contents) es
+  pub blocks : map entry_block es ≡ map (λ (i : Item). i.block) items
+  pub form : All HasForm items
+
+pub item_more : (contents es : List (ℕ × List ℕ)) (i : ℕ) (e : ℕ × List ℕ) (x : Item) (items new : List Item) → i < length es → e ≡ get_or es i e → new ≡ items ++ x ∷ [] → item_bytes x ≡ entry_bytes contents e
+    → x.block ≡ e.0 → HasForm x → HasItems contents (take i es) items → HasItems contents (take (i + 1) es) new
+item_more contents es i e x items new lt is pushed same_bytes same_block formed before =
+    let cut : take (i + 1) es ≡ take i es ++ e ∷ [] = take_more es i e lt ∙ ap (λ y. take i es ++ y ∷ []) (sym is) in
+    record {
+      text = ap (flat_map item_bytes) pushed ∙ flat_map-append item_bytes items (x ∷ []) ∙ ap (λ ys. flat_map item_bytes items ++ ys) (append-nil (item_bytes x) ∙ same_bytes ∙ sym (append-nil (entry_bytes contents e)))
+        ∙ ap (λ ys. ys ++ flat_map (entry_bytes contents) (e ∷ [])) before.text ∙ sym (flat_map-append (entry_bytes contents) (take i es) (e ∷ [])) ∙ ap (flat_map (entry_bytes contents)) (sym cut);
+      blocks = ap (map entry_block) cut ∙ map-append entry_block (take i es) (e ∷ []) ∙ ap (λ ys. ys ++ e.0 ∷ []) before.blocks ∙ ap (λ b. map (λ (y : Item). y.block) items ++ b ∷ []) (sym same_block)
+        ∙ sym (map-append (λ (y : Item). y.block) items (x ∷ [])) ∙ ap (map (λ (y : Item). y.block)) (sym pushed);
+      form = subst (All HasForm) (sym pushed) (All-push HasForm items x before.form formed);
+    }

@@ -1,0 +1,15 @@
+use Rattle.std.proofs.Common.{arith}
+use Rattle.xt_base.proofs.BusyLemmas.{few_active, few_flying}
+use Rattle.xt_base.specs.State.{State}
+use Rattle.xt_mount.specs.Machines.{state_of}
+use Rattle.xt_mount.proofs.CkptLemmas.{landed_is}
+use Rattle.xt_mount.proofs.machine.Machine.land.Goals as goal
+
+pub land-requires-clause-room : goal.land-requires-clause-room
+land-requires-clause-room c =
+    let s : State = state_of c.args.self.now in
+    omega (arith, few_active s.log_bytes s.owners s.transactions s.items c.requires.sound.parts, few_flying s.log_bytes s.owners s.transactions s.items c.requires.sound.parts)
+
+pub returns : goal.returns
+returns c =
+    landed_is (state_of c.args.self.now) c.args.number c.free_stale.new.self c.land.new.self c.finish.new.self (state_of c.settle.new.self) c.requires.flying c.free_stale.ensures c.land.ensures c.finish.ensures c.settle.ensures

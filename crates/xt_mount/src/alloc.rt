@@ -1,0 +1,79 @@
+//! Opening a transaction, and what a force waits for.
+
+ghost use Rattle.std.specs.Prelude.{◌≡◌, IfOk, OnErr};
+ghost use Rattle.xt_base.specs.Calls.{alloc as alloc_step, alloc_refusals, first_of, force as force_step, gives};
+ghost use Rattle.xt_base.specs.Sound.{IsSound};
+ghost use Rattle.xt_mount.specs.Machines.{state_of};
+
+use crate::machine::Machine;
+use crate::trans::TransRec;
+use std::alloc::AllocError;
+use xt_base::names::{CkptNo, TransNo};
+use xt_base::steps::{Errno, Reply};
+
+/// How many transactions of a mount may be open.
+const OPEN: usize = 32;
+
+impl Machine {
+    /// What refuses an alloc before the space does.
+    fn alloc_refusal(&self, unit: u32, count: u32, perm: bool) -> Option<Errno>
+        ensures { result ≡ first_of (alloc_refusals unit count perm (state_of self.now)) }
+    {
+        if unit == 0
+            || count == 0
+            || count > 8
+            || (count > 1 && !perm)
+            || u64::from(unit) * u64::from(count) > u64::from(self.log_bytes)
+        {
+            return Some(Errno::Invalid);
+        }
+        if self.is_shut() {
+            return Some(Errno::Io);
+        }
+        if self.last_trans == u64::MAX {
+            return Some(Errno::NoSpace);
+        }
+        if self.transactions.len() >= OPEN {
+            return Some(Errno::Again);
+        }
+        None
+    }
+
+    /// Opens a transaction of `count` legs of `unit` log bytes. Where no space is left, a checkpoint and a
+    /// flush are asked.
+    pub fn alloc(&mut self, unit: u32, count: u32, perm: bool) -> Result<Reply, AllocError>
+        requires { IsSound (state_of self.old) }
+        ensures ok { IfOk result (λ reply. gives reply (state_of self.new) ≡ alloc_step unit count perm (state_of self.old)) }
+        ensures err { OnErr result (state_of self.new ≡ state_of self.old) }
+    {
+        if let Some(errno) = self.alloc_refusal(unit, count, perm) {
+            return Ok(Reply::Refused(errno));
+        }
+        let grant = u64::from(unit) * u64::from(count);
+        if self.used() + grant > u64::from(self.log_bytes) {
+            self.ask_space();
+            return Ok(Reply::Refused(Errno::Again));
+        }
+        let trans = TransRec::new(self.alloc, unit, count, perm)?;
+        self.last_trans += 1;
+        self.transactions.put(self.last_trans, trans);
+        Ok(Reply::Trans(TransNo(self.last_trans)))
+    }
+
+    /// What is to be waited for so that all that is committed is on the log.
+    pub fn force(&mut self) -> Reply
+        ensures { gives result (state_of self.new) ≡ force_step (state_of self.old) }
+    {
+        if self.is_shut() {
+            return Reply::Refused(Errno::Io);
+        }
+        if !self.items.cil().is_empty() {
+            self.ask_ckpt();
+            return Reply::Wait(CkptNo(self.items.open_number()));
+        }
+        match self.items.flight_number() {
+            Some(number) => Reply::Wait(CkptNo(number)),
+            None => Reply::Done,
+        }
+    }
+}

@@ -1,0 +1,181 @@
+//! The begin and the end of a checkpoint job.
+
+ghost use Rattle.std.specs.Prelude.{◌≡◌, ◌+◌, ◌*◌, ◌≤◌, ◌<◌, ◌++◌, true, All, length, map, flat_map, is_some, is_none, IfOk, OnOk, OnErr, option_copied, Some, [], IfSome, ◌==◌, if◌then◌else◌};
+ghost use Rattle.std.specs.Int.{bit_at};
+ghost use Rattle.xt_base.specs.Calls.{gives, shut_down as shut_down_step};
+ghost use Rattle.xt_base.specs.Jobs.{begin as begin_step, end as end_step, failed as failed_step, is_ok, landed as landed_step, next_pieces};
+ghost use Rattle.xt_base.specs.Maps.{at};
+ghost use Rattle.xt_base.specs.Sound.{IsSound};
+ghost use Rattle.xt_base.specs.Text.{chunk, chunk_bytes};
+ghost use Rattle.xt_ckpt.specs.Items.{item_bytes, HasForm};
+ghost use Rattle.xt_ckpt.specs.declared.item.Item.{Item as AnItem};
+ghost use Rattle.xt_mount.specs.Lists.{flight_number};
+ghost use Rattle.xt_mount.specs.Machines.{state_of};
+ghost use Rattle.xt_mount.specs.Texts.{entry_bytes, entry_block, seen_content};
+
+use crate::machine::Machine;
+use bytes::Bytes;
+use std::alloc::{AllocError, Global};
+use xt_base::chunks::{CHUNKS, CHUNK_BYTES, Chunks};
+use xt_base::content::Content;
+use xt_base::names::{Block, CkptNo, JobKind};
+use xt_base::steps::{LogAnswers, Reason, Reply};
+use xt_ckpt::item::Item;
+use xt_ckpt::writing::write_checkpoint;
+
+impl Machine {
+    /// The committed items with the bytes of their chunks, as they are now.
+    fn items_now(&self) -> Result<Vec<Item>, AllocError>
+        ensures text { IfOk result (λ items. flat_map item_bytes items.items ≡ flat_map (entry_bytes self.now.frames.committed) self.now.items.cil) }
+        ensures blocks { IfOk result (λ items. map entry_block self.now.items.cil ≡ map (λ (i : AnItem). i.block) items.items) }
+        ensures form { IfOk result (λ items. All HasForm items.items) }
+    {
+        let mut items = Vec::new(self.alloc);
+        for e in self.items.cil() {
+            let content = chunk_bytes_of(self.alloc, self.frames.content(e.0), e.1)?;
+            items.push(Item { block: Block(e.0), chunks: e.1, content })?;
+        }
+        Ok(items)
+    }
+
+    /// The pieces of a checkpoint of the committed items, as they are now.
+    fn pieces_now(&self) -> Result<Vec<Bytes>, AllocError>
+        requires sound { IsSound (state_of self.now) }
+        requires worth { 0 < length self.now.items.cil }
+        ensures pieces { IfOk result (λ pieces. pieces.items ≡ next_pieces (state_of self.now)) }
+        ensures few { IfOk result (λ pieces. length pieces.items ≤ 65) }
+    {
+        let items = self.items_now()?;
+        match write_checkpoint(self.alloc, CkptNo(self.items.open_number()), &items) {
+            Ok(pieces) => Ok(pieces),
+            Err(_) => Err(AllocError),
+        }
+    }
+
+    /// Begins the outstanding checkpoint: the committed items become the flight. On a shut mount there is
+    /// nothing to do.
+    pub fn begin(&mut self) -> Result<Reply, AllocError>
+        requires sound { IsSound (state_of self.old) }
+        requires outstanding { is_some self.old.jobs.ckpt ≡ true }
+        requires waiting { is_none self.old.items.flight ≡ true }
+        ensures ok { IfOk result (λ reply. gives reply (state_of self.new) ≡ begin_step (state_of self.old)) }
+        ensures err { OnErr result (state_of self.new ≡ state_of self.old) }
+    {
+        if self.is_shut() {
+            self.jobs.finish(JobKind::Ckpt);
+            return Ok(Reply::Nothing);
+        }
+        let pieces = self.pieces_now()?;
+        let number = CkptNo(self.items.open_number());
+        let count = pieces.len() as u32;
+        self.items.fly(self.alloc, pieces)?;
+        self.jobs.clear_ckpt();
+        Ok(Reply::Begun { number, pieces: count })
+    }
+
+    /// The flight has landed. It takes no memory.
+    fn land(&mut self, number: u64)
+        requires sound { IsSound (state_of self.old) }
+        requires flying { flight_number self.old.items.flight ≡ Some number }
+        ensures { IfSome self.old.items.flight (λ f. state_of self.new ≡ landed_step [] f (state_of self.old)) }
+    {
+        self.locks.free_stale(number);
+        self.items.land();
+        self.jobs.finish(JobKind::Ckpt);
+        self.settle();
+    }
+
+    /// The flight is given up, and a live mount is shut. It takes no memory.
+    fn fail(&mut self)
+        ensures { state_of self.new ≡ failed_step [] (state_of self.old) }
+    {
+        self.items.fail();
+        self.shut_down(Reason::LogIoError);
+        self.jobs.finish(JobKind::Ckpt);
+        self.settle();
+    }
+
+    /// Shuts the mount, for this reason if it was live.
+    fn shut_down(&mut self, reason: Reason)
+        ensures { state_of self.new ≡ shut_down_step reason (state_of self.old) }
+    {
+        if self.shut.is_none() {
+            self.shut = Some(reason);
+        }
+    }
+
+    /// Ends the checkpoint in flight: it has landed where its sync was answered Ok, else the mount is shut.
+    /// It takes no memory.
+    pub fn end(&mut self, answers: LogAnswers) -> Reply
+        requires sound { IsSound (state_of self.old) }
+        ensures { gives result (state_of self.new) ≡ end_step [] answers (state_of self.old) }
+    {
+        let Some(number) = self.items.flight_number() else {
+            return Reply::Nothing;
+        };
+        if is_synced(answers) {
+            self.land(number);
+            Reply::Landed(CkptNo(number))
+        } else {
+            self.fail();
+            Reply::Failed(CkptNo(number))
+        }
+    }
+}
+
+/// Whether the sync was answered Ok.
+fn is_synced(answers: LogAnswers) -> bool
+    ensures { result ≡ is_ok answers.sync }
+{
+    match answers.sync {
+        Some(ok) => ok,
+        None => false,
+    }
+}
+
+/// The bytes of some chunks of a content, one after another; zeros where there is no content.
+fn chunk_bytes_of(alloc: Global, content: Option<&Content>, chunks: Chunks) -> Result<Vec<u8>, AllocError>
+    ensures bytes { IfOk result (λ bytes. bytes.items ≡ chunk_bytes (seen_content (option_copied content.entry)) chunks) }
+    ensures form { IfOk result (λ bytes. length bytes.items ≡ 128 * length chunks) }
+{
+    let mut bytes = Vec::with_capacity(alloc, CHUNK_BYTES * chunks.count() as usize)?;
+    let word = chunks.word();
+    for k in 0..CHUNKS {
+        push_if_marked(&mut bytes, content, word, k)?;
+    }
+    Ok(bytes)
+}
+
+/// Whether a word of bits has chunk `k`.
+fn is_marked(word: u32, k: u32) -> bool
+    requires { k < 32 }
+    ensures { result ≡ (bit_at word k == 1) }
+{
+    word >> k & 1 == 1
+}
+
+/// Appends the bytes of chunk `k`, if the word has it.
+fn push_if_marked(out: &mut Vec<u8>, content: Option<&Content>, word: u32, k: u32) -> Result<(), AllocError>
+    requires { k < 32 }
+    ensures bytes { OnOk result (out.new.items ≡ out.old.items ++ (if bit_at word k == 1 then chunk (seen_content (option_copied content.entry)) k else [])) }
+    ensures count { OnOk result (length out.new.items ≡ length out.old.items + (if bit_at word k == 1 then 128 else 0)) }
+{
+    if is_marked(word, k) {
+        push_chunk(out, content, k)?;
+    }
+    Ok(())
+}
+
+/// Appends the bytes of one chunk.
+fn push_chunk(out: &mut Vec<u8>, content: Option<&Content>, k: u32) -> Result<(), AllocError>
+    requires { k < 32 }
+    ensures bytes { OnOk result (out.new.items ≡ out.old.items ++ chunk (seen_content (option_copied content.entry)) k) }
+    ensures count { OnOk result (length out.new.items ≡ length out.old.items + 128) }
+{
+    let first = CHUNK_BYTES * k as usize;
+    match content {
+        Some(content) => out.extend_from_slice(&content.bytes()[first..first + CHUNK_BYTES])?,
+        None => out.extend_from_slice(&[0u8; CHUNK_BYTES])?,
+    }
+    Ok(())
+}

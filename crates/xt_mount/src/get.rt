@@ -1,0 +1,80 @@
+//! Locking a block, unread.
+
+ghost use Rattle.std.specs.Prelude.{◌≡◌, ◌<◌, None, false, length, if◌then◌else◌};
+ghost use Rattle.xt_base.specs.Calls.{at_end, brought, first_of, get as get_step, get_refusals, gives, locked, with_owner, with_trans};
+ghost use Rattle.xt_base.specs.Legs.{own_count};
+ghost use Rattle.xt_base.specs.Maps.{at};
+ghost use Rattle.xt_base.specs.Space.{is_busy};
+ghost use Rattle.xt_base.specs.Sound.{IsSound};
+ghost use Rattle.xt_base.specs.declared.steps.Owner.TheVariants.{Trans as OwnedBy};
+ghost use Rattle.xt_mount.specs.Machines.{state_of};
+
+use crate::machine::Machine;
+use xt_base::steps::{Errno, Reply};
+
+/// How many blocks of a mount may be busy.
+const BUSY: usize = 64;
+
+impl Machine {
+    /// What refuses a get.
+    fn get_refusal(&self, trans: u64, block: u64) -> Option<Errno>
+        ensures refusal { result ≡ first_of (get_refusals trans block (state_of self.now)) }
+        ensures room { result ≡ None → at_end (own_count trans (at block self.now.locks)) ≡ false }
+    {
+        if block >= self.blocks {
+            return Some(Errno::Invalid);
+        }
+        if self.is_shut() {
+            return Some(Errno::Io);
+        }
+        if is_at_end(self.locks.own_count(trans, block)) {
+            return Some(Errno::Invalid);
+        }
+        if self.is_elsewhere(trans, block) {
+            return Some(Errno::Again);
+        }
+        if !self.is_busy(block) && self.busy_count() >= BUSY {
+            return Some(Errno::NoBufs);
+        }
+        None
+    }
+
+    /// A first lock of a block: an idle one keeps its content, and one that is not resident is fresh.
+    fn lock_first(&mut self, trans: u64, block: u64)
+        requires { IsSound (state_of self.old) }
+        ensures { state_of self.new ≡ locked trans block None (state_of self.old) }
+    {
+        if !self.is_busy(block) {
+            self.frames.bring(block);
+        }
+        self.locks.lock(trans, block, 0);
+    }
+
+    /// Locks a block, unread. A block that the transaction has is locked once more. It takes no memory.
+    pub fn get(&mut self, trans: u64, block: u64) -> Reply
+        requires { IsSound (state_of self.old) }
+        ensures { gives result (state_of self.new) ≡ with_trans (at trans self.old.transactions) (state_of self.old) (λ t. get_step trans block (state_of self.old)) }
+    {
+        if !self.transactions.contains(trans) {
+            return Reply::Refused(Errno::Invalid);
+        }
+        if let Some(errno) = self.get_refusal(trans, block) {
+            return Reply::Refused(errno);
+        }
+        match self.locks.own_count(trans, block) {
+            Some(count) => self.locks.lock(trans, block, count + 1),
+            None => self.lock_first(trans, block),
+        }
+        Reply::Okay
+    }
+}
+
+/// Whether a recursion count is at its end.
+fn is_at_end(count: Option<u32>) -> bool
+    ensures { result ≡ at_end count }
+{
+    match count {
+        Some(count) => count == u32::MAX,
+        None => false,
+    }
+}

@@ -1,0 +1,58 @@
+//! Blocks that are no longer busy leave the frames.
+
+ghost use Rattle.std.specs.Prelude.{◌≡◌, []};
+ghost use Rattle.xt_base.specs.Settle.{settled};
+ghost use Rattle.xt_mount.specs.Machines.{state_of};
+ghost use Rattle.xt_mount.specs.Settling.{is_busy_in, settled_contents, settled_fresh};
+
+use crate::frames::Frames;
+use crate::items::Items;
+use crate::locks::Locks;
+use crate::machine::Machine;
+
+impl Machine {
+    /// Contents of blocks that are no longer busy go, on a live mount to the front of the idle list,
+    /// ascending by block; their fresh marks go. It takes no memory.
+    pub fn settle(&mut self)
+        ensures { state_of self.new ≡ settled [] (state_of self.old) }
+    {
+        let is_live = self.shut.is_none();
+        settle_contents(&mut self.frames, &self.locks, &self.items, is_live);
+        settle_fresh(&mut self.frames, &self.locks, &self.items);
+    }
+}
+
+/// Whether a block is locked, held or on a list.
+fn is_busy_in(locks: &Locks, items: &Items, block: u64) -> bool
+    ensures { result ≡ is_busy_in locks.now items.now block }
+{
+    locks.is_locked(block) || items.is_listed(block)
+}
+
+/// Committed contents of blocks that are no longer busy go; those that are kept, to the idle list.
+fn settle_contents(frames: &mut Frames, locks: &Locks, items: &Items, is_kept: bool)
+    ensures { frames.new ≡ settled_contents (is_busy_in locks.now items.now) is_kept frames.old }
+{
+    let mut index = 0;
+    while index < frames.committed_len() {
+        if is_busy_in(locks, items, frames.committed_at(index)) {
+            index += 1;
+        } else {
+            frames.settle_at(index, is_kept);
+        }
+    }
+}
+
+/// Fresh marks of blocks that are no longer busy go.
+fn settle_fresh(frames: &mut Frames, locks: &Locks, items: &Items)
+    ensures { frames.new ≡ settled_fresh (is_busy_in locks.now items.now) frames.old }
+{
+    let mut index = 0;
+    while index < frames.fresh_len() {
+        if is_busy_in(locks, items, frames.fresh_at(index)) {
+            index += 1;
+        } else {
+            frames.drop_fresh_at(index);
+        }
+    }
+}
