@@ -17,3 +17,4 @@ pub mod LifeLemmas
 pub mod OrderLemmas
 pub mod FitsLemmas
 pub mod RunLemmas
+pub mod OneLemmas
