@@ -1,13 +1,13 @@
 -- One slot alone: any of its steps, and lists of them.
-use Rattle.std.specs.Prelude.{Bool, List, None, Option, Some, [], false, if◌then◌else◌, is_some, nat_lt, true, ℕ, ◌&&◌, ◌+◌, ◌==◌, ◌||◌, ◌∷◌}
-use Rattle.xt_base.specs.Calls.{Outcome, alone_with, first_of, is_unmount, log}
+use Rattle.std.specs.Prelude.{Bool, List, None, Option, Some, [], false, if◌then◌else◌, is_some, nat_lt, true, ℕ, ◌&&◌, ◌+◌, ◌==◌, ◌||◌, ◌∷◌, ◌≡◌, ◌⊎◌}
+use Rattle.xt_base.specs.Calls.{Outcome, alone_with, first_of, gives, is_unmount, log}
 use Rattle.xt_base.specs.Jobs.{begin, end, end_offers, flush, flush_offers, posted}
 use Rattle.xt_base.specs.Settle.{Dropped}
 use Rattle.xt_base.specs.State.{Lone, State, empty, mount_of}
 use Rattle.xt_base.specs.Steps.{slot_of}
 use Rattle.xt_base.specs.declared.steps.Answer.{Answer}
 use Rattle.xt_base.specs.declared.steps.Errno.{Errno}
-use Rattle.xt_base.specs.declared.steps.Errno.TheVariants.{Busy, Invalid, NoDevice, NoSpace}
+use Rattle.xt_base.specs.declared.steps.Errno.TheVariants.{Busy, Invalid, NoDevice, NoMemory, NoSpace}
 use Rattle.xt_base.specs.declared.steps.HomeOffer.{HomeOffer}
 use Rattle.xt_base.specs.declared.steps.LogOffer.{LogOffer}
 use Rattle.xt_base.specs.declared.steps.Reason.{Reason}
@@ -140,3 +140,7 @@ alone_run steps = alone_from steps empty
 -- why the slot is shut after them, if it is
 abbrev pub shut_after : List Step → Option Reason
 shut_after steps = reason_of (after steps empty).mounted
+
+-- a call or a job took place, or it was refused memory and nothing changed
+abbrev pub IsCallUnlessMemory : Outcome → Reply → State → State → Type 0
+IsCallUnlessMemory outcome reply new old = (gives reply new ≡ outcome) ⊎ ((reply ≡ Refused NoMemory) × (new ≡ old))

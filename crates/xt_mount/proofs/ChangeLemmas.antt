@@ -57,7 +57,7 @@ module _ (b : ℕ) (es : List (ℕ × Edited)) where
       let new : List ℕ → List ℕ → List ℕ → Change = λ s m c. record { edit = Some s; marks = m; charged = c } in
       let legs : List (ℕ × Change) → Leg = λ cs. record { changes = cs; holds = [] } in
       let same : change_is e ≡ new bytes (union (change_of b t.leg).marks marked) (union (change_of b t.leg).charged marked)
-        = ap (λ s. new s e.marks e.charged) edit_of ∙ ap (λ m. new bytes m e.charged) marks_of ∙ ap (new bytes (union (change_of b t.leg).marks marked)) charged_of in
+      = ap (λ s. new s e.marks e.charged) edit_of ∙ ap (λ m. new bytes m e.charged) marks_of ∙ ap (new bytes (union (change_of b t.leg).marks marked)) charged_of in
       ap legs (sym (put_map change_is b e es)) ∙ ap (λ x. legs (put b x (map change_entry es))) same
       ∙ ap (λ (l : Leg). record l { changes = put b (new bytes (union (change_of b t.leg).marks marked) (union (change_of b t.leg).charged marked)) l.changes }) of
 

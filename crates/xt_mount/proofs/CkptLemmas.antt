@@ -51,7 +51,7 @@ marked_all word k set low high is = ap (λ n. filter (λ i. bit_at word i == 1) 
 -- the numbers of rising entries rise
 numbers_rise : (n : ℕ) (es : List (ℕ × List ℕ)) → RisesFrom n es → NumbersRise n (map entry_block es)
 numbers_rise n [] rises = tt
-numbers_rise n (e ∷ es) rises = (rises.0 , numbers_rise (suc e.0) es rises.1)
+numbers_rise n (e ∷ es) rises = (rises.0, numbers_rise (suc e.0) es rises.1)
 
 pub blocks_rise : (es : List (ℕ × List ℕ)) (items : List Item) → IsRising es → map entry_block es ≡ map (λ (i : Item). i.block) items → BlocksRise items
 blocks_rise es items rises same = subst (NumbersRise 0) same (numbers_rise 0 es rises)
@@ -94,8 +94,8 @@ item_more contents es i e x items new lt is pushed same_bytes same_block formed 
     let cut : take (i + 1) es ≡ take i es ++ e ∷ [] = take_more es i e lt ∙ ap (λ y. take i es ++ y ∷ []) (sym is) in
     record {
       text = ap (flat_map item_bytes) pushed ∙ flat_map-append item_bytes items (x ∷ []) ∙ ap (λ ys. flat_map item_bytes items ++ ys) (append-nil (item_bytes x) ∙ same_bytes ∙ sym (append-nil (entry_bytes contents e)))
-        ∙ ap (λ ys. ys ++ flat_map (entry_bytes contents) (e ∷ [])) before.text ∙ sym (flat_map-append (entry_bytes contents) (take i es) (e ∷ [])) ∙ ap (flat_map (entry_bytes contents)) (sym cut);
+          ∙ ap (λ ys. ys ++ flat_map (entry_bytes contents) (e ∷ [])) before.text ∙ sym (flat_map-append (entry_bytes contents) (take i es) (e ∷ [])) ∙ ap (flat_map (entry_bytes contents)) (sym cut);
       blocks = ap (map entry_block) cut ∙ map-append entry_block (take i es) (e ∷ []) ∙ ap (λ ys. ys ++ e.0 ∷ []) before.blocks ∙ ap (λ b. map (λ (y : Item). y.block) items ++ b ∷ []) (sym same_block)
-        ∙ sym (map-append (λ (y : Item). y.block) items (x ∷ [])) ∙ ap (map (λ (y : Item). y.block)) (sym pushed);
+          ∙ sym (map-append (λ (y : Item). y.block) items (x ∷ [])) ∙ ap (map (λ (y : Item). y.block)) (sym pushed);
       form = subst (All HasForm) (sym pushed) (All-push HasForm items x before.form formed);
     }

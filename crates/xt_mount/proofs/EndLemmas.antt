@@ -63,9 +63,9 @@ aborted_none : (t : ℕ) (cs : List (ℕ × Change)) (s : State) → aborted t (
 aborted_none t cs s =
     let with_frames : List (ℕ × List ℕ) → List ℕ → List (ℕ × Owner) → State = λ c f o. record s { frames = record s.frames { committed = c; fresh = f }; owners = o } in
     let contents : filter (λ e. not (is_in e.0 cs && false)) s.frames.committed ≡ s.frames.committed
-      = filter_agree (λ e. not (is_in e.0 cs && false)) (λ _. true) (λ e. not_and_false (is_in e.0 cs)) s.frames.committed ∙ filter_true s.frames.committed in
+    = filter_agree (λ e. not (is_in e.0 cs && false)) (λ _. true) (λ e. not_and_false (is_in e.0 cs)) s.frames.committed ∙ filter_true s.frames.committed in
     let owners : filter_map (owner_aborted t (record { changes = cs; holds = [] })) s.owners ≡ filter (λ e. not (owned_by t e.1)) s.owners
-      = filter_map_is (owner_aborted t (record { changes = cs; holds = [] })) (λ e. not (owned_by t e.1)) s.owners (λ e. refl) in
+    = filter_map_is (owner_aborted t (record { changes = cs; holds = [] })) (λ e. not (owned_by t e.1)) s.owners (λ e. refl) in
     ap (λ c. with_frames c (with_lost cs (record { changes = cs; holds = [] }) s.frames.fresh) (filter_map (owner_aborted t (record { changes = cs; holds = [] })) s.owners)) contents
     ∙ ap (λ f. with_frames s.frames.committed f (filter_map (owner_aborted t (record { changes = cs; holds = [] })) s.owners)) (with_lost_none cs cs s.frames.fresh)
     ∙ ap (with_frames s.frames.committed s.frames.fresh) owners
@@ -83,12 +83,12 @@ ended_changes : (t : ℕ) (es : List (ℕ × Edited)) (s : State) → ended t (l
 ended_changes t es s =
     let cs : List (ℕ × Change) = map change_entry es in
     let rest : List (ℕ × Owner) → State = λ o. record s {
-        frames = record s.frames { committed = with_edits cs s.frames.committed };
-        items = record s.items { cil = with_marks cs s.items.cil };
-        owners = o;
-      } in
+      frames = record s.frames { committed = with_edits cs s.frames.committed };
+      items = record s.items { cil = with_marks cs s.items.cil };
+      owners = o;
+    } in
     ap rest (filter_map_is (owner_after t (leg_is es) s.items.open_number) (λ e. not (owned_by t e.1)) s.owners
-      (λ e. owner_free (not (owned_by t e.1)) (is_stale e.0 (leg_is es)) e (Some (e.0 , Stale s.items.open_number)) (stale_none e.0 es (leg_only (leg_is es)) refl)))
+    (λ e. owner_free (not (owned_by t e.1)) (is_stale e.0 (leg_is es)) e (Some (e.0, Stale s.items.open_number)) (stale_none e.0 es (leg_only (leg_is es)) refl)))
 
 -- a leg by its changes
 leg_by : (leg : Leg) (es : List (ℕ × Edited)) → map change_entry es ≡ leg.changes → leg.holds ≡ [] → leg ≡ leg_is es

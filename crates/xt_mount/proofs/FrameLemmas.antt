@@ -1,6 +1,11 @@
 -- Frames after a block was brought in.
-use Rattle.std.proofs.Common.{◌≡◌, ◌∙◌, ℕ, List, Option, Some, None, sym, ap}
-use Rattle.xt_base.specs.Maps.{at, put, without, with_member}
+use Rattle.std.proofs.Common.{◌≡◌, ◌∙◌, ◌<◌, ◌≤◌, ℕ, List, [], Option, Some, None, Bool, true, false, sym, ap, subst, length, arith, inl, inr}
+use Rattle.std.specs.Prelude.{nat_lt, is_some}
+use Rattle.std.proofs.lemmas.Bool.Decides.{nat_tests}
+use Rattle.std.proofs.lemmas.Bool.{cases_lt}
+use Rattle.xt_base.specs.Places.{spot}
+use Rattle.xt_base.proofs.PlaceLemmas.{found, missing}
+use Rattle.xt_base.specs.Maps.{at, is_in, put, without, with_member}
 use Rattle.xt_base.specs.State.{Frames}
 use Rattle.xt_mount.specs.Layers.{brought_in}
 
@@ -17,3 +22,17 @@ module _ (b : ℕ) (f g : Frames) (same : f ≡ g) where
   brought_fresh fresh missing more =
       let frames : List ℕ → Frames = λ x. record { committed = f.committed; fresh = x; idle = f.idle } in
       ap frames more ∙ ap (λ o. brought_in b o f) missing ∙ ap (λ (h : Frames). brought_in b (at b h.idle) h) same
+
+-- a key is there where its spot is within the entries
+lt_true : (a b : ℕ) → a < b → nat_lt a b ≡ true
+lt_true a b h = grind (arith, nat_tests)
+
+lt_false : (a b : ℕ) → b ≤ a → nat_lt a b ≡ false
+lt_false a b h = grind (arith, nat_tests)
+
+pub spot_is_in : (k : ℕ) (m : List (ℕ × List ℕ)) (p n : ℕ) → p ≡ spot k m → n ≡ length m → nat_lt p n ≡ is_in k m
+spot_is_in k m p n is count =
+    elim (cases_lt p n) [
+      inl lt ↦ lt_true p n lt ∙ sym (ap is_some (found k m (0 , []) (subst (λ x. x < length m) is (subst (λ x. p < x) count lt))).0)
+      | inr ge ↦ lt_false p n ge ∙ sym (ap is_some (missing k m (subst (λ x. length m ≤ x) is (subst (λ x. x ≤ p) count ge))).0)
+    ]

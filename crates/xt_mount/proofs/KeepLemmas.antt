@@ -17,7 +17,7 @@ apart k n lt same = omega arith
 
 module _ {V : Type 0} where
   -- a key below all others goes in front
-  put_front : (k n : ℕ) (v : V) (es : List (ℕ × V)) → k < n → RisesFrom n es → put k v es ≡ (k , v) ∷ es
+  put_front : (k n : ℕ) (v : V) (es : List (ℕ × V)) → k < n → RisesFrom n es → put k v es ≡ (k, v) ∷ es
   put_front k n v [] lt rises = refl
   put_front k n v (e ∷ es) lt rises = put_less k v e es (omega (arith, rises.0))
 
@@ -26,10 +26,10 @@ module _ {V : Type 0} where
   put_without n k u v [] rises there = some_none u (put k v [] ≡ []) (sym there)
   put_without n k u v (e ∷ es) rises there =
       elim (cases_order k e.0) [
-        inl same ↦ ap (put k v) (without_first k e es same) ∙ put_front k (suc e.0) v es (omega arith) rises.1 ∙ ap (λ i. (i , v) ∷ es) same ∙ sym (set_first k v e es same)
-        | inr (inl less) ↦ some_none u (put k v (without k (e ∷ es)) ≡ set_at k v (e ∷ es)) (sym there ∙ none_below k e.0 (e ∷ es) less (omega arith , rises.1))
+        | inl same ↦ ap (put k v) (without_first k e es same) ∙ put_front k (suc e.0) v es (omega arith) rises.1 ∙ ap (λ i. (i, v) ∷ es) same ∙ sym (set_first k v e es same)
+        | inr (inl less) ↦ some_none u (put k v (without k (e ∷ es)) ≡ set_at k v (e ∷ es)) (sym there ∙ none_below k e.0 (e ∷ es) less (omega arith, rises.1))
         | inr (inr more) ↦ ap (put k v) (without_later k e es (apart k e.0 more)) ∙ put_more k v e (without k es) more
-          ∙ ap (λ xs. e ∷ xs) (put_without (suc e.0) k u v es rises.1 (sym (at_later k e es (apart k e.0 more)) ∙ there)) ∙ sym (set_later k v e es (apart k e.0 more))
+            ∙ ap (λ xs. e ∷ xs) (put_without (suc e.0) k u v es rises.1 (sym (at_later k e es (apart k e.0 more)) ∙ there)) ∙ sym (set_later k v e es (apart k e.0 more))
       ]
 
   pub put_back : (k : ℕ) (u v : V) (es : List (ℕ × V)) → IsRising es → at k es ≡ Some u → put k v (without k es) ≡ set_at k v es

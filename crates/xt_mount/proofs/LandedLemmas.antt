@@ -43,7 +43,7 @@ pub all_needed : (ail xs : List (ℕ × ℕ)) → IsRising xs → is_front_unnee
 all_needed ail [] rising kept = refl
 all_needed ail (e ∷ es) rising kept =
     let here = needed_front (is_needed ail e.0) kept in
-    sym (filter_all (λ x. is_needed ail x.0) (e ∷ es) (here , each_map (λ x. suc e.0 ≤ x.0) (λ x. is_needed ail x.0 ≡ true) es (λ x h. needed_later ail e.0 x.0 (omega arith) here) (rises_above (suc e.0) es rising.1)))
+    sym (filter_all (λ x. is_needed ail x.0) (e ∷ es) (here, each_map (λ x. suc e.0 ≤ x.0) (λ x. is_needed ail x.0 ≡ true) es (λ x h. needed_later ail e.0 x.0 (omega arith) here) (rises_above (suc e.0) es rising.1)))
 
 -- where it does not, it can go
 pub record Goes (ail old new : List (ℕ × ℕ)) (price : ℕ) : Type 0 where
@@ -62,7 +62,7 @@ front_goes ail xs ys e is rising unneeded =
     }
 
 -- the newest checkpoint comes last
-pub landed_last : (number price : ℕ) (old new : List (ℕ × ℕ)) → AllBelow number old → new ≡ old ++ (number , price) ∷ [] → new ≡ put number price old
+pub landed_last : (number price : ℕ) (old new : List (ℕ × ℕ)) → AllBelow number old → new ≡ old ++ (number, price) ∷ [] → new ≡ put number price old
 landed_last number price old new below is = is ∙ sym (put_last number price old below)
 
 pub landed_rises : (number price : ℕ) (old new : List (ℕ × ℕ)) → IsRising old → new ≡ put number price old → IsRising new
@@ -74,16 +74,16 @@ module _ (now : Items) (f : Flight) (flying : now.flight ≡ Some f) (below : If
   pub below_flight : AllBelow f.number now.landed
   below_flight = subst (λ o. IfSome o (λ g. AllBelow g.number now.landed)) flying below
 
-  pub rises_landed : (price : ℕ) (more : List (ℕ × ℕ)) → IsRising now.landed → more ≡ now.landed ++ (f.number , price) ∷ [] → IsRising more
+  pub rises_landed : (price : ℕ) (more : List (ℕ × ℕ)) → IsRising now.landed → more ≡ now.landed ++ (f.number, price) ∷ [] → IsRising more
   rises_landed price more rising is = landed_rises f.number price now.landed more rising (landed_last f.number price now.landed more below_flight is)
 
-  pub landing : (none : Option Flight) (price : ℕ) (ail more left : List (ℕ × ℕ)) → none ≡ None → price ≡ cost f.items → ail ≡ activated f.number f.items now.ail → more ≡ now.landed ++ (f.number , price) ∷ []
+  pub landing : (none : Option Flight) (price : ℕ) (ail more left : List (ℕ × ℕ)) → none ≡ None → price ≡ cost f.items → ail ≡ activated f.number f.items now.ail → more ≡ now.landed ++ (f.number, price) ∷ []
       → left ≡ still_needed ail more
       → IfSome now.flight (λ g. record { open_number = now.open_number; cil = now.cil; flight = none; ail = ail; landed = left } ≡ landed_items g now)
   landing none price ail more left none_is cost_is ail_is more_is left_is =
       let given : Option Flight → Items = λ o. record { open_number = now.open_number; cil = now.cil; flight = o; ail = ail; landed = left } in
       let lists : List (ℕ × ℕ) → List (ℕ × ℕ) → Items = λ a l. record { open_number = now.open_number; cil = now.cil; flight = None; ail = a; landed = l } in
       let whole : given none ≡ landed_items f now
-        = ap given none_is ∙ ap (lists ail) (left_is ∙ ap (still_needed ail) (landed_last f.number price now.landed more below_flight more_is ∙ ap (λ p. put f.number p now.landed) cost_is))
-          ∙ ap (λ a. lists a (still_needed a (put f.number (cost f.items) now.landed))) ail_is in
+      = ap given none_is ∙ ap (lists ail) (left_is ∙ ap (still_needed ail) (landed_last f.number price now.landed more below_flight more_is ∙ ap (λ p. put f.number p now.landed) cost_is))
+      ∙ ap (λ a. lists a (still_needed a (put f.number (cost f.items) now.landed))) ail_is in
       subst (λ o. IfSome o (λ g. given none ≡ landed_items g now)) (sym flying) whole

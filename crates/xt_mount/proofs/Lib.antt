@@ -6,3 +6,4 @@ pub mod SettleLemmas
 pub mod KeepLemmas
 pub mod EndLemmas
 pub mod CkptLemmas
+pub mod MountLemmas

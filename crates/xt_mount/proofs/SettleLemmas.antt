@@ -15,10 +15,10 @@ use Rattle.xt_mount.specs.Settling.{settled_contents, settled_fresh, leaving_con
 pub place_at : {X : Type 0} (P : X → Type 0) (xs : List X) (i : ℕ) → i < length xs → IfSome (slice_get xs i) P
     → (e : X) × (drop i xs ≡ e ∷ drop (suc i) xs) × (take (suc i) xs ≡ take i xs ++ e ∷ []) × P e
 place_at P [] i lt holds = absurd (omega arith)
-place_at P (x ∷ xs) zero lt holds = (x , refl , refl , holds)
+place_at P (x ∷ xs) zero lt holds = (x, refl, refl, holds)
 place_at P (x ∷ xs) (suc i) lt holds =
     let rest = place_at P xs i (omega arith) holds in
-    (rest.0 , rest.1 , ap (λ ys. x ∷ ys) rest.2 , rest.3)
+    (rest.0, rest.1, ap (λ ys. x ∷ ys) rest.2, rest.3)
 
 -- a list without the element at a place
 pub take_without : {X : Type 0} (xs : List X) (i : ℕ) (ys : List X) → i ≤ length xs → take i (take i xs ++ ys) ≡ take i xs
@@ -81,7 +81,7 @@ pub record Settles (busy : ℕ → Bool) (is_kept : Bool) (index : ℕ) (old now
 -- two facts of one value
 both_some : {X : Type 0} (o : Option X) (P Q : X → Type 0) → IfSome o P → IfSome o Q → IfSome o (λ x. P x × Q x)
 both_some None P Q p q = p
-both_some (Some x) P Q p q = (p , q)
+both_some (Some x) P Q p q = (p, q)
 
 -- a filter in the midst of its list: the element at the place passes
 pub filter_stays : {X : Type 0} (p : X → Bool) (xs : List X) (i : ℕ) (e : X) → drop i xs ≡ e ∷ drop (suc i) xs → take (suc i) xs ≡ take i xs ++ e ∷ [] → p e ≡ true
@@ -122,7 +122,7 @@ module _ (busy : ℕ → Bool) (is_kept : Bool) (index : ℕ) (old now : Frames)
         within = omega arith;
         stays = filter_stays (λ x. busy x.0) now.committed index found.0 found.1 found.2 busy_here ∙ before.stays;
         rests = ap (λ n. rest_of busy is_kept (drop n now.committed) now.idle) (add-one index) ∙ rests_still busy is_kept found.0 (drop (suc index) now.committed) now.idle busy_here
-          ∙ ap (λ xs. rest_of busy is_kept xs now.idle) (sym found.1) ∙ before.rests;
+            ∙ ap (λ xs. rest_of busy is_kept xs now.idle) (sym found.1) ∙ before.rests;
         fresh = before.fresh;
       }
 
@@ -144,7 +144,7 @@ module _ (busy : ℕ → Bool) (is_kept : Bool) (index : ℕ) (old now : Frames)
         within = within_without now.committed index (drop (index + 1) now.committed) le;
         stays = filter_goes (λ x. busy x.0) now.committed index found.0 le found.1 free ∙ before.stays;
         rests = ap (λ xs. rest_of busy is_kept xs (if is_kept then take 64 (found.0 ∷ now.idle) else now.idle)) (drop_without now.committed index (drop (index + 1) now.committed) le ∙ ap (λ n. drop n now.committed) (add-one index))
-          ∙ rests_on busy is_kept found.0 (drop (suc index) now.committed) now.idle free ∙ ap (λ xs. rest_of busy is_kept xs now.idle) (sym found.1) ∙ before.rests;
+            ∙ rests_on busy is_kept found.0 (drop (suc index) now.committed) now.idle free ∙ ap (λ xs. rest_of busy is_kept xs now.idle) (sym found.1) ∙ before.rests;
         fresh = before.fresh;
       })
 
@@ -160,7 +160,7 @@ module _ (busy : ℕ → Bool) (is_kept : Bool) (index : ℕ) (old now : Frames)
   pub settles_all : length now.committed ≤ index → length now.idle ≤ 64 → now ≡ settled_contents busy is_kept old
   settles_all past short =
       let kept : now.committed ≡ filter (λ e. busy e.0) old.committed
-        = sym (append-nil now.committed) ∙ ap (λ xs. xs ++ []) (sym (take_past now.committed index past)) ∙ ap (λ xs. take index now.committed ++ filter (λ e. busy e.0) xs) (sym (drop_past now.committed index past)) ∙ before.stays in
+      = sym (append-nil now.committed) ∙ ap (λ xs. xs ++ []) (sym (take_past now.committed index past)) ∙ ap (λ xs. take index now.committed ++ filter (λ e. busy e.0) xs) (sym (drop_past now.committed index past)) ∙ before.stays in
       let idle : now.idle ≡ rest_of busy is_kept old.committed old.idle = sym (rests_none is_kept now.idle short) ∙ ap (λ xs. rest_of busy is_kept xs now.idle) (sym (drop_past now.committed index past)) ∙ before.rests in
       ap (λ c. record { committed = c; fresh = now.fresh; idle = now.idle }) kept ∙ ap (λ f. record { committed = filter (λ e. busy e.0) old.committed; fresh = f; idle = now.idle }) before.fresh
       ∙ ap (λ i. record { committed = filter (λ e. busy e.0) old.committed; fresh = old.fresh; idle = i }) idle
@@ -169,7 +169,7 @@ module _ (busy : ℕ → Bool) (is_kept : Bool) (index : ℕ) (old now : Frames)
 place_is : {X : Type 0} (xs : List X) (i : ℕ) (e : X) → i < length xs → slice_get xs i ≡ Some e → (drop i xs ≡ e ∷ drop (suc i) xs) × (take (suc i) xs ≡ take i xs ++ e ∷ [])
 place_is xs i e lt is =
     let found = place_at (λ x. x ≡ e) xs i lt (subst (λ o. IfSome o (λ x. x ≡ e)) (sym is) refl) in
-    (subst (λ x. drop i xs ≡ x ∷ drop (suc i) xs) found.3 found.1 , subst (λ x. take (suc i) xs ≡ take i xs ++ x ∷ []) found.3 found.2)
+    (subst (λ x. drop i xs ≡ x ∷ drop (suc i) xs) found.3 found.1, subst (λ x. take (suc i) xs ≡ take i xs ++ x ∷ []) found.3 found.2)
 
 module _ (busy : ℕ → Bool) (i : ℕ) (old now : Frames) (b : ℕ) (lt : i < length now.fresh) (here : slice_get now.fresh i ≡ Some b) where
   -- a busy block stays fresh
@@ -177,7 +177,7 @@ module _ (busy : ℕ → Bool) (i : ℕ) (old now : Frames) (b : ℕ) (lt : i < 
       → (i + 1 ≤ length now.fresh) × (record now { fresh = take (i + 1) now.fresh ++ filter busy (drop (i + 1) now.fresh) } ≡ settled_fresh busy old)
   fresh_stays holds before =
       let found = place_is now.fresh i b lt here in
-      (omega arith , ap (λ xs. record now { fresh = xs }) (filter_stays busy now.fresh i b found.0 found.1 holds) ∙ before)
+      (omega arith, ap (λ xs. record now { fresh = xs }) (filter_stays busy now.fresh i b found.0 found.1 holds) ∙ before)
 
   -- another does not
   pub fresh_goes : (next : Frames) → busy b ≡ false → next ≡ record now { fresh = take i now.fresh ++ drop (i + 1) now.fresh }
@@ -187,7 +187,7 @@ module _ (busy : ℕ → Bool) (i : ℕ) (old now : Frames) (b : ℕ) (lt : i < 
       let found = place_is now.fresh i b lt here in
       let le : i ≤ length now.fresh = omega arith in
       subst (λ (f : Frames). (i ≤ length f.fresh) × (record f { fresh = take i f.fresh ++ filter busy (drop i f.fresh) } ≡ settled_fresh busy old)) (sym is)
-      (within_without now.fresh i (drop (i + 1) now.fresh) le , ap (λ xs. record now { fresh = xs }) (filter_goes busy now.fresh i b le found.0 free) ∙ before)
+      (within_without now.fresh i (drop (i + 1) now.fresh) le, ap (λ xs. record now { fresh = xs }) (filter_goes busy now.fresh i b le found.0 free) ∙ before)
 
 and_true : (a : Bool) → a ≡ (a && true)
 and_true true = refl
@@ -198,11 +198,13 @@ pub settled_is : (s : State) (f : Frames) (is_live : Bool) → is_live ≡ is_no
 settled_is s f is_live live is =
     let same : leaving_contents (is_busy s) s.frames.committed ≡ leaving [] s = filter_agree (λ e. not (is_busy s e.0)) (λ e. not (is_busy s e.0) && true) (λ e. and_true (not (is_busy s e.0))) s.frames.committed in
     ap (λ x. record s { frames = x }) (is ∙ ap (λ l. settled_fresh (is_busy s) (settled_contents (is_busy s) l s.frames)) live)
-    ∙ ap (λ xs. record s { frames = record {
+    ∙ ap (λ xs. record s {
+      frames = record {
         committed = filter (λ e. is_busy s e.0) s.frames.committed;
         fresh = filter (is_busy s) s.frames.fresh;
         idle = if is_none s.shut then rested xs s.frames.idle else s.frames.idle;
-      } }) same
+      };
+    }) same
 
 -- the test for none, from the test for some
 pub none_is : {X : Type 0} (o : Option X) (r : Bool) → is_some o ≡ not r → r ≡ is_none o

@@ -6,7 +6,7 @@ use Rattle.xt_mount.specs.declared.trans.Change.{Change as Edited}
 
 -- an entry of a leg's changes; every one has its bytes
 abbrev pub change_entry : ℕ × Edited → ℕ × Change
-change_entry e = (e.0 , record { edit = Some e.1.edit; marks = e.1.marks; charged = e.1.charged })
+change_entry e = (e.0, record { edit = Some e.1.edit; marks = e.1.marks; charged = e.1.charged })
 
 -- what a change is charged, if there is one
 abbrev pub charge_if : Option Change → ℕ

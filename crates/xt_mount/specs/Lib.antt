@@ -5,3 +5,5 @@ pub mod Machines
 pub mod Settling
 pub mod Ending
 pub mod Texts
+pub mod Come
+pub mod Stages

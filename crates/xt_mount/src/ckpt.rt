@@ -16,7 +16,7 @@ ghost use Rattle.xt_mount.specs.Texts.{entry_bytes, entry_block, seen_content};
 use crate::machine::Machine;
 use bytes::Bytes;
 use std::alloc::{AllocError, Global};
-use xt_base::chunks::{CHUNKS, CHUNK_BYTES, Chunks};
+use xt_base::chunks::{CHUNK_BYTES, CHUNKS, Chunks};
 use xt_base::content::Content;
 use xt_base::names::{Block, CkptNo, JobKind};
 use xt_base::steps::{LogAnswers, Reason, Reply};
@@ -33,7 +33,11 @@ impl Machine {
         let mut items = Vec::new(self.alloc);
         for e in self.items.cil() {
             let content = chunk_bytes_of(self.alloc, self.frames.content(e.0), e.1)?;
-            items.push(Item { block: Block(e.0), chunks: e.1, content })?;
+            items.push(Item {
+                block: Block(e.0),
+                chunks: e.1,
+                content,
+            })?;
         }
         Ok(items)
     }
@@ -70,7 +74,10 @@ impl Machine {
         let count = pieces.len() as u32;
         self.items.fly(self.alloc, pieces)?;
         self.jobs.clear_ckpt();
-        Ok(Reply::Begun { number, pieces: count })
+        Ok(Reply::Begun {
+            number,
+            pieces: count,
+        })
     }
 
     /// The flight has landed. It takes no memory.
@@ -134,7 +141,11 @@ fn is_synced(answers: LogAnswers) -> bool
 }
 
 /// The bytes of some chunks of a content, one after another; zeros where there is no content.
-fn chunk_bytes_of(alloc: Global, content: Option<&Content>, chunks: Chunks) -> Result<Vec<u8>, AllocError>
+fn chunk_bytes_of(
+    alloc: Global,
+    content: Option<&Content>,
+    chunks: Chunks,
+) -> Result<Vec<u8>, AllocError>
     ensures bytes { IfOk result (λ bytes. bytes.items ≡ chunk_bytes (seen_content (option_copied content.entry)) chunks) }
     ensures form { IfOk result (λ bytes. length bytes.items ≡ 128 * length chunks) }
 {
@@ -155,7 +166,12 @@ fn is_marked(word: u32, k: u32) -> bool
 }
 
 /// Appends the bytes of chunk `k`, if the word has it.
-fn push_if_marked(out: &mut Vec<u8>, content: Option<&Content>, word: u32, k: u32) -> Result<(), AllocError>
+fn push_if_marked(
+    out: &mut Vec<u8>,
+    content: Option<&Content>,
+    word: u32,
+    k: u32,
+) -> Result<(), AllocError>
     requires { k < 32 }
     ensures bytes { OnOk result (out.new.items ≡ out.old.items ++ (if bit_at word k == 1 then chunk (seen_content (option_copied content.entry)) k else [])) }
     ensures count { OnOk result (length out.new.items ≡ length out.old.items + (if bit_at word k == 1 then 128 else 0)) }

@@ -22,7 +22,11 @@ impl Machine {
     fn commit_number(&self, is_dirty: bool) -> CkptNo
         ensures { result ≡ (if is_dirty then (state_of self.now).items.open_number else 0) }
     {
-        CkptNo(if is_dirty { self.items.open_number() } else { 0 })
+        CkptNo(if is_dirty {
+            self.items.open_number()
+        } else {
+            0
+        })
     }
 
     /// Whether a leg can only be given up: a dirty one on a shut mount.
@@ -74,7 +78,11 @@ fn keep_changes(frames: &mut Frames, items: &mut Items, changes: NumberMap<Chang
 {
     let mut left = changes;
     while let Some((block, change)) = left.pop_first() {
-        let Change { edit, marks, charged: _ } = change;
+        let Change {
+            edit,
+            marks,
+            charged: _,
+        } = change;
         frames.commit(block, edit);
         items.mark(block, marks);
     }

@@ -1,7 +1,7 @@
 //! Contents: the committed ones of busy blocks, fresh marks, and the idle list.
 
 ghost use Rattle.std.specs.Prelude.{◌≡◌, ◌+◌, Some, ◌<◌, ◌≤◌, ◌++◌, ◌∷◌, [], length, take, drop, slice_get, IfOk, IfSome, option_copied, if◌then◌else◌};
-ghost use Rattle.xt_base.specs.Maps.{at, has, put, with_member, without_member};
+ghost use Rattle.xt_base.specs.Maps.{at, has, is_in, put, with_member, without_member};
 ghost use Rattle.xt_mount.specs.Layers.{no_frames, brought_in};
 
 use std::alloc::{AllocError, Global};
@@ -41,7 +41,11 @@ impl Frames {
         let committed = NumberMap::new(alloc)?;
         let fresh = NumberSet::new(alloc)?;
         let idle = Vec::with_capacity(alloc, IDLE + 1)?;
-        Ok(Frames { committed, fresh, idle })
+        Ok(Frames {
+            committed,
+            fresh,
+            idle,
+        })
     }
 
     /// Whether a block is fresh: it shows zeros until it is written whole.
@@ -49,6 +53,13 @@ impl Frames {
         ensures { result ≡ has self.now.fresh block }
     {
         self.fresh.contains(block)
+    }
+
+    /// Whether a block is idle.
+    pub fn is_idle(&self, block: u64) -> bool
+        ensures { result ≡ is_in block self.now.idle }
+    {
+        spot_of(&self.idle, block) < self.idle.len()
     }
 
     /// How many committed contents there are.
@@ -116,8 +127,8 @@ impl Frames {
     pub fn settle_at(&mut self, index: usize, is_kept: bool)
         requires { index < length self.old.committed }
         ensures { IfSome (slice_get self.old.committed index) (λ e. self.new ≡ record self.old {
-            committed = take index self.old.committed ++ drop (index + 1) self.old.committed;
-            idle = if is_kept then take 64 (e ∷ self.old.idle) else self.old.idle;
+          committed = take index self.old.committed ++ drop (index + 1) self.old.committed;
+          idle = if is_kept then take 64 (e ∷ self.old.idle) else self.old.idle;
         }) }
     {
         let entry = self.committed.remove_at(index);

@@ -13,7 +13,7 @@ use crate::machine::Machine;
 use xt_base::steps::{Errno, Reply};
 
 /// How many blocks of a mount may be busy.
-const BUSY: usize = 64;
+pub const BUSY: usize = 64;
 
 impl Machine {
     /// What refuses a get.
@@ -70,7 +70,7 @@ impl Machine {
 }
 
 /// Whether a recursion count is at its end.
-fn is_at_end(count: Option<u32>) -> bool
+pub fn is_at_end(count: Option<u32>) -> bool
     ensures { result ≡ at_end count }
 {
     match count {

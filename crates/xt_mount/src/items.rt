@@ -199,9 +199,9 @@ impl Items {
         requires none { is_none self.old.flight ≡ true }
         requires number { self.old.open_number < 18446744073709551615 }
         ensures ok { OnOk result (self.new ≡ record self.old {
-            open_number = self.old.open_number + 1;
-            cil = [];
-            flight = Some (record { number = self.old.open_number; items = self.old.cil; pieces = pieces.items });
+          open_number = self.old.open_number + 1;
+          cil = [];
+          flight = Some (record { number = self.old.open_number; items = self.old.cil; pieces = pieces.items });
         }) }
         ensures err { OnErr result (self.new ≡ self.old) }
     {

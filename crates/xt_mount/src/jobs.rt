@@ -31,7 +31,13 @@ impl JobTable {
     pub fn new() -> Self
         ensures { result ≡ no_jobs }
     {
-        JobTable { asked_ckpt: false, asked_flush: false, ckpt: None, flush: None, last_serial: 0 }
+        JobTable {
+            asked_ckpt: false,
+            asked_flush: false,
+            ckpt: None,
+            flush: None,
+            last_serial: 0,
+        }
     }
 
     /// A checkpoint is asked.

@@ -111,9 +111,7 @@ fn count_of(owner: Owner, trans: u64) -> Option<u32>
     ensures { result ≡ own_count trans (Some owner) }
 {
     match owner {
-        Owner::Trans { number, count } => {
-            if number.0 == trans { Some(count) } else { None }
-        }
+        Owner::Trans { number, count } => { if number.0 == trans { Some(count) } else { None } }
         _ => None,
     }
 }

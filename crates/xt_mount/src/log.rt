@@ -18,7 +18,14 @@ use xt_base::steps::{Errno, Reply};
 
 impl Machine {
     /// What refuses a log request.
-    fn log_refusal(&self, record: &TransRec, trans: u64, block: u64, first: u32, bytes: &Data) -> Option<Errno>
+    fn log_refusal(
+        &self,
+        record: &TransRec,
+        trans: u64,
+        block: u64,
+        first: u32,
+        bytes: &Data,
+    ) -> Option<Errno>
         requires rising { IsRising record.now.leg.changes }
         requires whole { is_stale block record.now.leg ≡ false }
         ensures refusal { result ≡ first_of (log_refusals trans block first bytes.now record.now (state_of self.now)) }
@@ -72,7 +79,13 @@ impl Machine {
     }
 
     /// Writes bytes in the leg of a transaction, from `first` on, and marks their chunks.
-    pub fn log(&mut self, trans: u64, block: u64, first: u32, bytes: &Data) -> Result<Reply, AllocError>
+    pub fn log(
+        &mut self,
+        trans: u64,
+        block: u64,
+        first: u32,
+        bytes: &Data,
+    ) -> Result<Reply, AllocError>
         requires { IsSound (state_of self.old) }
         ensures ok { IfOk result (λ reply. gives reply (state_of self.new) ≡ with_trans (at trans self.old.transactions) (state_of self.old) (log_step trans block first bytes.now (state_of self.old))) }
         ensures err { OnErr result (state_of self.new ≡ state_of self.old) }

@@ -37,7 +37,13 @@ pub struct Machine {
 
 impl Machine {
     /// A new mount. The one error is want of memory.
-    pub fn new(alloc: Global, slot: Slot, life: Life, log_bytes: u32, blocks: u64) -> Result<Self, AllocError>
+    pub fn new(
+        alloc: Global,
+        slot: Slot,
+        life: Life,
+        log_bytes: u32,
+        blocks: u64,
+    ) -> Result<Self, AllocError>
         ensures { IfOk result (λ machine. state_of machine ≡ mount_of slot life log_bytes blocks) }
     {
         let frames = Frames::new(alloc)?;

@@ -47,7 +47,12 @@ impl TransRec {
         ensures { IfOk result (λ trans. trans ≡ new_trans unit legs perm) }
     {
         let changes = NumberMap::new(alloc)?;
-        Ok(TransRec { unit, legs, perm, changes })
+        Ok(TransRec {
+            unit,
+            legs,
+            perm,
+            changes,
+        })
     }
 
     /// The log bytes of a leg.
@@ -129,7 +134,14 @@ impl TransRec {
     {
         let marks = self.marks_of(block).union(marked);
         let charged = self.charged_of(block).union(marked);
-        self.changes.put(block, Change { edit, marks, charged });
+        self.changes.put(
+            block,
+            Change {
+                edit,
+                marks,
+                charged,
+            },
+        );
     }
 
     /// The changes of the leg, whose transaction ends.

@@ -7,13 +7,13 @@ pub loop-index-preserved-then-is_busy_in : goal.loop-index-preserved-then-is_bus
 loop-index-preserved-then-is_busy_in c =
     let lt : c.loop-index.index < length c.loop-index.frames.committed = omega arith in
     settles_stay (is_busy_in c.args.locks.now c.args.items.now) c.args.is_kept c.loop-index.index c.args.frames.now c.loop-index.frames c.loop-index.invariant c.committed_at.result lt c.committed_at.ensures
-      (sym c.is_busy_in.ensures ∙ c.if-is_busy_in.true)
+    (sym c.is_busy_in.ensures ∙ c.if-is_busy_in.true)
 
 pub loop-index-preserved : goal.loop-index-preserved
 loop-index-preserved c =
     let lt : c.loop-index.index < length c.loop-index.frames.committed = omega arith in
     settles_go (is_busy_in c.args.locks.now c.args.items.now) c.args.is_kept c.loop-index.index c.args.frames.now c.loop-index.frames c.loop-index.invariant c.committed_at.result c.settle_at.new.self lt c.committed_at.ensures
-      (sym c.is_busy_in.ensures ∙ c.if-is_busy_in.false) c.settle_at.ensures
+    (sym c.is_busy_in.ensures ∙ c.if-is_busy_in.false) c.settle_at.ensures
 
 pub loop-index-smaller : goal.loop-index-smaller
 loop-index-smaller c =

@@ -10,9 +10,9 @@ returns-then-found-len c =
     let is = c.spot_of-found.ensures.value ∙ ap (spot c.args.block) c.deref.ensures.value in
     let lt : c.spot_of-found.result < length c.self.inside.idle.items = omega arith in
     brought_idle c.args.block (the_view c.self.inside) c.args.self.now c.self.view_is c.remove-content.result.1 _ _
-      (value_found c.args.block c.self.inside.idle.items c.spot_of-found.result c.remove-content.result is lt c.remove-content.ensures.value)
-      c.put.ensures
-      (rest_found c.args.block c.self.inside.idle.items _ c.spot_of-found.result c.remove-content.result is lt c.remove-content.ensures.items)
+    (value_found c.args.block c.self.inside.idle.items c.spot_of-found.result c.remove-content.result is lt c.remove-content.ensures.value)
+    c.put.ensures
+    (rest_found c.args.block c.self.inside.idle.items _ c.spot_of-found.result c.remove-content.result is lt c.remove-content.ensures.items)
 
 pub returns-else-found-len : goal.returns-else-found-len
 returns-else-found-len c =

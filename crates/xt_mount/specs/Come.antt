@@ -1,0 +1,39 @@
+-- The requests that have come so far, and what a mount owes of the jobs that have come.
+use Rattle.std.specs.Prelude.{ℕ, ◌+◌, ◌*◌, ◌==◌, ◌||◌, List, [], ◌∷◌, Option, None, Some, Bool, true, false, nat_lt, if◌then◌else◌}
+use Rattle.xt_base.specs.Jobs.{is_ckpt, is_owed}
+use Rattle.xt_base.specs.State.{State}
+use Rattle.xt_base.specs.declared.names.JobKind.{JobKind}
+use Rattle.xt_base.specs.declared.names.JobName.{JobName}
+use Rattle.xt_base.specs.declared.steps.Errno.{Errno}
+use Rattle.xt_base.specs.declared.steps.Errno.TheVariants.{Invalid, NoSpace}
+use Rattle.xt_base.specs.declared.steps.Request.{Request}
+use Rattle.xt_base.specs.declared.steps.Request.TheVariants as Request
+
+-- alloc, get, log, commit and force have come
+abbrev pub has_come : Request → Bool
+has_come (Request.Alloc unit count perm) = true
+has_come (Request.Get trans block) = true
+has_come (Request.Log trans block first bytes) = true
+has_come (Request.Commit trans) = true
+has_come Request.Force = true
+has_come other = false
+
+-- what refuses a new mount, after a last life
+abbrev pub new_refusals : ℕ → ℕ → ℕ → List (Bool × Errno)
+new_refusals last log_bytes blocks =
+    (nat_lt log_bytes 65536 || nat_lt 16777216 log_bytes || (blocks == 0) || nat_lt 1099511627776 blocks, Invalid)
+    ∷ (last == 4294967295, NoSpace)
+    ∷ []
+
+-- the name of a job that is owed
+abbrev pub owed_name : JobKind → State → Option JobName
+owed_name kind s = if is_owed kind s then Some (record { slot = s.slot; life = s.life; kind = kind; serial = s.jobs.last_serial + 1 }) else None
+
+-- of the jobs that have come, checkpoints alone
+abbrev pub owed_now : JobKind → State → Option JobName
+owed_now kind s = if is_ckpt kind then owed_name kind s else None
+
+-- the block that a read names
+abbrev pub read_block : Request → Option ℕ
+read_block (Request.Read trans block) = Some block
+read_block other = None

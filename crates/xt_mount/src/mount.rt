@@ -1,0 +1,182 @@
+//! One mount: each call and each job is one step of the machine of one mount.
+
+ghost use Rattle.std.specs.Prelude.{◌≡◌, ◌+◌, ◌⊎◌, [], None, Some, true, length, is_some, IfOk, IfErr, IfSome, if◌then◌else◌};
+ghost use Rattle.xt_base.specs.Alone.{IsCallUnlessMemory};
+ghost use Rattle.xt_base.specs.Calls.{alone_with, asks, first_of, gives};
+ghost use Rattle.xt_base.specs.Jobs.{begin as begin_step, end as end_step, fits_pieces, flight_pieces, is_begun, is_ckpt, is_waiting, posted as posted_state};
+ghost use Rattle.xt_base.specs.Order.{is_there};
+ghost use Rattle.xt_base.specs.State.{mount_of};
+ghost use Rattle.xt_base.specs.declared.steps.Errno.TheVariants.{NoMemory};
+ghost use Rattle.xt_mount.specs.Come.{has_come, new_refusals, owed_now, read_block};
+ghost use Rattle.xt_mount.specs.Stages.{stage_of};
+
+use crate::machine::Machine;
+use bytes::Bytes;
+use std::alloc::Global;
+use std::marker::Model;
+use xt_base::names::{Block, JobKind, JobName, Life, Slot};
+use xt_base::steps::{Answer, Errno, LogAnswers, Reason, Reply, Request};
+
+/// The least and the greatest size of a log, in bytes.
+const LOG_BYTES: (u32, u32) = (65_536, 16_777_216);
+
+/// The greatest number of blocks of a home device.
+const BLOCKS: u64 = 1_099_511_627_776;
+
+/// How far an outstanding job has come.
+#[derive(Clone, Copy, Debug, PartialEq, Eq)]
+pub enum Stage {
+    /// Posted, and not begun.
+    Waiting,
+    /// A checkpoint that is in flight.
+    Begun,
+}
+
+/// One life of a slot. Clauses see the state of the slot; in every state the log space in use is within the
+/// log, and at most 64 blocks are busy.
+#[derive(Debug, Drop)]
+pub struct Mount {
+    machine: Machine,
+}
+
+impl Model for Mount {
+    ghost use Rattle.xt_base.specs.State.{State};
+    ghost use Rattle.xt_base.specs.Sound.{IsSound};
+
+    ghost Value = { State };
+
+    ghost use Rattle.xt_mount.specs.Machines.{state_of};
+
+    ghost view = { λ m. state_of m.machine };
+
+    ghost invariant = { λ m. IsSound (state_of m.machine) };
+}
+
+impl Mount {
+    /// A new mount of a slot, whose life is the one after `last` (0 at first), with a log of 65,536 to 16,777,216
+    /// bytes and a home device of 1 to 1,099,511,627,776 blocks. `Invalid` where a size is outside these,
+    /// `NoSpace` where the last life is the greatest, `NoMemory` where memory is refused.
+    pub fn new(
+        alloc: Global,
+        slot: Slot,
+        last: Life,
+        log_bytes: u32,
+        blocks: u64,
+    ) -> Result<Self, Errno>
+        ensures ok { IfOk result (λ mount. (first_of (new_refusals last log_bytes blocks) ≡ None) × (mount ≡ mount_of slot (last + 1) log_bytes blocks)) }
+        ensures err { IfErr result (λ errno. (first_of (new_refusals last log_bytes blocks) ≡ Some errno) ⊎ ((first_of (new_refusals last log_bytes blocks) ≡ None) × (errno ≡ NoMemory))) }
+    {
+        if log_bytes < LOG_BYTES.0 || log_bytes > LOG_BYTES.1 || blocks == 0 || blocks > BLOCKS {
+            return Err(Errno::Invalid);
+        }
+        if last.0 == u32::MAX {
+            return Err(Errno::NoSpace);
+        }
+        match Machine::new(alloc, slot, Life(last.0 + 1), log_bytes, blocks) {
+            Ok(machine) => Ok(Mount { machine }),
+            Err(_) => Err(Errno::NoMemory),
+        }
+    }
+
+    /// The life of the mount, counted from 1.
+    pub fn life(&self) -> Life
+        ensures { result ≡ self.now.life }
+    {
+        self.machine.life
+    }
+
+    /// Why the mount is shut, if it is; the first reason is kept.
+    pub fn shut(&self) -> Option<Reason>
+        ensures { result ≡ self.now.shut }
+    {
+        self.machine.shut
+    }
+
+    /// The pieces of the checkpoint in flight, from its begin to its end; none where nothing is in flight.
+    pub fn pieces(&self) -> &[Bytes]
+        ensures { result.now ≡ flight_pieces self.now.items.flight }
+    {
+        self.machine.items.pieces()
+    }
+
+    /// The block that a request must ask the home device for, if there is one: a read's, where nothing refuses it and
+    /// the block is neither the transaction's own nor resident.
+    pub fn needs(&self, request: &Request) -> Option<Block>
+        ensures asked { is_some result ≡ asks request.now self.now }
+        ensures block { IfSome result (λ block. read_block request.now ≡ Some block) }
+    {
+        self.machine.needs(request)
+    }
+
+    /// Serves a request: its reply and the state that it leaves are those of the machine of one mount. Where
+    /// memory is refused the reply is ENOMEM, and nothing changes.
+    pub fn serve(&mut self, request: &Request, answer: &Answer) -> Reply
+        requires came { has_come request.now ≡ true }
+        requires asked { is_there (asks request.now self.old) answer.now ≡ true }
+        ensures { IsCallUnlessMemory (alone_with [] request.now answer.now self.old) result self.new self.old }
+    {
+        let _answer = answer;
+        match self.machine.serve(request) {
+            Ok(reply) => reply,
+            Err(_) => Reply::Refused(Errno::NoMemory),
+        }
+    }
+
+    /// The same, of a request and an answer that are handed over.
+    pub fn call(&mut self, request: Request, answer: Answer) -> Reply
+        requires came { has_come request ≡ true }
+        requires asked { is_there (asks request self.old) answer ≡ true }
+        ensures { IsCallUnlessMemory (alone_with [] request answer self.old) result self.new self.old }
+    {
+        self.serve(&request, &answer)
+    }
+
+    /// The next job of a kind, if the mount owes one: a checkpoint, where it is live, nothing is in flight, something
+    /// is committed, and a checkpoint was asked or the commit list costs an eighth of the log. No flush is
+    /// owed yet: none can be run.
+    pub fn owed(&self, kind: JobKind) -> Option<JobName>
+        ensures { result ≡ owed_now kind self.now }
+    {
+        self.machine.owed(kind)
+    }
+
+    /// A job that is owed was posted: it is outstanding until its end, or a begin that finds nothing to do.
+    pub fn posted(&mut self, name: JobName)
+        requires { owed_now name.kind self.old ≡ Some name }
+        ensures { self.new ≡ posted_state name.kind self.old }
+    {
+        self.machine.jobs.post(name.kind);
+    }
+
+    /// How far a job has come; None where it is not outstanding.
+    pub fn stage(&self, name: &JobName) -> Option<Stage>
+        ensures { result ≡ stage_of name.now self.now }
+    {
+        self.machine.stage(*name)
+    }
+
+    /// Begins the outstanding checkpoint: the committed items become the flight, and the next number opens. On a
+    /// shut mount there is nothing to do. Where memory is refused the reply is ENOMEM, and nothing changes.
+    pub fn begin(&mut self, name: JobName) -> Reply
+        requires waiting { is_waiting name self.old ≡ true }
+        requires kind { is_ckpt name.kind ≡ true }
+        ensures { IsCallUnlessMemory (begin_step self.old) result self.new self.old }
+    {
+        let _name = name;
+        match self.machine.begin() {
+            Ok(reply) => reply,
+            Err(_) => Reply::Refused(Errno::NoMemory),
+        }
+    }
+
+    /// Ends the checkpoint in flight by what the log device answered: how many pieces it took, and to the sync
+    /// that follows where it took all. It takes no memory.
+    pub fn end(&mut self, name: JobName, answers: LogAnswers) -> Reply
+        requires begun { is_begun name self.old ≡ true }
+        requires fits { fits_pieces answers (length (flight_pieces self.old.items.flight)) ≡ true }
+        ensures { gives result self.new ≡ end_step [] answers self.old }
+    {
+        let _name = name;
+        self.machine.end(answers)
+    }
+}

@@ -1,0 +1,7 @@
+pub mod BufferLemmas
+pub mod Lengths
+pub mod ParseLemmas
+pub mod ReadAgain
+pub mod RunLemmas
+pub mod StepAgain
+pub mod WordsAgain

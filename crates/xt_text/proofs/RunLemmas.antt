@@ -1,0 +1,48 @@
+-- Runs of equal bytes.
+use Rattle.std.proofs.Common.{Bool, List, [], arith, drop, eqb, false, get_or, length, one-add, refl, sym, subst, replicate, ◌++◌, add-one, true, ℕ, ◌+◌, ◌<◌, ◌≡◌, ◌∷◌}
+use Rattle.std.proofs.lemmas.Bool.{eq-eqb, eqb-true}
+use Rattle.std.proofs.lemmas.List.Concat.{flat_map-append}
+use Rattle.std.proofs.lemmas.List.{replicate_more}
+use Rattle.std.specs.List.{flat_map, prefix_len}
+use Rattle.xt_text.specs.DataText.{hex, runs}
+use Rattle.xt_text.specs.declared.data_text.Run.{Run}
+
+-- the run of x at the front of some bytes
+abbrev pub front_run : ℕ → List ℕ → Run
+front_run x bytes = record { byte = x; count = prefix_len (λ y. eqb y x) bytes }
+
+-- what is said of the first run of some bytes that begin with x
+abbrev pub IsFirst : ℕ → List ℕ → Type 0
+IsFirst x xs = runs (x ∷ xs) ≡ front_run x (x ∷ xs) ∷ runs (drop (prefix_len (λ y. eqb y x) (x ∷ xs)) (x ∷ xs))
+
+-- one more of the same byte before it
+pub same_before : (x : ℕ) (xs : List ℕ) → IsFirst x xs → IsFirst x (x ∷ xs)
+same_before x xs first = rw (first, eq-eqb x x refl, one-add, one-add, add-one) refl
+
+-- another byte before it
+pub other_before : (x y : ℕ) (ys : List ℕ) → eqb y x ≡ false → IsFirst y ys → IsFirst x (y ∷ ys)
+other_before x y ys other first = rw (eq-eqb x x refl, other, first, other) refl
+
+-- any byte before it
+pub any_before : (x y : ℕ) (ys : List ℕ) (b : Bool) → eqb y x ≡ b → IsFirst y ys → IsFirst x (y ∷ ys)
+any_before x y ys true same first = subst (λ (z : ℕ). IsFirst z ys → IsFirst x (z ∷ ys)) (sym (eqb-true y x same)) (same_before x ys) first
+any_before x y ys false other first = other_before x y ys other first
+
+-- the first run is that of the first byte, and the other runs are those of the bytes behind it
+pub first_of : (x : ℕ) (xs : List ℕ) → IsFirst x xs
+first_of x [] = rw (eq-eqb x x refl) refl
+first_of x (y ∷ ys) = any_before x y ys (eqb y x) refl (first_of y ys)
+
+-- the same where the first byte is read from the list
+pub runs_first : (bytes : List ℕ) → 0 < length bytes → runs bytes ≡ front_run (get_or bytes 0 0) bytes ∷ runs (drop (prefix_len (λ y. eqb y (get_or bytes 0 0)) bytes) bytes)
+runs_first [] some = absurd (omega arith)
+runs_first (y ∷ ys) some = first_of y ys
+
+-- it has at least one byte
+pub first_count : (bytes : List ℕ) → 0 < length bytes → 0 < prefix_len (λ y. eqb y (get_or bytes 0 0)) bytes
+first_count [] some = absurd (omega arith)
+first_count (y ∷ ys) some = rw (eq-eqb y y refl) (omega arith)
+
+-- the digits of a byte repeated once more
+pub hex_more : (byte n : ℕ) → flat_map hex (replicate (n + 1) byte) ≡ flat_map hex (replicate n byte) ++ hex byte
+hex_more byte n = rw (← replicate_more n byte, flat_map-append hex (replicate n byte) (byte ∷ [])) refl

@@ -1,0 +1,162 @@
+-- Lines read loosely: more lines are read than are lines of steps, and the line of each step gives that step.
+use Rattle.std.specs.List.{after_first, before_first}
+use Rattle.std.specs.Prelude.{Bool, List, None, Option, Some, [], codes, false, if◌then◌else◌, true, ℕ, ◌==◌, ◌∷◌}
+use Rattle.std.specs.Str.{bytes_eq}
+use Rattle.xt_base.specs.declared.names.JobKind.{JobKind}
+use Rattle.xt_base.specs.declared.names.JobKind.TheVariants.{Ckpt, Flush}
+use Rattle.xt_base.specs.declared.names.JobName.{JobName}
+use Rattle.xt_base.specs.declared.steps.Answer.TheVariants as Answer
+use Rattle.xt_base.specs.declared.steps.Request.{Request}
+use Rattle.xt_base.specs.declared.steps.Request.TheVariants.{Alloc, Commit, Force, Get, Log}
+use Rattle.xt_base.specs.declared.steps.Step.{Step}
+use Rattle.xt_base.specs.declared.steps.Step.TheVariants.{Begin, Call, End, Mount, Post, Take}
+use Rattle.xt_text.specs.DataReading.{read_data}
+use Rattle.xt_text.specs.Reading.{below, number_of, ◌>>=◌}
+
+-- what stands before the first separator of a text, all of it where there is none
+abbrev pub before : ℕ → List ℕ → List ℕ
+before separator text = before_first (λ c. c == separator) text
+
+-- what stands behind the first separator of a text, nothing where there is none
+abbrev pub behind : ℕ → List ℕ → List ℕ
+behind separator text = after_first (λ c. c == separator) text
+
+-- ---- words
+-- a u32
+abbrev pub u32_of : List ℕ → Option ℕ
+u32_of word = below 4294967296 word
+
+-- a number behind a letter, whichever it is
+abbrev pub lettered : List ℕ → Option ℕ
+lettered [] = None
+lettered (c ∷ cs) = number_of cs
+
+-- what a job does
+unfoldable pub kind_of : List ℕ → Option JobKind
+kind_of word = if bytes_eq word (codes "ckpt") then Some Ckpt else if bytes_eq word (codes "flush") then Some Flush else None
+
+-- the name of a job
+unfoldable pub name_of : List ℕ → Option JobName
+name_of word =
+    let a = behind 46 word in
+    let b = behind 46 a in
+    below 16 (before 46 word) >>= λ slot.
+    u32_of (before 46 a) >>= λ life.
+    kind_of (before 46 b) >>= λ kind.
+    number_of (behind 46 b) >>= λ serial.
+    Some (record { slot = slot; life = life; kind = kind; serial = serial })
+
+-- whether a transaction may roll
+unfoldable pub perm_of : List ℕ → Option Bool
+perm_of word = if bytes_eq word (codes "plain") then Some false else if bytes_eq word (codes "perm") then Some true else None
+
+-- the answer to a sync, if there was one
+unfoldable pub sync_of : List ℕ → Option (Option Bool)
+sync_of word =
+    if bytes_eq word (codes "ok") then Some (Some true)
+    else if bytes_eq word (codes "fail") then Some (Some false)
+    else if bytes_eq word (codes "none") then Some None
+    else None
+
+-- ---- requests, by what stands behind their verb
+-- UNIT COUNT plain, or perm
+unfoldable pub alloc_of : List ℕ → Option Request
+alloc_of words =
+    let a = behind 32 words in
+    u32_of (before 32 words) >>= λ unit.
+    u32_of (before 32 a) >>= λ count.
+    perm_of (behind 32 a) >>= λ perm.
+    Some (Alloc unit count perm)
+
+-- TRANS BLOCK
+unfoldable pub get_of : List ℕ → Option Request
+get_of words =
+    lettered (before 32 words) >>= λ trans.
+    number_of (behind 32 words) >>= λ block.
+    Some (Get trans block)
+
+-- TRANS BLOCK FIRST DATA
+unfoldable pub log_of : List ℕ → Option Request
+log_of words =
+    let a = behind 32 words in
+    let b = behind 32 a in
+    lettered (before 32 words) >>= λ trans.
+    number_of (before 32 a) >>= λ block.
+    u32_of (before 32 b) >>= λ first.
+    read_data (behind 32 b) >>= λ bytes.
+    Some (Log trans block first bytes)
+
+-- TRANS
+unfoldable pub commit_of : List ℕ → Option Request
+commit_of words = lettered words >>= λ trans. Some (Commit trans)
+
+-- a request: its verb, and what stands behind it
+unfoldable pub request_of : List ℕ → List ℕ → Option Request
+request_of verb words =
+    if bytes_eq verb (codes "alloc") then alloc_of words
+    else if bytes_eq verb (codes "get") then get_of words
+    else if bytes_eq verb (codes "log") then log_of words
+    else if bytes_eq verb (codes "commit") then commit_of words
+    else if bytes_eq verb (codes "force") then Some Force
+    else None
+
+-- ---- steps, by what stands behind their first word
+-- SLOT LOG BLOCKS
+unfoldable pub mount_of : List ℕ → Option Step
+mount_of words =
+    let a = behind 32 words in
+    below 16 (before 32 words) >>= λ slot.
+    u32_of (before 32 a) >>= λ log_bytes.
+    number_of (behind 32 a) >>= λ blocks.
+    Some (Mount slot log_bytes blocks)
+
+-- a call: SLOT.LIFE, and the request
+unfoldable pub call_of : List ℕ → List ℕ → Option Step
+call_of mount words =
+    below 16 (before 46 mount) >>= λ slot.
+    u32_of (behind 46 mount) >>= λ life.
+    request_of (before 32 words) (behind 32 words) >>= λ request.
+    Some (Call slot life request Answer.None)
+
+-- NAME
+unfoldable pub post_of : List ℕ → Option Step
+post_of words = name_of words >>= λ name. Some (Post name)
+
+-- WORKER NAME
+unfoldable pub take_of : List ℕ → Option Step
+take_of words =
+    below 8 (before 32 words) >>= λ worker.
+    name_of (behind 32 words) >>= λ name.
+    Some (Take worker name)
+
+-- WORKER NAME
+unfoldable pub begin_of : List ℕ → Option Step
+begin_of words =
+    below 8 (before 32 words) >>= λ worker.
+    name_of (behind 32 words) >>= λ name.
+    Some (Begin worker name)
+
+-- WORKER NAME TAKEN SYNC
+unfoldable pub end_of : List ℕ → Option Step
+end_of words =
+    let a = behind 32 words in
+    let b = behind 32 a in
+    below 8 (before 32 words) >>= λ worker.
+    name_of (before 32 a) >>= λ name.
+    u32_of (before 32 b) >>= λ taken.
+    sync_of (behind 32 b) >>= λ sync.
+    Some (End worker name (record { taken = taken; sync = sync }))
+
+-- a step: its first word, and what stands behind it
+unfoldable pub words_step : List ℕ → List ℕ → Option Step
+words_step word words =
+    if bytes_eq word (codes "mount") then mount_of words
+    else if bytes_eq word (codes "post") then post_of words
+    else if bytes_eq word (codes "take") then take_of words
+    else if bytes_eq word (codes "begin") then begin_of words
+    else if bytes_eq word (codes "end") then end_of words
+    else call_of word words
+
+-- what a line gives
+unfoldable pub step_of : List ℕ → Option Step
+step_of line = words_step (before 32 line) (behind 32 line)

@@ -1,0 +1,80 @@
+-- The texts of replies and of offers.
+use Rattle.std.specs.Fmt.{decimal}
+use Rattle.std.specs.List.{flat_map}
+use Rattle.std.specs.Prelude.{List, None, Option, Some, [], codes, ℕ, ◌++◌, ◌∷◌}
+use Rattle.xt_base.specs.declared.steps.Errno.{Errno}
+use Rattle.xt_base.specs.declared.steps.Errno.TheVariants.{Again, Busy, Invalid, Io, NoBufs, NoDevice, NoMemory, NoSpace, Stale}
+use Rattle.xt_base.specs.declared.steps.HomeOffer.{HomeOffer}
+use Rattle.xt_base.specs.declared.steps.LogOffer.{LogOffer}
+use Rattle.xt_base.specs.declared.steps.Reason.{Reason}
+use Rattle.xt_base.specs.declared.steps.Reason.TheVariants.{CorruptIncore, ForceUmount, LogIoError, MetaIoError}
+use Rattle.xt_base.specs.declared.steps.Reply.{Reply}
+use Rattle.xt_text.specs.DataText.{spelling}
+use Rattle.xt_text.specs.Lines.{ckpt_text, ok_text, trans_text, ◌␣◌}
+
+-- ---- words
+-- the name of a refusal
+abbrev pub errno_text : Errno → List ℕ
+errno_text Io = codes "EIO"
+errno_text Again = codes "EAGAIN"
+errno_text NoMemory = codes "ENOMEM"
+errno_text Busy = codes "EBUSY"
+errno_text NoDevice = codes "ENODEV"
+errno_text Invalid = codes "EINVAL"
+errno_text NoSpace = codes "ENOSPC"
+errno_text NoBufs = codes "ENOBUFS"
+errno_text Stale = codes "ESTALE"
+
+-- what the board shows of a life: live, or why it was shut
+abbrev pub seen_text : Option Reason → List ℕ
+seen_text None = codes "live"
+seen_text (Some MetaIoError) = codes "META_IO_ERROR"
+seen_text (Some LogIoError) = codes "LOG_IO_ERROR"
+seen_text (Some ForceUmount) = codes "FORCE_UMOUNT"
+seen_text (Some CorruptIncore) = codes "CORRUPT_INCORE"
+
+-- blocks that stay held, each with a space in front
+abbrev pub held_text : List ℕ → List ℕ
+held_text blocks = codes " held" ++ flat_map (λ b. 32 ∷ decimal b) blocks
+
+-- blocks that stay held, if there are some
+abbrev pub any_held_text : Option (List ℕ) → List ℕ
+any_held_text None = []
+any_held_text (Some blocks) = held_text blocks
+
+-- ---- replies
+-- the text of a reply, without its slot and newline
+abbrev pub reply_text : Reply → List ℕ
+reply_text Reply.Okay = codes "ok"
+reply_text (Reply.OkayHeld held) = codes "ok" ++ held_text held
+reply_text (Reply.Life life) = codes "life" ␣ decimal life
+reply_text (Reply.Trans trans) = trans_text trans
+reply_text (Reply.Committed number held) = ckpt_text number ++ any_held_text held
+reply_text (Reply.Aborted held) = codes "EIO" ++ held_text held
+reply_text (Reply.Wait number) = codes "wait" ␣ ckpt_text number
+reply_text Reply.Done = codes "done"
+reply_text Reply.Kept = codes "kept"
+reply_text Reply.Free = codes "free"
+reply_text (Reply.Data content) = codes "data" ␣ spelling content
+reply_text Reply.Nothing = codes "nothing"
+reply_text (Reply.Begun number pieces) = codes "begun" ␣ ckpt_text number ␣ decimal pieces
+reply_text (Reply.Landed number) = codes "landed" ␣ ckpt_text number
+reply_text (Reply.Failed number) = codes "failed" ␣ ckpt_text number
+reply_text (Reply.Flushed count) = codes "flushed" ␣ decimal count
+reply_text (Reply.Seen life reason) = codes "seen" ␣ decimal life ␣ seen_text reason
+reply_text (Reply.Refused errno) = errno_text errno
+
+-- a reply with the slot that its step names in front
+abbrev pub slot_reply_text : ℕ → Reply → List ℕ
+slot_reply_text slot reply = decimal slot ␣ reply_text reply
+
+-- ---- offers
+-- what was offered to a log device, with its answer
+abbrev pub log_offer_text : ℕ → LogOffer → List ℕ
+log_offer_text slot (LogOffer.Piece bytes ok) = decimal slot ␣ codes "log" ␣ spelling bytes ␣ ok_text ok
+log_offer_text slot (LogOffer.Sync ok) = decimal slot ␣ codes "logsync" ␣ ok_text ok
+
+-- what was offered to a home device, with its answer
+abbrev pub home_offer_text : ℕ → HomeOffer → List ℕ
+home_offer_text slot (HomeOffer.Write block content ok) = decimal slot ␣ codes "home" ␣ decimal block ␣ spelling content ␣ ok_text ok
+home_offer_text slot (HomeOffer.Sync ok) = decimal slot ␣ codes "homesync" ␣ ok_text ok

@@ -1,0 +1,243 @@
+//! Data as text, both ways. A list of bytes is cut into maximal runs of equal bytes. A run of four or more is
+//! `XX*N`, shorter ones are plain digits, and a dot stands between neighbours unless both are short; no bytes are `-`.
+
+ghost use Rattle.std.specs.Prelude.{◌≡◌, ◌==◌, ◌<◌, ◌≤◌, ◌∷◌, List, ℕ, length, drop, IfSome, IfOk};
+ghost use Rattle.std.specs.List.{All, prefix_len};
+ghost use Rattle.xt_text.specs.Buffer.{put};
+ghost use Rattle.xt_text.specs.DataReading.{at_end, byte_value, front_at, hex_value, next, read_data, with_run};
+ghost use Rattle.xt_text.specs.Reading.{Gives, GivesAs};
+ghost use Rattle.xt_text.specs.DataText.{IsData, hex, hex_digit, is_short, run_text, runs, spelling};
+
+use crate::bad_line::BadLine;
+use crate::buffer::Text;
+use crate::numbers::{number_on, put_number};
+use std::alloc::Global;
+use xt_base::content::Data;
+
+/// The most bytes that data has.
+const DATA_BYTES: usize = 4096;
+
+/// The shortest run that is spelled with a count.
+const COUNTED: usize = 4;
+
+/// A run of equal bytes.
+#[derive(Clone, Copy, Debug)]
+struct Run {
+    byte: u8,
+    count: usize,
+}
+
+/// How far a part of the text has been read.
+#[derive(Clone, Copy, Debug)]
+enum Place {
+    /// Nothing of it.
+    Front,
+    /// The first digit of a byte.
+    Half(u8),
+    /// A byte, which a count may follow.
+    Whole(u8),
+    /// A byte and the count so far.
+    Count(u8, u64),
+}
+
+/// The value of a hexadecimal digit in lower case.
+fn hex_value(digit: u8) -> Option<u8>
+    ensures value { result ≡ hex_value digit }
+    ensures range { IfSome result (λ value. value < 16) }
+{
+    match digit {
+        b'0'..=b'9' => Some(digit - b'0'),
+        b'a'..=b'f' => Some(digit - b'a' + 10),
+        _ => None,
+    }
+}
+
+/// The byte of two hexadecimal digits.
+fn byte_value(high: u8, low: u8) -> Result<u8, BadLine>
+    ensures { Gives result (byte_value high low) }
+{
+    let high = hex_value(high).ok_or(BadLine::Spelling)?;
+    let low = hex_value(low).ok_or(BadLine::Spelling)?;
+    Ok(16 * high + low)
+}
+
+/// Where the next part begins: a dot begins none.
+fn front_at(c: u8) -> Place
+    ensures { result ≡ front_at c }
+{
+    if c == b'.' {
+        Place::Front
+    } else {
+        Place::Half(c)
+    }
+}
+
+/// Puts a run behind some bytes.
+fn push_run(bytes: &mut Vec<u8>, byte: u8, count: u64) -> Result<(), BadLine>
+    requires { length bytes.old.items ≤ 4096 }
+    ensures value { GivesAs (λ _. bytes.new.items) result (with_run bytes.old.items byte count) }
+    ensures short { length bytes.new.items ≤ 4096 }
+{
+    let length = bytes.len();
+    if count > (DATA_BYTES - length) as u64 {
+        return Err(BadLine::Spelling);
+    }
+    bytes.resize(length + count as usize, byte)?;
+    Ok(())
+}
+
+/// Takes one more character of the text.
+fn read_character(bytes: &mut Vec<u8>, place: Place, c: u8) -> Result<Place, BadLine>
+    requires { length bytes.old.items ≤ 4096 }
+    ensures value { GivesAs (λ now. (bytes.new.items, now)) result (next bytes.old.items place c) }
+    ensures short { length bytes.new.items ≤ 4096 }
+{
+    match place {
+        Place::Front => Ok(front_at(c)),
+        Place::Half(high) => Ok(Place::Whole(byte_value(high, c)?)),
+        Place::Whole(byte) => {
+            if c == b'*' {
+                return Ok(Place::Count(byte, 0));
+            }
+            push_run(bytes, byte, 1)?;
+            Ok(front_at(c))
+        }
+        Place::Count(byte, count) => {
+            if c == b'.' {
+                push_run(bytes, byte, count)?;
+                return Ok(Place::Front);
+            }
+            Ok(Place::Count(byte, number_on(count, c)?))
+        }
+    }
+}
+
+/// Takes the end of the text.
+fn read_end(bytes: &mut Vec<u8>, place: Place) -> Result<(), BadLine>
+    requires { length bytes.old.items ≤ 4096 }
+    ensures value { GivesAs (λ _. bytes.new.items) result (at_end bytes.old.items place) }
+    ensures short { length bytes.new.items ≤ 4096 }
+{
+    match place {
+        Place::Front => Ok(()),
+        Place::Half(_) => Err(BadLine::Spelling),
+        Place::Whole(byte) => push_run(bytes, byte, 1),
+        Place::Count(byte, count) => push_run(bytes, byte, count),
+    }
+}
+
+/// The elements of a slice of bytes are bytes.
+fn are_bytes(bytes: &[u8])
+    ensures { All (λ b. b < 256) bytes.now }
+{
+    let _count = bytes.len();
+}
+
+/// Reads bytes from their text, loosely: each spelling gives its bytes, and other texts may give some too.
+pub(crate) fn read_data(alloc: Global, text: &[u8]) -> Result<Data, BadLine>
+    ensures value { Gives result (read_data text.now) }
+    ensures valid { IfOk result IsData }
+{
+    let mut bytes = Vec::new(alloc);
+    if text != b"-".as_slice() {
+        let mut place = Place::Front;
+        for c in text {
+            place = read_character(&mut bytes, place, *c)?;
+        }
+        read_end(&mut bytes, place)?;
+    }
+    are_bytes(&bytes);
+    Ok(Data::of(bytes).unwrap())
+}
+
+/// Two lists of bytes that are spelled alike are one list.
+pub fn one_spelling()
+    ensures { (a b : List ℕ) → IsData a → IsData b → spelling a ≡ spelling b → a ≡ b }
+{}
+
+/// Whether a run is spelled without a count.
+fn is_short(run: Run) -> bool
+    ensures { result ≡ is_short run }
+{
+    run.count < COUNTED
+}
+
+/// A hexadecimal digit in lower case.
+fn hex_digit(value: u8) -> u8
+    requires { value < 16 }
+    ensures { result ≡ hex_digit value }
+{
+    if value < 10 {
+        b'0' + value
+    } else {
+        b'a' - 10 + value
+    }
+}
+
+/// Puts a byte as two digits.
+fn put_hex(out: &mut Text, byte: u8)
+    ensures { out.new ≡ put out.old (hex byte) }
+{
+    out.put(&[hex_digit(byte / 16), hex_digit(byte % 16)]);
+}
+
+/// Puts a run's text.
+#[tactic(auto, using(crate::proofs::BufferLemmas::put_put, crate::proofs::BufferLemmas::put_none, crate::proofs::RunLemmas::hex_more))]
+fn put_run(out: &mut Text, run: Run)
+    ensures { out.new ≡ put out.old (run_text run) }
+{
+    if is_short(run) {
+        for _ in 0..run.count {
+            put_hex(out, run.byte);
+        }
+    } else {
+        put_hex(out, run.byte);
+        out.put(b"*");
+        put_number(out, run.count as u64);
+    }
+}
+
+/// How many bytes equal to one stand at the front.
+fn count_equal(bytes: &[u8], byte: u8) -> usize
+    ensures value { result ≡ prefix_len (λ x. x == byte) bytes.now }
+{
+    bytes.iter().take_while(|x| **x == byte).count()
+}
+
+/// The first run of some bytes.
+#[tactic(auto, using(crate::proofs::RunLemmas::runs_first, crate::proofs::RunLemmas::first_count))]
+fn first_run(bytes: &[u8]) -> Run
+    requires { 0 < length bytes.now }
+    ensures first { runs bytes.now ≡ result ∷ runs (drop result.count bytes.now) }
+    ensures some { 0 < result.count }
+    ensures within { result.count ≤ length bytes.now }
+{
+    let byte = bytes[0];
+    Run {
+        byte,
+        count: count_equal(bytes, byte),
+    }
+}
+
+/// Puts the one spelling of some bytes.
+#[tactic(auto, using(crate::proofs::BufferLemmas::put_put, crate::proofs::BufferLemmas::put_none))]
+pub(crate) fn put_data(out: &mut Text, bytes: &[u8])
+    ensures { out.new ≡ put out.old (spelling bytes.now) }
+{
+    if bytes.is_empty() {
+        out.put(b"-");
+        return;
+    }
+    let mut last = first_run(bytes);
+    put_run(out, last);
+    let mut rest = &bytes[last.count..];
+    while !rest.is_empty() {
+        let run = first_run(rest);
+        if !(is_short(last) && is_short(run)) {
+            out.put(b".");
+        }
+        put_run(out, run);
+        rest = &rest[run.count..];
+        last = run;
+    }
+}

@@ -1,0 +1,16 @@
+//! The line language of the host, both ways: a line is read as a step, a reply or an offer is printed.
+//! Each value has one spelling, and a line that isn't the one spelling of a step is a bad line.
+#![tactic(auto)]
+
+pub mod bad_line;
+pub mod buffer;
+pub mod data_text;
+mod fields;
+mod numbers;
+pub mod parse;
+pub mod print_reply;
+pub mod print_step;
+mod read_line;
+#[cfg(test)]
+mod tests;
+mod words;

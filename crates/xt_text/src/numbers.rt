@@ -1,0 +1,57 @@
+//! Numbers as text: decimal without leading zeros, both ways.
+
+ghost use Rattle.std.specs.Fmt.{decimal};
+ghost use Rattle.std.specs.Prelude.{◌≡◌, ◌<◌, ◌≤◌, length, IfOk};
+ghost use Rattle.xt_text.specs.Buffer.{put};
+ghost use Rattle.xt_text.specs.Reading.{Gives, below, number_of, number_on};
+
+use crate::bad_line::BadLine;
+use crate::buffer::Text;
+
+/// A number with one more digit; a number over the greatest u64 is a bad spelling.
+pub(crate) fn number_on(number: u64, digit: u8) -> Result<u64, BadLine>
+    ensures { Gives result (number_on number digit) }
+{
+    if !digit.is_ascii_digit() {
+        return Err(BadLine::Spelling);
+    }
+    let tens = number.checked_mul(10).ok_or(BadLine::Spelling)?;
+    tens.checked_add((digit - b'0') as u64)
+        .ok_or(BadLine::Spelling)
+}
+
+/// The number of some digits, loosely: leading zeros are let through, and no digit is 0.
+pub(crate) fn number_of(word: &[u8]) -> Result<u64, BadLine>
+    ensures { Gives result (number_of word.now) }
+{
+    let mut number = 0;
+    for digit in word {
+        number = number_on(number, *digit)?;
+    }
+    Ok(number)
+}
+
+/// A number below a limit.
+pub(crate) fn below(word: &[u8], limit: u64) -> Result<u64, BadLine>
+    ensures value { Gives result (below limit word.now) }
+    ensures range { IfOk result (λ number. number < limit) }
+{
+    let number = number_of(word)?;
+    if number < limit {
+        Ok(number)
+    } else {
+        Err(BadLine::Spelling)
+    }
+}
+
+/// Puts a number in decimal.
+#[tactic(auto, using(crate::proofs::BufferLemmas::put_put, std::proofs::lemmas::Fmt::decimal_digit, std::proofs::lemmas::Fmt::decimal_step, crate::proofs::Lengths::decimal_fits))]
+pub(crate) fn put_number(out: &mut Text, number: u64)
+    ensures text { out.new ≡ put out.old (decimal number) }
+    ensures short { length (decimal number) ≤ 20 }
+{
+    if number >= 10 {
+        put_number(out, number / 10);
+    }
+    out.put(&[b'0' + (number % 10) as u8]);
+}

@@ -1,0 +1,45 @@
+//! Lines parsed as steps.
+
+ghost use Rattle.std.specs.Prelude.{◌≡◌, ◌≤◌, ◌↔◌, length, IfOk, IsTrue, Some};
+ghost use Rattle.xt_base.specs.declared.steps.Step.{Step as AnyStep};
+ghost use Rattle.xt_text.specs.Lines.{IsStep, line_of};
+ghost use Rattle.xt_text.specs.Reading.{Gives};
+
+use crate::bad_line::BadLine;
+use crate::buffer::Text;
+use crate::print_step::print_step;
+use crate::read_line::step_of;
+use std::alloc::{AllocError, Global};
+use xt_base::steps::Step;
+
+/// The most bytes of a line, without its newline.
+pub const LINE_BYTES: usize = 8400;
+
+/// Whether a line is that of a step. The one error is want of memory.
+#[tactic(auto, using(crate::proofs::ParseLemmas::line_is_printed, crate::proofs::ParseLemmas::printed_is_line))]
+fn is_line_of(alloc: Global, line: &[u8], step: &Step) -> Result<bool, AllocError>
+    requires { length line.now ≤ 8400 }
+    ensures { IfOk result (λ same. IsTrue same ↔ (line.now ≡ line_of step.now)) }
+{
+    let mut text = Text::new(alloc)?;
+    print_step(step, &mut text);
+    Ok(text.holds(line))
+}
+
+/// The step that a line spells, without its newline. A line that is not the one spelling of a step is a bad line, and
+/// so is one of more than 8,400 bytes. It is answered Memory only where a growth was refused.
+pub fn parse_line(alloc: Global, line: &[u8]) -> Result<Step, BadLine>
+    ensures valid { IfOk result IsStep }
+    ensures found { IfOk result (λ step. line.now ≡ line_of step) }
+    ensures only { (step : AnyStep) → IsStep step → line.now ≡ line_of step → Gives result (Some step) }
+{
+    if line.len() > LINE_BYTES {
+        return Err(BadLine::Spelling);
+    }
+    let step = step_of(alloc, line)?;
+    if is_line_of(alloc, line, &step)? {
+        Ok(step)
+    } else {
+        Err(BadLine::Spelling)
+    }
+}

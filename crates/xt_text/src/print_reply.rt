@@ -1,0 +1,202 @@
+//! Replies and offers printed.
+
+ghost use Rattle.std.specs.Fmt.{decimal};
+ghost use Rattle.std.specs.Prelude.{◌≡◌, ◌≤◌, ◌∷◌, ◌++◌, length};
+ghost use Rattle.xt_text.specs.Buffer.{put};
+ghost use Rattle.xt_text.specs.Lines.{ckpt_text, ◌␣◌};
+ghost use Rattle.xt_text.specs.Replies.{any_held_text, errno_text, held_text, home_offer_text, log_offer_text, reply_text, seen_text, slot_reply_text};
+
+use crate::buffer::Text;
+use crate::fields::{then_ckpt, then_data, then_number, then_ok, then_word};
+use crate::numbers::put_number;
+use xt_base::content::HeldBlocks;
+use xt_base::names::{CkptNo, Slot};
+use xt_base::steps::{Errno, HomeOffer, LogOffer, Reason, Reply};
+
+/// The name of a refusal, as in `errno.h`.
+fn put_errno(out: &mut Text, errno: Errno)
+    ensures text { out.new ≡ put out.old (errno_text errno) }
+    ensures short { length (errno_text errno) ≤ 7 }
+{
+    match errno {
+        Errno::Io => out.put(b"EIO"),
+        Errno::Again => out.put(b"EAGAIN"),
+        Errno::NoMemory => out.put(b"ENOMEM"),
+        Errno::Busy => out.put(b"EBUSY"),
+        Errno::NoDevice => out.put(b"ENODEV"),
+        Errno::Invalid => out.put(b"EINVAL"),
+        Errno::NoSpace => out.put(b"ENOSPC"),
+        Errno::NoBufs => out.put(b"ENOBUFS"),
+        Errno::Stale => out.put(b"ESTALE"),
+    }
+}
+
+/// What the board shows of a life: live, or why it was shut.
+fn then_seen(out: &mut Text, reason: Option<Reason>)
+    ensures text { out.new ≡ put out.old (32 ∷ seen_text reason) }
+    ensures short { length (seen_text reason) ≤ 14 }
+{
+    match reason {
+        None => out.put(b" live"),
+        Some(Reason::MetaIoError) => out.put(b" META_IO_ERROR"),
+        Some(Reason::LogIoError) => out.put(b" LOG_IO_ERROR"),
+        Some(Reason::ForceUmount) => out.put(b" FORCE_UMOUNT"),
+        Some(Reason::CorruptIncore) => out.put(b" CORRUPT_INCORE"),
+    }
+}
+
+/// Blocks that stay held.
+#[tactic(auto, using(crate::proofs::BufferLemmas::put_put, crate::proofs::BufferLemmas::put_none))]
+fn then_held(out: &mut Text, held: &HeldBlocks)
+    ensures text { out.new ≡ put out.old (held_text held.now) }
+    ensures short { length (held_text held.now) ≤ 1349 }
+{
+    out.put(b" held");
+    for block in held.blocks() {
+        then_number(out, block.0);
+    }
+}
+
+/// The number of a checkpoint, with no space in front.
+#[tactic(auto, using(crate::proofs::BufferLemmas::put_put))]
+fn put_ckpt(out: &mut Text, number: CkptNo)
+    ensures text { out.new ≡ put out.old (ckpt_text number) }
+    ensures short { length (ckpt_text number) ≤ 21 }
+{
+    out.put(b"c");
+    put_number(out, number.0);
+}
+
+/// A word and the number of a checkpoint.
+#[tactic(auto, using(crate::proofs::BufferLemmas::put_put))]
+fn put_with_ckpt(out: &mut Text, word: &[u8], number: CkptNo)
+    ensures text { out.new ≡ put out.old (word.now ␣ ckpt_text number) }
+    ensures short { length (ckpt_text number) ≤ 21 }
+{
+    out.put(word);
+    then_ckpt(out, number);
+}
+
+/// A word and a number.
+#[tactic(auto, using(crate::proofs::BufferLemmas::put_put))]
+fn put_with_number(out: &mut Text, word: &[u8], number: u64)
+    ensures text { out.new ≡ put out.old (word.now ␣ decimal number) }
+    ensures short { length (decimal number) ≤ 20 }
+{
+    out.put(word);
+    then_number(out, number);
+}
+
+/// A word and blocks that stay held.
+#[tactic(auto, using(crate::proofs::BufferLemmas::put_put))]
+fn put_with_held(out: &mut Text, word: &[u8], held: &HeldBlocks)
+    ensures text { out.new ≡ put out.old (word.now ++ held_text held.now) }
+    ensures short { length (held_text held.now) ≤ 1349 }
+{
+    out.put(word);
+    then_held(out, held);
+}
+
+/// The number of a leg's checkpoint, and the blocks that stay held if there are some.
+#[tactic(auto, using(crate::proofs::BufferLemmas::put_put, crate::proofs::BufferLemmas::put_none))]
+fn put_committed(out: &mut Text, number: CkptNo, held: &Option<HeldBlocks>)
+    ensures text { out.new ≡ put out.old (ckpt_text number ++ any_held_text held.now) }
+    ensures short { length (ckpt_text number ++ any_held_text held.now) ≤ 1370 }
+{
+    put_ckpt(out, number);
+    if let Some(held) = held {
+        then_held(out, held);
+    }
+}
+
+/// Puts a reply, with no slot in front and no newline behind, behind what the buffer holds.
+#[tactic(auto, using(crate::proofs::BufferLemmas::put_put, crate::proofs::BufferLemmas::put_none))]
+pub fn print_reply(reply: &Reply, out: &mut Text)
+    ensures text { out.new ≡ put out.old (reply_text reply.now) }
+    ensures short { length (reply_text reply.now) ≤ 8300 }
+{
+    match reply {
+        Reply::Okay => out.put(b"ok"),
+        Reply::OkayHeld(held) => put_with_held(out, b"ok", held),
+        Reply::Life(life) => put_with_number(out, b"life", life.0 as u64),
+        Reply::Trans(trans) => {
+            out.put(b"t");
+            put_number(out, trans.0);
+        }
+        Reply::Committed { number, held } => put_committed(out, *number, held),
+        Reply::Aborted(held) => put_with_held(out, b"EIO", held),
+        Reply::Wait(number) => put_with_ckpt(out, b"wait", *number),
+        Reply::Done => out.put(b"done"),
+        Reply::Kept => out.put(b"kept"),
+        Reply::Free => out.put(b"free"),
+        Reply::Data(content) => {
+            out.put(b"data");
+            then_data(out, content.bytes());
+        }
+        Reply::Nothing => out.put(b"nothing"),
+        Reply::Begun { number, pieces } => {
+            put_with_ckpt(out, b"begun", *number);
+            then_number(out, *pieces as u64);
+        }
+        Reply::Landed(number) => put_with_ckpt(out, b"landed", *number),
+        Reply::Failed(number) => put_with_ckpt(out, b"failed", *number),
+        Reply::Flushed(count) => put_with_number(out, b"flushed", *count as u64),
+        Reply::Seen { life, reason } => {
+            put_with_number(out, b"seen", life.0 as u64);
+            then_seen(out, *reason);
+        }
+        Reply::Refused(errno) => put_errno(out, *errno),
+    }
+}
+
+/// Puts a reply with the slot that its step names in front, and no newline behind.
+#[tactic(auto, using(crate::proofs::BufferLemmas::put_put))]
+pub fn print_slot_reply(slot: Slot, reply: &Reply, out: &mut Text)
+    ensures text { out.new ≡ put out.old (slot_reply_text slot reply.now) }
+    ensures short { length (slot_reply_text slot reply.now) ≤ 8400 }
+{
+    put_number(out, slot.index() as u64);
+    out.put(b" ");
+    print_reply(reply, out);
+}
+
+/// Puts what was offered to a log device, with the slot in front and no newline behind.
+#[tactic(auto, using(crate::proofs::BufferLemmas::put_put))]
+pub fn print_log_offer(slot: Slot, offer: &LogOffer, out: &mut Text)
+    ensures text { out.new ≡ put out.old (log_offer_text slot offer.now) }
+    ensures short { length (log_offer_text slot offer.now) ≤ 8400 }
+{
+    put_number(out, slot.index() as u64);
+    match offer {
+        LogOffer::Piece { bytes, ok } => {
+            then_word(out, b"log");
+            then_data(out, bytes.bytes());
+            then_ok(out, *ok);
+        }
+        LogOffer::Sync { ok } => {
+            then_word(out, b"logsync");
+            then_ok(out, *ok);
+        }
+    }
+}
+
+/// Puts what was offered to a home device, with the slot in front and no newline behind.
+#[tactic(auto, using(crate::proofs::BufferLemmas::put_put))]
+pub fn print_home_offer(slot: Slot, offer: &HomeOffer, out: &mut Text)
+    ensures text { out.new ≡ put out.old (home_offer_text slot offer.now) }
+    ensures short { length (home_offer_text slot offer.now) ≤ 8400 }
+{
+    put_number(out, slot.index() as u64);
+    match offer {
+        HomeOffer::Write { block, content, ok } => {
+            then_word(out, b"home");
+            then_number(out, block.0);
+            then_data(out, content.bytes());
+            then_ok(out, *ok);
+        }
+        HomeOffer::Sync { ok } => {
+            then_word(out, b"homesync");
+            then_ok(out, *ok);
+        }
+    }
+}

@@ -1,0 +1,215 @@
+//! Lines read loosely: the line of each step gives that step, and other lines may give some step too.
+
+ghost use Rattle.std.specs.Prelude.{IfOk};
+ghost use Rattle.xt_text.specs.LineReading.{alloc_of, begin_of, call_of, commit_of, end_of, get_of, log_of, mount_of, post_of, request_of, step_of, take_of, words_step};
+ghost use Rattle.xt_text.specs.Lines.{IsRequest, IsStep};
+ghost use Rattle.xt_text.specs.Reading.{Gives};
+
+use crate::bad_line::BadLine;
+use crate::data_text::read_data;
+use crate::numbers::number_of;
+use crate::words::{
+    block_of, cut, life_of, name_of, perm_of, slot_of, sync_of, trans_of, u32_of, worker_of,
+};
+use std::alloc::Global;
+use xt_base::steps::{Answer, LogAnswers, Request, Step};
+
+/// UNIT COUNT plain, or perm.
+#[tactic(auto, unfolding(crate::specs::LineReading::alloc_of))]
+fn alloc_of(words: &[u8]) -> Result<Request, BadLine>
+    ensures value { Gives result (alloc_of words.now) }
+    ensures valid { IfOk result IsRequest }
+{
+    let (unit, words) = cut(words, b' ');
+    let (count, perm) = cut(words, b' ');
+    let unit = u32_of(unit)?;
+    let count = u32_of(count)?;
+    let perm = perm_of(perm)?;
+    Ok(Request::Alloc { unit, count, perm })
+}
+
+/// TRANS BLOCK.
+#[tactic(auto, unfolding(crate::specs::LineReading::get_of))]
+fn get_of(words: &[u8]) -> Result<Request, BadLine>
+    ensures value { Gives result (get_of words.now) }
+    ensures valid { IfOk result IsRequest }
+{
+    let (trans, block) = cut(words, b' ');
+    let trans = trans_of(trans)?;
+    let block = block_of(block)?;
+    Ok(Request::Get { trans, block })
+}
+
+/// TRANS BLOCK FIRST DATA.
+#[tactic(auto, unfolding(crate::specs::LineReading::log_of))]
+fn log_of(alloc: Global, words: &[u8]) -> Result<Request, BadLine>
+    ensures value { Gives result (log_of words.now) }
+    ensures valid { IfOk result IsRequest }
+{
+    let (trans, words) = cut(words, b' ');
+    let (block, words) = cut(words, b' ');
+    let (first, bytes) = cut(words, b' ');
+    let trans = trans_of(trans)?;
+    let block = block_of(block)?;
+    let first = u32_of(first)?;
+    let bytes = read_data(alloc, bytes)?;
+    Ok(Request::Log {
+        trans,
+        block,
+        first,
+        bytes,
+    })
+}
+
+/// TRANS.
+#[tactic(auto, unfolding(crate::specs::LineReading::commit_of))]
+fn commit_of(words: &[u8]) -> Result<Request, BadLine>
+    ensures value { Gives result (commit_of words.now) }
+    ensures valid { IfOk result IsRequest }
+{
+    let trans = trans_of(words)?;
+    Ok(Request::Commit { trans })
+}
+
+/// A request: its verb, and what stands behind it.
+#[tactic(auto, unfolding(crate::specs::LineReading::request_of))]
+fn request_of(alloc: Global, verb: &[u8], words: &[u8]) -> Result<Request, BadLine>
+    ensures value { Gives result (request_of verb.now words.now) }
+    ensures valid { IfOk result IsRequest }
+{
+    if verb == b"alloc".as_slice() {
+        alloc_of(words)
+    } else if verb == b"get".as_slice() {
+        get_of(words)
+    } else if verb == b"log".as_slice() {
+        log_of(alloc, words)
+    } else if verb == b"commit".as_slice() {
+        commit_of(words)
+    } else if verb == b"force".as_slice() {
+        Ok(Request::Force)
+    } else {
+        Err(BadLine::Spelling)
+    }
+}
+
+/// SLOT LOG BLOCKS.
+#[tactic(auto, unfolding(crate::specs::LineReading::mount_of))]
+fn mount_of(words: &[u8]) -> Result<Step, BadLine>
+    ensures value { Gives result (mount_of words.now) }
+    ensures valid { IfOk result IsStep }
+{
+    let (slot, words) = cut(words, b' ');
+    let (log_bytes, blocks) = cut(words, b' ');
+    let slot = slot_of(slot)?;
+    let log_bytes = u32_of(log_bytes)?;
+    let blocks = number_of(blocks)?;
+    Ok(Step::Mount {
+        slot,
+        log_bytes,
+        blocks,
+    })
+}
+
+/// A call: SLOT.LIFE, and the request.
+#[tactic(auto, unfolding(crate::specs::LineReading::call_of))]
+fn call_of(alloc: Global, mount: &[u8], words: &[u8]) -> Result<Step, BadLine>
+    ensures value { Gives result (call_of mount.now words.now) }
+    ensures valid { IfOk result IsStep }
+{
+    let (slot, life) = cut(mount, b'.');
+    let (verb, words) = cut(words, b' ');
+    let slot = slot_of(slot)?;
+    let life = life_of(life)?;
+    let request = request_of(alloc, verb, words)?;
+    Ok(Step::Call {
+        slot,
+        life,
+        request,
+        answer: Answer::None,
+    })
+}
+
+/// NAME.
+#[tactic(auto, unfolding(crate::specs::LineReading::post_of))]
+fn post_of(words: &[u8]) -> Result<Step, BadLine>
+    ensures value { Gives result (post_of words.now) }
+    ensures valid { IfOk result IsStep }
+{
+    let name = name_of(words)?;
+    Ok(Step::Post(name))
+}
+
+/// WORKER NAME.
+#[tactic(auto, unfolding(crate::specs::LineReading::take_of))]
+fn take_of(words: &[u8]) -> Result<Step, BadLine>
+    ensures value { Gives result (take_of words.now) }
+    ensures valid { IfOk result IsStep }
+{
+    let (worker, name) = cut(words, b' ');
+    let worker = worker_of(worker)?;
+    let name = name_of(name)?;
+    Ok(Step::Take { worker, name })
+}
+
+/// WORKER NAME.
+#[tactic(auto, unfolding(crate::specs::LineReading::begin_of))]
+fn begin_of(words: &[u8]) -> Result<Step, BadLine>
+    ensures value { Gives result (begin_of words.now) }
+    ensures valid { IfOk result IsStep }
+{
+    let (worker, name) = cut(words, b' ');
+    let worker = worker_of(worker)?;
+    let name = name_of(name)?;
+    Ok(Step::Begin { worker, name })
+}
+
+/// WORKER NAME TAKEN SYNC.
+#[tactic(auto, unfolding(crate::specs::LineReading::end_of))]
+fn end_of(words: &[u8]) -> Result<Step, BadLine>
+    ensures value { Gives result (end_of words.now) }
+    ensures valid { IfOk result IsStep }
+{
+    let (worker, words) = cut(words, b' ');
+    let (name, words) = cut(words, b' ');
+    let (taken, sync) = cut(words, b' ');
+    let worker = worker_of(worker)?;
+    let name = name_of(name)?;
+    let taken = u32_of(taken)?;
+    let sync = sync_of(sync)?;
+    Ok(Step::End {
+        worker,
+        name,
+        answers: LogAnswers { taken, sync },
+    })
+}
+
+/// A step: its first word, and what stands behind it.
+#[tactic(auto, unfolding(crate::specs::LineReading::words_step))]
+fn words_step(alloc: Global, word: &[u8], words: &[u8]) -> Result<Step, BadLine>
+    ensures value { Gives result (words_step word.now words.now) }
+    ensures valid { IfOk result IsStep }
+{
+    if word == b"mount".as_slice() {
+        mount_of(words)
+    } else if word == b"post".as_slice() {
+        post_of(words)
+    } else if word == b"take".as_slice() {
+        take_of(words)
+    } else if word == b"begin".as_slice() {
+        begin_of(words)
+    } else if word == b"end".as_slice() {
+        end_of(words)
+    } else {
+        call_of(alloc, word, words)
+    }
+}
+
+/// Reads a line loosely.
+#[tactic(auto, unfolding(crate::specs::LineReading::step_of))]
+pub(crate) fn step_of(alloc: Global, line: &[u8]) -> Result<Step, BadLine>
+    ensures value { Gives result (step_of line.now) }
+    ensures valid { IfOk result IsStep }
+{
+    let (word, words) = cut(line, b' ');
+    words_step(alloc, word, words)
+}

@@ -1,0 +1,362 @@
+//! The rows of the line language, and lines that are none.
+
+use crate::bad_line::BadLine;
+use crate::buffer::Text;
+use crate::parse::parse_line;
+use crate::print_reply::{print_home_offer, print_log_offer, print_reply, print_slot_reply};
+use crate::print_step::print_step;
+use std::alloc::Global;
+use std::process::Abort;
+use std::test::Fail;
+use xt_base::content::{Content, Data, HeldBlocks};
+use xt_base::names::{Block, CkptNo, Life, Slot, TransNo};
+use xt_base::steps::{Errno, HomeOffer, LogOffer, Reason, Reply, Request, Step};
+
+/// Whether a line is refused for its spelling.
+fn is_bad(alloc: Global, line: &[u8]) -> Result<bool, Fail> {
+    match parse_line(alloc, line) {
+        Ok(_) => Ok(false),
+        Err(BadLine::Spelling) => Ok(true),
+        Err(BadLine::Memory) => Ok(Err("out of memory")?),
+    }
+}
+
+/// The data of a log request.
+fn logged(alloc: Global, data: &str) -> Result<Vec<u8>, Fail> {
+    let line = format!(in alloc; "0.1 log t1 7 0 {data}")?;
+    let step = parse_line(alloc, line.as_bytes())?;
+    match &step {
+        Step::Call {
+            request: Request::Log { bytes, .. },
+            ..
+        } => Ok(bytes.bytes().to_vec(alloc)?),
+        _ => Ok(Err("not a log request")?),
+    }
+}
+
+/// Asserts that a reply is printed so.
+fn says(rt: &impl Abort, out: &mut Text, reply: &Reply, want: &str) {
+    out.clear();
+    print_reply(reply, out);
+    assert!(rt; out.holds(want.as_bytes()), "{want}");
+}
+
+#[test]
+fn lines_of_steps_are_read_and_printed(rt: HostRuntime) -> Result<(), Fail> {
+    let mut out = Text::new(rt.alloc())?;
+    for line in [
+        "mount 0 65536 1024",
+        "mount 15 4294967295 18446744073709551615",
+        "0.1 alloc 5000 1 plain",
+        "15.4294967295 alloc 4294967295 4294967295 perm",
+        "0.1 get t1 7",
+        "0.1 get t18446744073709551615 18446744073709551615",
+        "0.0 get t0 0",
+        "0.1 log t1 7 0 aa*4096",
+        "0.1 log t1 7 4294967295 -",
+        "0.1 commit t1",
+        "0.1 force",
+        "post 0.1.ckpt.1",
+        "post 15.4294967295.flush.18446744073709551615",
+        "take 0 0.1.ckpt.1",
+        "begin 7 0.1.flush.1",
+        "end 0 0.1.ckpt.1 2 ok",
+        "end 0 0.1.ckpt.1 4294967295 fail",
+        "end 7 0.1.flush.1 0 none",
+    ] {
+        let step = parse_line(rt.alloc(), line.as_bytes())?;
+        out.clear();
+        print_step(&step, &mut out);
+        assert!(rt; out.holds(line.as_bytes()), "{line}");
+    }
+    Ok(())
+}
+
+#[test]
+fn fields_are_where_they_belong(rt: HostRuntime) -> Result<(), Fail> {
+    let step = parse_line(rt.alloc(), b"3.9 alloc 5000 2 perm")?;
+    match &step {
+        Step::Call {
+            slot,
+            life,
+            request: Request::Alloc { unit, count, perm },
+            ..
+        } => {
+            assert_eq!(rt; slot.index(), 3);
+            assert_eq!(rt; life.0, 9);
+            assert_eq!(rt; (*unit, *count, *perm), (5000, 2, true));
+        }
+        _ => assert!(rt; false, "not an alloc"),
+    }
+    Ok(())
+}
+
+#[test]
+fn data_has_one_spelling(rt: HostRuntime) -> Result<(), Fail> {
+    let alloc = rt.alloc();
+    assert_eq!(rt; logged(alloc, "-")?.as_slice(), [].as_slice());
+    assert_eq!(rt; logged(alloc, "0102")?.as_slice(), [1, 2].as_slice());
+    assert_eq!(rt; logged(alloc, "aaaaaa")?.as_slice(), [0xaa; 3].as_slice());
+    assert_eq!(rt; logged(alloc, "aa*4")?.as_slice(), [0xaa; 4].as_slice());
+    assert_eq!(rt;
+        logged(alloc, "07.ff*4.00*4.01")?.as_slice(),
+        [7, 255, 255, 255, 255, 0, 0, 0, 0, 1].as_slice()
+    );
+    let block = logged(alloc, "11.00*4095")?;
+    assert_eq!(rt; block.len(), 4096);
+    assert_eq!(rt; block[0], 0x11);
+    assert!(rt; block[1..].iter().all(|b| *b == 0));
+    Ok(())
+}
+
+#[test]
+fn other_spellings_are_bad(rt: HostRuntime) -> Result<(), Fail> {
+    for line in [
+        "",
+        " ",
+        "mount",
+        "mount 0 65536",
+        "mount 0 65536 1024 ",
+        " mount 0 65536 1024",
+        "mount 0 65536 1024\r",
+        "mount 0 65536 1024 4096",
+        "mount  0 65536 1024",
+        "mount\t0 65536 1024",
+        "mount 00 65536 1024",
+        "mount 16 65536 1024",
+        "mount +0 65536 1024",
+        "mount 0 4294967296 1024",
+        "mount 0 65536 18446744073709551616",
+        "mount 0 065536 1024",
+        "Mount 0 65536 1024",
+        "0.1 get 1 7",
+        "0.1 get c1 7",
+        "0.1 get t01 7",
+        "0.1 get t 7",
+        "01.1 force",
+        "0.4294967296 force",
+        "0.1.2 force",
+        "0.1 force ",
+        "0.1 alloc 1 1 maybe",
+        "0.1 frobnicate",
+        "take 8 0.1.ckpt.1",
+        "post 0.1.ckpt",
+        "post 0.1.sync.1",
+        "end 0 0.1.ckpt.1 2 maybe",
+        "end 0 0.1.ckpt.1 2",
+    ] {
+        assert!(rt; is_bad(rt.alloc(), line.as_bytes())?, "{line}");
+    }
+    Ok(())
+}
+
+#[test]
+fn other_spellings_of_data_are_bad(rt: HostRuntime) -> Result<(), Fail> {
+    for data in [
+        "",
+        "a",
+        "AA",
+        "aaaaaaaa",
+        "aa*3",
+        "aa*04",
+        "aa*4097",
+        "aa*4.aa*4",
+        "aa*4.aa",
+        "11.22",
+        "11.00*4096",
+        "aa*4.",
+        ".aa*4",
+        "aa*4..bb*4",
+        "aa*4bb",
+        "-.aa",
+        "zz",
+        "aa*",
+        "*4",
+    ] {
+        let line = format!(in rt.alloc(); "0.1 log t1 7 0 {data}")?;
+        assert!(rt; is_bad(rt.alloc(), line.as_bytes())?, "{data}");
+    }
+    Ok(())
+}
+
+#[test]
+fn words_that_have_not_come_are_bad(rt: HostRuntime) -> Result<(), Fail> {
+    for line in [
+        "0.1 view t1 7",
+        "0.1 read t1 7",
+        "0.1 unmount",
+        "flush 0 0.1.flush.1",
+        "show 0",
+        "peek 0",
+    ] {
+        assert!(rt; is_bad(rt.alloc(), line.as_bytes())?, "{line}");
+    }
+    Ok(())
+}
+
+#[test]
+fn long_lines_are_bad(rt: HostRuntime) -> Result<(), Fail> {
+    let long = vec![in rt.alloc(); b'1'; 8401]?;
+    assert!(rt; is_bad(rt.alloc(), &long)?);
+    let most = vec![in rt.alloc(); b'1'; 8400]?;
+    assert!(rt; is_bad(rt.alloc(), &most)?);
+    Ok(())
+}
+
+#[test]
+fn replies_are_printed(rt: HostRuntime) -> Result<(), Fail> {
+    let mut out = Text::new(rt.alloc())?;
+    says(&rt, &mut out, &Reply::Okay, "ok");
+    says(
+        &rt,
+        &mut out,
+        &Reply::Life(Life(4294967295)),
+        "life 4294967295",
+    );
+    says(
+        &rt,
+        &mut out,
+        &Reply::Trans(TransNo(18446744073709551615)),
+        "t18446744073709551615",
+    );
+    says(
+        &rt,
+        &mut out,
+        &Reply::Committed {
+            number: CkptNo(3),
+            held: None,
+        },
+        "c3",
+    );
+    says(&rt, &mut out, &Reply::Wait(CkptNo(10)), "wait c10");
+    says(&rt, &mut out, &Reply::Done, "done");
+    says(&rt, &mut out, &Reply::Kept, "kept");
+    says(&rt, &mut out, &Reply::Free, "free");
+    says(
+        &rt,
+        &mut out,
+        &Reply::Data(Content::zeros(rt.alloc())?),
+        "data 00*4096",
+    );
+    says(&rt, &mut out, &Reply::Nothing, "nothing");
+    says(
+        &rt,
+        &mut out,
+        &Reply::Begun {
+            number: CkptNo(1),
+            pieces: 2,
+        },
+        "begun c1 2",
+    );
+    says(&rt, &mut out, &Reply::Landed(CkptNo(1)), "landed c1");
+    says(&rt, &mut out, &Reply::Failed(CkptNo(1)), "failed c1");
+    says(&rt, &mut out, &Reply::Flushed(8), "flushed 8");
+    Ok(())
+}
+
+#[test]
+fn held_blocks_are_printed(rt: HostRuntime) -> Result<(), Fail> {
+    let mut out = Text::new(rt.alloc())?;
+    let none = Vec::new(rt.alloc());
+    assert!(rt; HeldBlocks::of(none).is_none());
+    let five = HeldBlocks::of(vec![in rt.alloc(); Block(5); 1]?).ok_or("one block")?;
+    says(&rt, &mut out, &Reply::OkayHeld(five), "ok held 5");
+    let mut blocks = vec![in rt.alloc(); Block(0); 1]?;
+    blocks.push(Block(1099511627775))?;
+    let two = HeldBlocks::of(blocks).ok_or("two blocks")?;
+    says(
+        &rt,
+        &mut out,
+        &Reply::Committed {
+            number: CkptNo(0),
+            held: Some(two),
+        },
+        "c0 held 0 1099511627775",
+    );
+    let seven = HeldBlocks::of(vec![in rt.alloc(); Block(7); 1]?).ok_or("one block")?;
+    says(&rt, &mut out, &Reply::Aborted(seven), "EIO held 7");
+    Ok(())
+}
+
+#[test]
+fn names_of_refusals_and_reasons_are_printed(rt: HostRuntime) -> Result<(), Fail> {
+    let mut out = Text::new(rt.alloc())?;
+    for (errno, want) in [
+        (Errno::Io, "EIO"),
+        (Errno::Again, "EAGAIN"),
+        (Errno::NoMemory, "ENOMEM"),
+        (Errno::Busy, "EBUSY"),
+        (Errno::NoDevice, "ENODEV"),
+        (Errno::Invalid, "EINVAL"),
+        (Errno::NoSpace, "ENOSPC"),
+        (Errno::NoBufs, "ENOBUFS"),
+        (Errno::Stale, "ESTALE"),
+    ] {
+        says(&rt, &mut out, &Reply::Refused(errno), want);
+    }
+    for (reason, want) in [
+        (None, "seen 2 live"),
+        (Some(Reason::MetaIoError), "seen 2 META_IO_ERROR"),
+        (Some(Reason::LogIoError), "seen 2 LOG_IO_ERROR"),
+        (Some(Reason::ForceUmount), "seen 2 FORCE_UMOUNT"),
+        (Some(Reason::CorruptIncore), "seen 2 CORRUPT_INCORE"),
+    ] {
+        says(
+            &rt,
+            &mut out,
+            &Reply::Seen {
+                life: Life(2),
+                reason,
+            },
+            want,
+        );
+    }
+    Ok(())
+}
+
+#[test]
+fn offers_are_printed(rt: HostRuntime) -> Result<(), Fail> {
+    let mut out = Text::new(rt.alloc())?;
+    let slot = Slot::new(15).ok_or("a slot")?;
+    let bytes = Data::of(vec![in rt.alloc(); 0xaa; 32]?).ok_or("few bytes")?;
+    print_log_offer(slot, &LogOffer::Piece { bytes, ok: true }, &mut out);
+    out.put(b"\n");
+    print_log_offer(slot, &LogOffer::Sync { ok: false }, &mut out);
+    out.put(b"\n");
+    let content = Content::zeros(rt.alloc())?;
+    print_home_offer(
+        slot,
+        &HomeOffer::Write {
+            block: Block(7),
+            content,
+            ok: false,
+        },
+        &mut out,
+    );
+    out.put(b"\n");
+    print_home_offer(slot, &HomeOffer::Sync { ok: true }, &mut out);
+    out.put(b"\n");
+    print_slot_reply(slot, &Reply::Okay, &mut out);
+    assert!(rt;
+        out.holds(
+            b"15 log aa*32 ok\n15 logsync fail\n15 home 7 00*4096 fail\n15 homesync ok\n15 ok"
+        )
+    );
+    Ok(())
+}
+
+#[test]
+fn a_text_that_does_not_fit_fills_the_buffer(rt: HostRuntime) -> Result<(), Fail> {
+    let mut out = Text::new(rt.alloc())?;
+    let half = vec![in rt.alloc(); b'x'; 4224]?;
+    out.put(&half);
+    out.put(&half);
+    assert!(rt; !out.is_full());
+    assert_eq!(rt; out.bytes().len(), 8448);
+    out.put(b"y");
+    assert!(rt; out.is_full());
+    out.clear();
+    assert!(rt; !out.is_full());
+    assert_eq!(rt; out.bytes().len(), 0);
+    Ok(())
+}

@@ -1,0 +1,161 @@
+//! The words of a line, read: numbers with their letters, names of jobs, and words that stand for a choice.
+//! Words are read loosely; the line that is printed of what was read tells whether each was spelled right.
+
+ghost use Rattle.std.specs.List.{position_or_len};
+ghost use Rattle.std.specs.Prelude.{◌≡◌, ◌==◌, ◌<◌, ◌^◌, IfOk};
+ghost use Rattle.xt_text.specs.LineReading.{before, behind, kind_of, lettered, name_of, perm_of, sync_of, u32_of};
+ghost use Rattle.xt_text.specs.Lines.{IsName};
+ghost use Rattle.xt_text.specs.Reading.{Gives, below, number_of};
+
+use crate::bad_line::BadLine;
+use crate::numbers::{below, number_of};
+use xt_base::names::{Block, JobKind, JobName, Life, Slot, TransNo, Worker};
+
+/// The place of the first separator; the length of a text that has none.
+fn place_of(text: &[u8], separator: u8) -> usize
+    ensures { result ≡ position_or_len (λ c. c == separator) text.now }
+{
+    text.iter().take_while(|c| **c != separator).count()
+}
+
+/// What stands before the first separator of a text, all of it where there is none, and what stands behind that.
+#[tactic(auto, using(std::proofs::lemmas::List::take_rest, std::proofs::lemmas::List::take_all, std::proofs::lemmas::List::drop_all))]
+pub(crate) fn cut(text: &[u8], separator: u8) -> (&[u8], &[u8])
+    ensures before { result.0.now ≡ before separator text.now }
+    ensures behind { result.1.now ≡ behind separator text.now }
+{
+    let at = place_of(text, separator);
+    if at < text.len() {
+        (&text[..at], &text[at + 1..])
+    } else {
+        (text, &text[text.len()..])
+    }
+}
+
+/// A u32.
+pub(crate) fn u32_of(word: &[u8]) -> Result<u32, BadLine>
+    ensures { Gives result (u32_of word.now) }
+{
+    let number = below(word, 1 << 32)?;
+    Ok(number as u32)
+}
+
+/// A slot.
+pub(crate) fn slot_of(word: &[u8]) -> Result<Slot, BadLine>
+    ensures value { Gives result (below 16 word.now) }
+    ensures range { IfOk result (λ slot. slot < 16) }
+{
+    let index = below(word, 16)?;
+    Ok(Slot::new(index as u8).unwrap())
+}
+
+/// A worker.
+pub(crate) fn worker_of(word: &[u8]) -> Result<Worker, BadLine>
+    ensures value { Gives result (below 8 word.now) }
+    ensures range { IfOk result (λ worker. worker < 8) }
+{
+    let index = below(word, 8)?;
+    Ok(Worker::new(index as u8).unwrap())
+}
+
+/// A life.
+pub(crate) fn life_of(word: &[u8]) -> Result<Life, BadLine>
+    ensures value { Gives result (u32_of word.now) }
+    ensures range { IfOk result (λ life. life < 2 ^ 32) }
+{
+    let life = u32_of(word)?;
+    Ok(Life(life))
+}
+
+/// A block.
+pub(crate) fn block_of(word: &[u8]) -> Result<Block, BadLine>
+    ensures value { Gives result (number_of word.now) }
+    ensures range { IfOk result (λ block. block < 2 ^ 64) }
+{
+    let block = number_of(word)?;
+    Ok(Block(block))
+}
+
+/// A number behind a letter.
+pub(crate) fn lettered(word: &[u8]) -> Result<u64, BadLine>
+    ensures { Gives result (lettered word.now) }
+{
+    match word {
+        [_, digits @ ..] => number_of(digits),
+        [] => Err(BadLine::Spelling),
+    }
+}
+
+/// The number of a transaction.
+pub(crate) fn trans_of(word: &[u8]) -> Result<TransNo, BadLine>
+    ensures value { Gives result (lettered word.now) }
+    ensures range { IfOk result (λ trans. trans < 2 ^ 64) }
+{
+    let number = lettered(word)?;
+    Ok(TransNo(number))
+}
+
+/// What a job does.
+#[tactic(auto, unfolding(crate::specs::LineReading::kind_of))]
+fn kind_of(word: &[u8]) -> Result<JobKind, BadLine>
+    ensures { Gives result (kind_of word.now) }
+{
+    if word == b"ckpt".as_slice() {
+        Ok(JobKind::Ckpt)
+    } else if word == b"flush".as_slice() {
+        Ok(JobKind::Flush)
+    } else {
+        Err(BadLine::Spelling)
+    }
+}
+
+/// The name of a job.
+#[tactic(auto, unfolding(crate::specs::LineReading::name_of))]
+pub(crate) fn name_of(word: &[u8]) -> Result<JobName, BadLine>
+    ensures value { Gives result (name_of word.now) }
+    ensures range { IfOk result IsName }
+{
+    let (slot, rest) = cut(word, b'.');
+    let (life, rest) = cut(rest, b'.');
+    let (kind, serial) = cut(rest, b'.');
+    let slot = slot_of(slot)?;
+    let life = life_of(life)?;
+    let kind = kind_of(kind)?;
+    let serial = number_of(serial)?;
+    Ok(JobName {
+        slot,
+        life,
+        kind,
+        serial,
+    })
+}
+
+/// Whether a transaction may roll.
+#[tactic(auto, unfolding(crate::specs::LineReading::perm_of))]
+pub(crate) fn perm_of(word: &[u8]) -> Result<bool, BadLine>
+    ensures { Gives result (perm_of word.now) }
+{
+    if word == b"plain".as_slice() {
+        Ok(false)
+    } else if word == b"perm".as_slice() {
+        Ok(true)
+    } else {
+        Err(BadLine::Spelling)
+    }
+}
+
+/// The answer to a sync, if there was one.
+#[tactic(auto, unfolding(crate::specs::LineReading::sync_of))]
+pub(crate) fn sync_of(word: &[u8]) -> Result<Option<bool>, BadLine>
+    ensures { Gives result (sync_of word.now) }
+{
+    if word == b"ok".as_slice() {
+        Ok(Some(true))
+    } else if word == b"fail".as_slice() {
+        Ok(Some(false))
+    } else if word == b"none".as_slice() {
+        Ok(None)
+    } else {
+        Err(BadLine::Spelling)
+    }
+}
