@@ -18,3 +18,4 @@ pub mod OrderLemmas
 pub mod FitsLemmas
 pub mod RunLemmas
 pub mod OneLemmas
+pub mod MemoryLemmas
