@@ -21,3 +21,11 @@ mod RandomListsA
 mod RandomListsB
 mod RandomListsC
 mod RandomListsD
+pub mod NameLemmas
+pub mod TurnLemmas
+pub mod LifeLemmas
+pub mod OrderLemmas
+pub mod FitsLemmas
+pub mod RunLemmas
+pub mod OneLemmas
+pub mod MemoryLemmas

@@ -13,3 +13,5 @@ pub mod Jobs
 pub mod Alone
 pub mod Order
 pub mod Sound
+pub mod Turns
+pub mod Isolation

@@ -6,5 +6,6 @@ pub mod chunks;
 pub mod content;
 pub mod map;
 pub mod names;
+pub mod outcomes;
 pub mod set;
 pub mod steps;

@@ -1,0 +1,101 @@
+-- What a run of many slots told, and that each slot was told what it would have been told alone.
+use Rattle.std.specs.List.{slice_get}
+use Rattle.std.specs.Prelude.{Bool, List, None, Option, [], false, filter, if◌then◌else◌, length, map, replicate, slice_index_or, take, true, ℕ, ◌+◌, ◌<◌, ◌==◌, ◌∷◌, ◌≡◌, ◌≢◌, ◌⊎◌, ◌++◌, Some}
+use Rattle.xt_base.specs.Alone.{Said, alone_run, shut_after}
+use Rattle.xt_base.specs.Order.{Event, fits, orderly, orderly_for}
+use Rattle.xt_base.specs.Sound.{Each}
+use Rattle.xt_base.specs.Steps.{slot_of, strike}
+use Rattle.xt_base.specs.declared.steps.Errno.{Errno}
+use Rattle.xt_base.specs.declared.steps.Errno.TheVariants.{NoMemory}
+use Rattle.xt_base.specs.declared.steps.Reason.{Reason}
+use Rattle.xt_base.specs.declared.steps.Reply.{Reply}
+use Rattle.xt_base.specs.declared.steps.Reply.TheVariants.{Refused}
+use Rattle.xt_base.specs.declared.steps.Step.{Step}
+
+-- what a run told: its turns in order, and for each of sixteen slots why it is shut, and whether it was refused memory
+pub record Told : Type 0 where
+  pub turns : List Said
+  pub shut : List (Option Reason)
+  pub refused : List Bool
+
+-- a run of no step
+abbrev pub untold : Told
+untold = record { turns = []; shut = replicate 16 None; refused = replicate 16 false }
+
+-- the turns of a slot, in order
+abbrev pub turns_of : ℕ → List Said → List Said
+turns_of m turns = filter (λ t. t.slot == m) turns
+
+-- why a slot is shut, if it is
+abbrev pub shut_in : ℕ → Told → Option Reason
+shut_in m o = slice_index_or o.shut m None
+
+-- whether a slot was refused memory
+abbrev pub is_refused : ℕ → Told → Bool
+is_refused m o = slice_index_or o.refused m false
+
+-- whether an error is want of memory
+abbrev pub is_memory : Errno → Bool
+is_memory NoMemory = true
+is_memory other = false
+
+-- whether a reply is ENOMEM
+abbrev pub is_no_memory : Reply → Bool
+is_no_memory (Refused e) = is_memory e
+is_no_memory other = false
+
+-- a step with its reply; a step that was answered ENOMEM did not happen
+abbrev pub event_of : Step → Said → List Event
+event_of x t = if is_no_memory t.reply then [] else record { step = x; reply = t.reply } ∷ []
+
+-- the steps that happened, with the replies that were given
+abbrev pub events : List Step → List Said → List Event
+events [] turns = []
+events (x ∷ xs) [] = []
+events (x ∷ xs) (t ∷ ts) = event_of x t ++ events xs ts
+
+-- a slot was told what it would have been told alone, and is shut as it would be alone
+pub record IsAlone (m : ℕ) (steps : List Step) (o : Told) : Type 0 where
+  pub turns : turns_of m o.turns ≡ alone_run (strike steps m)
+  pub shut : shut_in m o ≡ shut_after (strike steps m)
+
+-- a run of these steps told this: a turn for each step; each slot that was not refused memory was told what it would have been told alone,
+-- and its steps were orderly for it; and the whole list is orderly where no slot was refused memory
+pub record Tells (steps : List Step) (o : Told) : Type 0 where
+  pub slots : map (λ t. t.slot) o.turns ≡ map slot_of steps
+  pub alone : (m : ℕ) → is_refused m o ≡ false → IsAlone m steps o
+  pub for_slot : (m : ℕ) → is_refused m o ≡ false → orderly_for m (events steps o.turns) ≡ true
+  pub whole : ((m : ℕ) → is_refused m o ≡ false) → orderly steps ≡ true
+
+-- the step at this place is the first that breaks order, after what was told before it
+pub record BreaksAt (at : ℕ) (steps : List Step) (before : Told) : Type 0 where
+  pub place : at < length steps
+  pub tells : Tells (take at steps) before
+  pub breaks : (x : Step) → slice_get steps at ≡ Some x → is_refused (slot_of x) before ≡ false → fits (events (take at steps) before.turns) x ≡ false
+  pub first : ((m : ℕ) → is_refused m before ≡ false) → orderly (take (at + 1) steps) ≡ false
+
+-- ---- lists of one slot
+-- the slot that the first step names, 0 where there is none
+abbrev pub first_slot : List Step → ℕ
+first_slot [] = 0
+first_slot (x ∷ xs) = slot_of x
+
+-- every step names the slot of the first
+abbrev pub IsOneSlot : List Step → Type 0
+IsOneSlot steps = Each (λ x. slot_of x ≡ first_slot steps) steps
+
+-- a run of steps of one slot told this
+pub record TellsOne (steps : List Step) (o : Told) : Type 0 where
+  pub tells : Tells steps o
+  pub one : IsOneSlot steps
+
+-- a step does not fit what came before it, so that the list up to it is not orderly
+pub record BreaksOrder (at : ℕ) (x : Step) (steps : List Step) (before : Told) : Type 0 where
+  pub unfit : fits (events (take at steps) before.turns) x ≡ false
+  pub disorder : orderly (take (at + 1) steps) ≡ false
+
+-- the step at this place is the first that names another slot than those before it, or that breaks order
+pub record BreaksOne (at : ℕ) (steps : List Step) (before : Told) : Type 0 where
+  pub place : at < length steps
+  pub tells : TellsOne (take at steps) before
+  pub breaks : (x : Step) → slice_get steps at ≡ Some x → (slot_of x ≢ first_slot steps) ⊎ (is_refused (slot_of x) before ≡ false → BreaksOrder at x steps before)
