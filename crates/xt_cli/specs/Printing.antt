@@ -1,5 +1,5 @@
 -- What is printed of the steps of a run.
-use Rattle.std.specs.Prelude.{ℕ, List, [], ◌∷◌, ◌++◌, flat_map}
+use Rattle.std.specs.Prelude.{ℕ, List, [], ◌∷◌, ◌++◌, ◌≡◌, ◌≤◌, Option, Some, length, unwrap_or, flat_map}
 use Rattle.xt_base.specs.Alone.{Said}
 use Rattle.xt_base.specs.declared.steps.HomeOffer.{HomeOffer}
 use Rattle.xt_base.specs.declared.steps.LogOffer.{LogOffer}
@@ -24,3 +24,11 @@ turn_text t = ended (slot_reply_text t.slot t.reply) ++ log_lines t.slot t.log +
 -- the lines of a run
 abbrev pub turns_text : List Said → List ℕ
 turns_text turns = flat_map turn_text turns
+
+-- what a buffer holds
+abbrev pub held : Option (List ℕ) → List ℕ
+held text = unwrap_or text []
+
+-- a buffer that holds a line, and has room for its newline
+abbrev pub FitsLine : Option (List ℕ) → Type 0
+FitsLine text = (text ≡ Some (held text)) × (length (held text) ≤ 8400)

@@ -1,6 +1,8 @@
 //! The program `xth`.
 #![tactic(auto)]
 
+mod printing;
+
 use std::io;
 
 fn main(rt: HostRuntime) -> io::Result<()> {

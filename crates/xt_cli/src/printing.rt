@@ -1,8 +1,8 @@
 //! What steps said, printed.
 
-ghost use Rattle.std.specs.Prelude.{OnOk};
+ghost use Rattle.std.specs.Prelude.{◌<◌, ◌+◌, ◌++◌, ◌∷◌, [], OnOk, codes, decimal};
 ghost use Rattle.std.specs.Io.KnownBytes.{Appends};
-ghost use Rattle.xt_cli.specs.Printing.{turn_text, turns_text, log_lines, home_lines};
+ghost use Rattle.xt_cli.specs.Printing.{turn_text, turns_text, log_lines, home_lines, ended, held, FitsLine};
 
 use std::alloc::Global;
 use std::io::{self, Write};
@@ -59,12 +59,18 @@ fn print_home<W: Write>(writer: &mut W, text: &mut Text, slot: Slot, offers: &[H
 }
 
 /// Prints what the buffer holds, and a newline.
-fn print_line<W: Write>(writer: &mut W, text: &mut Text) -> io::Result<()> {
+fn print_line<W: Write>(writer: &mut W, text: &mut Text) -> io::Result<()>
+    requires { FitsLine text.old }
+    ensures { OnOk result (Appends (W.contents writer.old) (W.contents writer.new) (ended (held text.old))) }
+{
     text.put(b"\n");
     writer.write_all(text.bytes())
 }
 
 /// Prints which step broke order, counted from 1.
-pub fn print_disorder<W: Write>(writer: &mut W, at: usize) -> io::Result<()> {
+pub fn print_disorder<W: Write>(writer: &mut W, at: usize) -> io::Result<()>
+    requires { at < 18446744073709551615 }
+    ensures { OnOk result (Appends (W.contents writer.old) (W.contents writer.new) (codes "disorder " ++ decimal (at + 1) ++ 10 ∷ [])) }
+{
     writeln!(writer, "disorder {}", at + 1)
 }
