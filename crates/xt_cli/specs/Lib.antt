@@ -1,1 +1,2 @@
+mod Script
 pub mod Printing

@@ -1,5 +1,5 @@
 -- What is printed of the steps of a run.
-use Rattle.std.specs.Prelude.{ℕ, List, [], ◌∷◌, ◌++◌, ◌≡◌, ◌≤◌, Option, Some, length, unwrap_or, flat_map}
+use Rattle.std.specs.Prelude.{ℕ, List, [], ◌∷◌, ◌++◌, ◌+◌, ◌≡◌, ◌≤◌, Option, Some, length, unwrap_or, flat_map, codes, decimal}
 use Rattle.xt_base.specs.Alone.{Said}
 use Rattle.xt_base.specs.declared.steps.HomeOffer.{HomeOffer}
 use Rattle.xt_base.specs.declared.steps.LogOffer.{LogOffer}
@@ -32,3 +32,7 @@ held text = unwrap_or text []
 -- a buffer that holds a line, and has room for its newline
 abbrev pub FitsLine : Option (List ℕ) → Type 0
 FitsLine text = (text ≡ Some (held text)) × (length (held text) ≤ 8400)
+
+-- which step broke order, counted from 1
+abbrev pub disorder_text : ℕ → List ℕ
+disorder_text at = codes "disorder " ++ decimal (at + 1) ++ 10 ∷ []

@@ -1,6 +1,8 @@
 //! The program `xth`.
 #![tactic(auto)]
 
+mod fault;
+mod lines;
 mod printing;
 
 use std::io;

@@ -2,7 +2,7 @@
 
 ghost use Rattle.std.specs.Prelude.{◌<◌, ◌+◌, ◌++◌, ◌∷◌, [], OnOk, codes, decimal};
 ghost use Rattle.std.specs.Io.KnownBytes.{Appends};
-ghost use Rattle.xt_cli.specs.Printing.{turn_text, turns_text, log_lines, home_lines, ended, held, FitsLine};
+ghost use Rattle.xt_cli.specs.Printing.{turn_text, turns_text, disorder_text, log_lines, home_lines, ended, held, FitsLine};
 
 use std::alloc::Global;
 use std::io::{self, Write};
@@ -70,7 +70,7 @@ fn print_line<W: Write>(writer: &mut W, text: &mut Text) -> io::Result<()>
 /// Prints which step broke order, counted from 1.
 pub fn print_disorder<W: Write>(writer: &mut W, at: usize) -> io::Result<()>
     requires { at < 18446744073709551615 }
-    ensures { OnOk result (Appends (W.contents writer.old) (W.contents writer.new) (codes "disorder " ++ decimal (at + 1) ++ 10 ∷ [])) }
+    ensures { OnOk result (Appends (W.contents writer.old) (W.contents writer.new) (disorder_text at)) }
 {
     writeln!(writer, "disorder {}", at + 1)
 }
