@@ -10,6 +10,7 @@ use Rattle.xt_base.specs.Jobs.{begin, end, end_of, end_offers, flight_pieces, fl
 use Rattle.xt_base.specs.Legs.{aborted, ended, is_dirty, own_count}
 use Rattle.xt_base.specs.Maps.{at, is_in}
 use Rattle.xt_base.specs.Order.{is_among, mount_is, same_name}
+use Rattle.xt_base.specs.Own.{AreShort, IsOwnIn, IsOwnOf}
 use Rattle.xt_base.specs.Settle.{Dropped, settled}
 use Rattle.xt_base.specs.Sound.{Each}
 use Rattle.xt_base.specs.State.{Flight, Leg, Lone, State, Transaction, mount_of}
@@ -36,11 +37,7 @@ use Rattle.xt_base.specs.declared.steps.Answer.TheVariants as Answer
 use Rattle.xt_base.specs.declared.steps.Request.TheVariants as Request
 
 -- ---- calls and job steps of a mount
--- pieces of at most 4,096 bytes each
-abbrev pub AreShort : List (List ℕ) → Type 0
-AreShort ps = Each (λ p. length p ≤ 4096) ps
-
--- the pieces of a text are
+-- the pieces of a text are of at most 4,096 bytes each
 pub short_pieces : (n : ℕ) (text : List ℕ) → AreShort (first_pieces n text)
 short_pieces zero text = tt
 short_pieces (suc n) text = (simp length-take (omega arith), short_pieces n (drop 4096 text))
@@ -213,14 +210,6 @@ module _ (s : State) where
   same_flush dropped answers = same_flush_of dropped answers (flush_plan s)
 
 -- ---- any step of a slot
--- the mount is of this slot, and of its last life, and the pieces in flight are short
-abbrev pub IsOwnIn : ℕ → ℕ → Option State → Type 0
-IsOwnIn slot last o = IfSome o (λ m. (m.slot ≡ slot) × (m.life ≡ last) × AreShort (flight_pieces m.items.flight))
-
--- the same of a slot's state
-abbrev pub IsOwnOf : ℕ → Lone → Type 0
-IsOwnOf slot s = IsOwnIn slot s.last_life s.mounted
-
 -- a name of an earlier life, or of a serial that was given
 abbrev pub IsGivenIn : ℕ → Option State → JobName → Type 0
 IsGivenIn last None n = n.life ≤ last

@@ -5,12 +5,12 @@ use Rattle.std.proofs.lemmas.List.{get_or-set_other, take_more}
 use Rattle.std.proofs.lemmas.Option.{get_or_from_slice_get}
 use Rattle.std.specs.List.{slice_get}
 use Rattle.std.specs.Prelude.{slice_index_or, if◌then◌else◌, ◌&&◌, ◌==◌}
-use Rattle.xt_base.proofs.LifeLemmas.{IsOwnOf}
 use Rattle.xt_base.proofs.RisingLemmas.{each_map}
-use Rattle.xt_base.proofs.RunLemmas.{IsAfter, IsBelow, after_none, after_refused, after_taken, after_tells, breaks_fits, breaks_whole, by_slot, each_append, told_refused, told_taken}
+use Rattle.xt_base.proofs.RunLemmas.{IsAfter, IsBelow, after_none, after_refused, after_taken, after_tells, breaks_fits, breaks_whole, by_slot, each_append}
 use Rattle.xt_base.specs.Alone.{Said, alone, reason_of, said_of}
-use Rattle.xt_base.specs.Isolation.{BreaksOne, BreaksOrder, IsOneSlot, TellsOne, Told, events, first_slot, is_no_memory, is_refused, untold}
+use Rattle.xt_base.specs.Isolation.{BreaksOne, BreaksOrder, IsOneSlot, TellsOne, Told, events, first_slot, is_no_memory, is_refused, told_refused, told_taken, untold}
 use Rattle.xt_base.specs.Order.{Event, fits, orderly}
+use Rattle.xt_base.specs.Own.{IsOwnOf}
 use Rattle.xt_base.specs.Sound.{Each}
 use Rattle.xt_base.specs.State.{Lone, empty}
 use Rattle.xt_base.specs.Steps.{slot_of}

@@ -6,13 +6,14 @@ use Rattle.std.proofs.lemmas.List.Elements.{filter_map-append}
 use Rattle.std.specs.Prelude.{filter_map, if◌then◌else◌, option_to_list, slice_index_or, slice_set, ◌&&◌, ◌==◌}
 use Rattle.std.specs.List.{cons_option}
 use Rattle.xt_base.proofs.FitsLemmas.{common_step, fits_is}
-use Rattle.xt_base.proofs.LifeLemmas.{IsGiven, IsLater, IsOwnOf, given_once_posted, later_step}
+use Rattle.xt_base.proofs.LifeLemmas.{IsGiven, IsLater, given_once_posted, later_step}
 use Rattle.xt_base.proofs.OrderLemmas.{after_more, alone_more, events_more, of_slot_other, of_slot_own, orderly_for_more, orderly_more, strike_other, strike_own, told_more, turns_other, turns_own}
 use Rattle.xt_base.proofs.RisingLemmas.{each_map}
 use Rattle.xt_base.proofs.TurnLemmas.{IsTurn, one_more, turn_hands, turn_none, turn_step}
 use Rattle.xt_base.specs.Alone.{Said, after, alone, alone_run, reason_of, said_of, shut_after}
-use Rattle.xt_base.specs.Isolation.{IsAlone, Tells, Told, event_of, events, is_no_memory, is_refused, shut_in, turns_of, untold}
+use Rattle.xt_base.specs.Isolation.{IsAlone, Tells, Told, event_of, events, is_no_memory, is_refused, shut_in, told_refused, told_taken, turns_of, untold}
 use Rattle.xt_base.specs.Order.{Event, fits, fits_for, has_in_hand, keeps_common, keeps_own, of_slot, orderly, orderly_for, orderly_from, post_of, posted, state_of, steps_of, suits, told, told_from}
+use Rattle.xt_base.specs.Own.{IsOwnOf}
 use Rattle.xt_base.specs.Sound.{Each}
 use Rattle.xt_base.specs.State.{Lone, empty}
 use Rattle.xt_base.specs.Steps.{slot_of, strike}
@@ -90,14 +91,6 @@ after_tells done h o queue hand lone a = record {
 }
 
 -- ---- one more step
--- what was told with one more turn, and why its slot is shut then
-abbrev pub told_taken : Told → Said → Option Reason → Told
-told_taken o t reason = record o { turns = o.turns ++ t ∷ []; shut = slice_set o.shut t.slot reason }
-
--- the same where the step was refused memory
-abbrev pub told_refused : Told → Said → Option Reason → Told
-told_refused o t reason = record o { turns = o.turns ++ t ∷ []; shut = slice_set o.shut t.slot reason; refused = slice_set o.refused t.slot true }
-
 and_false : (b : Bool) → (b && false) ≡ false
 and_false true = refl
 and_false false = refl
