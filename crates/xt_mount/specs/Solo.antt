@@ -1,5 +1,5 @@
 -- One slot and its workers: the state of the slot, the hands, and what a step makes of them.
-use Rattle.std.specs.Prelude.{Bool, List, MatchBool, None, Option, [], false, if◌then◌else◌, slice_index_or, true, ℕ, ◌++◌, ◌∷◌, ◌≡◌}
+use Rattle.std.specs.Prelude.{Bool, List, MatchBool, None, Option, [], false, if◌then◌else◌, slice_index_or, true, ℕ, ◌<◌, ◌≡◌}
 use Rattle.xt_base.specs.Alone.{Said, Turn, alone, reason_of, said_of}
 use Rattle.xt_base.specs.Isolation.{BreaksOne, Told, is_no_memory, told_then}
 use Rattle.xt_base.specs.Jobs.{is_ckpt}
@@ -83,7 +83,7 @@ IsStepped x t new old = MatchBool (is_no_memory t.reply) (IsRefused x t new old)
 
 -- a step was taken or refused memory, and its turn was told
 abbrev pub IsMore : Step → Solo → Solo → Told → Told → Type 0
-IsMore x new old told_new told_old = (t : Said) × IsStepped x t new old × (told_new ≡ told_then told_old t (reason_of new.mount))
+IsMore x new old told_new told_old = (t : Said) × (IsStepped x t new old × (told_new ≡ told_then told_old t (reason_of new.mount)) × (t.slot < 16))
 
 -- why a run of steps of one slot stopped: at a step that breaks order, or for want of memory
 abbrev pub IsFaultOne : List Step → RunFault → Type 0

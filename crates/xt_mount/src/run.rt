@@ -1,6 +1,6 @@
 //! The run of one slot over a list of steps.
 
-ghost use Rattle.std.specs.Prelude.{◌≡◌, ◌==◌, true, IfOk, IfErr, OnOk};
+ghost use Rattle.std.specs.Prelude.{◌≡◌, ◌<◌, true, IfOk, IfErr, OnOk};
 ghost use Rattle.std.specs.List.{list_all};
 ghost use Rattle.xt_base.specs.Alone.{reason_of};
 ghost use Rattle.xt_base.specs.Isolation.{told_then, TellsOne};
@@ -41,7 +41,8 @@ pub fn has_come(step: &Step) -> bool
 
 /// Notes a turn, and why its slot is shut then. The one error is want of memory.
 fn note(outcomes: &mut Outcomes, turn: Turn, reason: Option<Reason>) -> Result<(), AllocError>
-    ensures { OnOk result (outcomes.new ≡ told_then outcomes.old turn reason) }
+    ensures told { OnOk result (outcomes.new ≡ told_then outcomes.old turn reason) }
+    ensures range { OnOk result (turn.slot < 16) }
 {
     let slot = turn.slot;
     let refused = is_no_memory(&turn.reply);
@@ -83,9 +84,9 @@ pub fn run_one(alloc: Global, steps: &[Step]) -> Result<Outcomes, RunFault>
         if !solo.can_take(step) {
             return Err(RunFault::Disorder { at, before: outcomes });
         }
-        if advance(&mut solo, &mut outcomes, step).is_err() {
+        let Ok(()) = advance(&mut solo, &mut outcomes, step) else {
             return Err(RunFault::Memory);
-        }
+        };
     }
     Ok(outcomes)
 }

@@ -243,8 +243,18 @@ impl Solo {
         ensures { result ≡ suits step.now (lone_of self.now) }
     {
         match step {
-            Step::Call { life, request, answer, .. } => {
-                if self.asks(*life, request) { is_answer(answer) } else { !is_answer(answer) }
+            Step::Call {
+                life,
+                request,
+                answer,
+                ..
+            } => {
+                let asked = self.asks(*life, request);
+                if asked {
+                    is_answer(answer)
+                } else {
+                    !is_answer(answer)
+                }
             }
             Step::Post(name) => self.is_owed(name),
             Step::Begin { name, .. } => is_ckpt(name.kind) && self.is_waiting(name),
@@ -431,11 +441,22 @@ impl Solo {
     {
         let offers = self.offers(step)?;
         let reply = self.serve(step);
-        let refused = is_no_memory(&reply);
-        if !refused {
-            self.pass_on(step, &reply);
+        if is_no_memory(&reply) {
+            return Ok(self.turn(reply, Vec::new(self.alloc)));
         }
-        let log = if refused { Vec::new(self.alloc) } else { offers };
-        Ok(Turn { slot: self.slot, reply, log, home: Vec::new(self.alloc) })
+        self.pass_on(step, &reply);
+        Ok(self.turn(reply, offers))
+    }
+
+    /// A turn of this slot that offered nothing to the home device.
+    fn turn(&self, reply: Reply, log: Vec<LogOffer>) -> Turn
+        ensures { result ≡ record { slot = self.now.slot; reply = reply; log = log.items; home = [] } }
+    {
+        Turn {
+            slot: self.slot,
+            reply,
+            log,
+            home: Vec::new(self.alloc),
+        }
     }
 }
