@@ -1,9 +1,8 @@
 -- Over any step of a slot its life does not fall, and within a life the last serial does not: so a name that was given stays given.
-use Rattle.std.proofs.Common.{drop, length-take, suc, zero, ◌≡◌, ◌∙◌, ◌⊎◌, ◌+◌, ◌<◌, ◌≤◌, ◌∷◌, Bool, List, None, Option, Some, [], ap, arith, false, inl, length, inr, refl, subst, sym, true, ℕ}
+use Rattle.std.proofs.Common.{drop, length-take, suc, zero, ◌≡◌, ◌∙◌, ◌⊎◌, ◌+◌, ◌<◌, ◌≤◌, ◌∷◌, Bool, List, None, Option, Some, [], ap, arith, false, inl, length, inr, refl, sym, true, ℕ}
 use Rattle.std.proofs.lemmas.Bool.{and_parts, cases_Bool, eqb-true, false_from_ne_true, false≢true}
-use Rattle.std.specs.Prelude.{IfSome, if◌then◌else◌, is_some, nat_lt, not, ◌&&◌, ◌-◌, ◌==◌, ◌||◌}
+use Rattle.std.specs.Prelude.{if◌then◌else◌, is_some, nat_lt, not, ◌&&◌, ◌-◌, ◌==◌, ◌||◌}
 use Rattle.xt_base.proofs.NameLemmas.{AreAlike, alike}
-use Rattle.xt_base.proofs.RisingLemmas.{each_map}
 use Rattle.xt_base.specs.Alone.{Turn, alone, call, called, goes_on, is_okay, mount, mount_refusals, mounted_new, on_mount, shown, step_with, turn, unless_refused, with_mount}
 use Rattle.xt_base.specs.Calls.{Outcome, alloc, alloc_refusals, alone_with, answered, asks_ckpt, asks_flush, brought, cancel, closed, commit, commit_number, first_of, force, force_to, force_to_refusals, get, get_refusals, gives, held_of, hold, inval, inval_refusals, io_of, is_absent, is_flight, is_no_room, is_unmount, join, join_refusals, legs_after, locked, log, log_refusals, push, read, read_refusals, release, released, roll, shut_down, shut_if, unhold, unless, unmount, unowned, view, waits_for, with_leg, with_legs, with_owner, with_trans, without_hold}
 use Rattle.xt_base.specs.Jobs.{begin, end, end_of, end_offers, flight_pieces, flush, flush_of, flush_offers, flush_plan, is_owed, is_owed_as, posted}
@@ -13,7 +12,7 @@ use Rattle.xt_base.specs.Order.{is_among, mount_is, same_name}
 use Rattle.xt_base.specs.Own.{AreShort, IsOwnIn, IsOwnOf}
 use Rattle.xt_base.specs.Settle.{Dropped, settled}
 use Rattle.xt_base.specs.Sound.{Each}
-use Rattle.xt_base.specs.State.{Flight, Leg, Lone, State, Transaction, mount_of}
+use Rattle.xt_base.specs.State.{Flight, Leg, Lone, State, Transaction}
 use Rattle.xt_base.specs.Steps.{slot_of}
 use Rattle.xt_base.specs.Text.{first_pieces, piece_count, text_of}
 use Rattle.xt_base.specs.declared.names.JobKind.{JobKind}
@@ -32,9 +31,6 @@ use Rattle.xt_base.specs.declared.steps.Reply.TheVariants.{Committed, Done, Free
 use Rattle.xt_base.specs.declared.steps.Request.{Request}
 use Rattle.xt_base.specs.declared.steps.Step.{Step}
 use Rattle.xt_base.specs.declared.steps.Step.TheVariants.{Begin, Call, End, Flush, Mount, Peek, Post, Show, Take}
-use Rattle.xt_base.specs.declared.names.JobKind.TheVariants as JobKind
-use Rattle.xt_base.specs.declared.steps.Answer.TheVariants as Answer
-use Rattle.xt_base.specs.declared.steps.Request.TheVariants as Request
 
 -- ---- calls and job steps of a mount
 -- the pieces of a text are of at most 4,096 bytes each
@@ -307,8 +303,8 @@ not_given last (Some m) n p given owed =
     let life : n.life ≡ m.life = eqb-true n.life m.life number.0 in
     let serial : n.serial ≡ m.jobs.last_serial + 1 = eqb-true n.serial (m.jobs.last_serial + 1) number.1 in
     false_from_ne_true (same_name n p) (λ one.
-      let e : AreAlike n p = alike n p one in
-      elim given [ inl old ↦ omega (arith, old, life, e.life) | inr now ↦ omega (arith, now.1, serial, e.serial) ])
+    let e : AreAlike n p = alike n p one in
+    elim given [ inl old ↦ omega (arith, old, life, e.life) | inr now ↦ omega (arith, now.1, serial, e.serial) ])
 
 -- a name that is owed is not among names of its slot that were given
 pub fresh : (s : Lone) (n : JobName) (names : List JobName) → Each (λ p. p.slot ≡ n.slot → IsGiven s p) names → mount_is (is_owed_as n) s.mounted ≡ true → is_among names n ≡ false

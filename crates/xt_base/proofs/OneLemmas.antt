@@ -1,9 +1,8 @@
 -- A run of steps of one slot.
-use Rattle.std.proofs.Common.{◌≡◌, ◌≢◌, ◌∙◌, ◌⊎◌, ◌+◌, ◌<◌, ◌++◌, ◌∷◌, Bool, List, None, Option, Some, [], ap, false, get_or, inl, inr, length, refl, replicate, subst, suc, sym, take, true, zero, ℕ}
-use Rattle.std.proofs.lemmas.Bool.{and_cases, cases_eq, eq-eqb, false≢true, ne_eqb}
+use Rattle.std.proofs.Common.{◌≡◌, ◌≢◌, ◌∙◌, ◌⊎◌, ◌<◌, ◌++◌, ◌∷◌, List, None, Option, [], ap, false, get_or, inl, inr, length, refl, replicate, subst, suc, sym, take, true, zero, ℕ}
+use Rattle.std.proofs.lemmas.Bool.{cases_eq, eq-eqb, ne_eqb}
 use Rattle.std.proofs.lemmas.List.{get_or-set_other, take_more}
 use Rattle.std.proofs.lemmas.Option.{get_or_from_slice_get}
-use Rattle.std.specs.List.{slice_get}
 use Rattle.std.specs.Prelude.{slice_index_or, if◌then◌else◌, ◌&&◌, ◌==◌}
 use Rattle.xt_base.proofs.RisingLemmas.{each_map}
 use Rattle.xt_base.proofs.RunLemmas.{IsAfter, IsBelow, after_none, after_refused, after_taken, after_tells, breaks_fits, breaks_whole, by_slot, each_append}

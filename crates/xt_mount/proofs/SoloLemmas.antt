@@ -6,15 +6,14 @@ use Rattle.std.proofs.lemmas.List.Folds.{list_all_at}
 use Rattle.std.specs.List.{list_all}
 use Rattle.std.specs.Prelude.{MatchBool, slice_index_or, if◌then◌else◌, ◌&&◌, ◌==◌}
 use Rattle.xt_base.proofs.OneLemmas.{IsOneRun, one_breaks, one_moved, one_none, one_own, one_refused, one_taken, one_tells}
-use Rattle.xt_base.specs.Alone.{Said, Turn, alone, call, mount, mount_refusals, on_mount, reason_of, said_of, unless_refused}
+use Rattle.xt_base.specs.Alone.{Said, Turn, alone, call, mount_refusals, on_mount, reason_of, unless_refused}
 use Rattle.xt_base.specs.Calls.{first_of}
 use Rattle.xt_base.specs.Isolation.{BreaksOne, TellsOne, Told, first_slot, is_no_memory, told_refused, told_taken, untold}
 use Rattle.xt_base.specs.Order.{suits}
 use Rattle.xt_base.specs.Own.{IsOwnOf}
 use Rattle.xt_base.specs.State.{Lone, State, empty}
 use Rattle.xt_base.specs.Steps.{slot_of}
-use Rattle.xt_base.specs.Turns.{can_step, hand_after, keeps_turn, queue_after}
-use Rattle.xt_base.specs.declared.names.JobName.{JobName}
+use Rattle.xt_base.specs.Turns.{can_step, hand_after, keeps_turn}
 use Rattle.xt_base.specs.declared.steps.Answer.{Answer}
 use Rattle.xt_base.specs.declared.steps.Errno.{Errno}
 use Rattle.xt_base.specs.declared.steps.HomeOffer.{HomeOffer}
@@ -95,8 +94,8 @@ taken_step x r log mid new old here came went served hands passed offered =
     let s : IsServed x r mid old = by_false (is_no_memory r) (IsKept mid old) (IsServed x r mid old) went served in
     let place : new.slot ≡ old.slot = ap (λ (u : Solo). u.slot) passed ∙ s.slot in
     let told : said new.slot r log [] ≡ said (slot_of x) (alone x (lone_of old)).reply (alone x (lone_of old)).log (alone x (lone_of old)).home =
-        ap (λ n. said n r log []) (place ∙ sym here) ∙ ap (λ q. said (slot_of x) q log []) s.reply ∙ ap (λ l. said (slot_of x) (alone x (lone_of old)).reply l []) offered
-        ∙ ap (said (slot_of x) (alone x (lone_of old)).reply (alone x (lone_of old)).log) (sym (home_none x (lone_of old) came)) in
+    ap (λ n. said n r log []) (place ∙ sym here) ∙ ap (λ q. said (slot_of x) q log []) s.reply ∙ ap (λ l. said (slot_of x) (alone x (lone_of old)).reply l []) offered
+    ∙ ap (said (slot_of x) (alone x (lone_of old)).reply (alone x (lone_of old)).log) (sym (home_none x (lone_of old) came)) in
     let taken : IsTaken x t new old = record {
       slot = place;
       said = told;

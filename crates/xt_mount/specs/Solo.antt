@@ -1,5 +1,5 @@
 -- One slot and its workers: the state of the slot, the hands, and what a step makes of them.
-use Rattle.std.specs.Prelude.{Bool, List, MatchBool, None, Option, [], false, if◌then◌else◌, slice_index_or, true, ℕ, ◌<◌, ◌≡◌}
+use Rattle.std.specs.Prelude.{Bool, List, MatchBool, None, Option, [], false, slice_index_or, true, ℕ, ◌<◌, ◌≡◌}
 use Rattle.xt_base.specs.Alone.{Said, Turn, alone, reason_of, said_of}
 use Rattle.xt_base.specs.Isolation.{BreaksOne, Told, is_no_memory, told_then}
 use Rattle.xt_base.specs.Jobs.{is_ckpt}

@@ -82,7 +82,10 @@ pub fn run_one(alloc: Global, steps: &[Step]) -> Result<Outcomes, RunFault>
     let mut solo = Solo::new(alloc, slot_named(first));
     for (at, step) in steps.iter().enumerate() {
         if !solo.can_take(step) {
-            return Err(RunFault::Disorder { at, before: outcomes });
+            return Err(RunFault::Disorder {
+                at,
+                before: outcomes,
+            });
         }
         let Ok(()) = advance(&mut solo, &mut outcomes, step) else {
             return Err(RunFault::Memory);

@@ -107,7 +107,11 @@ fn fits_pieces(answers: &LogAnswers, pieces: usize) -> bool
     ensures { result ≡ fits_pieces answers.now pieces }
 {
     let taken = answers.taken as usize;
-    if answers.sync.is_some() { taken == pieces } else { taken < pieces }
+    if answers.sync.is_some() {
+        taken == pieces
+    } else {
+        taken < pieces
+    }
 }
 
 /// Puts a name behind the others. The one error is want of memory, and then nothing changes.
@@ -382,8 +386,17 @@ impl Solo {
         ensures { IsServedUnlessMemory step.now result self.new self.old }
     {
         match step {
-            Step::Mount { log_bytes, blocks, .. } => self.mount(*log_bytes, *blocks),
-            Step::Call { life, request, answer, .. } => self.call(*life, request, answer),
+            Step::Mount {
+                log_bytes,
+                blocks,
+                ..
+            } => self.mount(*log_bytes, *blocks),
+            Step::Call {
+                life,
+                request,
+                answer,
+                ..
+            } => self.call(*life, request, answer),
             Step::Post(name) => self.post(name),
             Step::Take { .. } => {
                 self.queue.pop_front();
@@ -396,7 +409,10 @@ impl Solo {
                 self.show();
                 Reply::Okay
             }
-            Step::Peek(_) => Reply::Seen { life: self.seen_life, reason: self.seen_reason },
+            Step::Peek(_) => Reply::Seen {
+                life: self.seen_life,
+                reason: self.seen_reason,
+            },
         }
     }
 
@@ -425,7 +441,11 @@ impl Solo {
         ensures { IfOk result (λ offers. offers.items ≡ (alone step.now (lone_of self.now)).log) }
     {
         match (step, &self.mount) {
-            (Step::End { answers, .. }, Some(mount)) => log_offers(self.alloc, answers, mount.pieces()),
+            (Step::End { answers, .. }, Some(mount)) => log_offers(
+                self.alloc,
+                answers,
+                mount.pieces(),
+            ),
             _ => Ok(Vec::new(self.alloc)),
         }
     }
