@@ -1,14 +1,14 @@
 -- Whether a step fits a history is what the queue, the hands and its slot's state say.
-use Rattle.std.proofs.Common.{◌≡◌, ◌∙◌, ◌⊎◌, ◌++◌, ◌∷◌, Bool, List, None, Option, Some, [], ap, cond, false, inl, inr, refl, sym, true, ℕ}
-use Rattle.std.proofs.lemmas.Bool.{and_parts, cases_Bool, eq-eqb, eqb-true, false_from_ne_true, false≢true, not-true, or_parts}
+use Rattle.std.proofs.Common.{◌≡◌, ◌∙◌, ◌++◌, ◌∷◌, Bool, List, None, Option, Some, [], ap, cond, false, inl, inr, refl, sym, true, ℕ}
+use Rattle.std.proofs.lemmas.Bool.{and_parts, cases_Bool, eq-eqb, false_from_ne_true, false≢true, not-true, or_parts}
 use Rattle.std.proofs.lemmas.List.Elements.{filter-append}
 use Rattle.std.specs.List.{cons_option}
 use Rattle.std.specs.Prelude.{IfSome, filter, filter_map, if◌then◌else◌, is_none, not, option_to_list, ◌&&◌, ◌==◌, ◌||◌}
 use Rattle.xt_base.proofs.LifeLemmas.{IsGiven, fresh}
-use Rattle.xt_base.proofs.NameLemmas.{AreAlike, alike, filter_rest, is_distinct, same_names}
+use Rattle.xt_base.proofs.NameLemmas.{AreAlike, alike, filter_rest, is_distinct}
 use Rattle.xt_base.proofs.RisingLemmas.{filter_drop, filter_pass}
 use Rattle.xt_base.proofs.TurnLemmas.{IsTurn, unfinished_is, waiting_is}
-use Rattle.xt_base.specs.Order.{Event, finish_by, finished_by, fits, has_in_hand, is_among, is_first, is_none_left, is_nothing, keeps_common, keeps_own, mount_is, of_slot, posted, same_name, state_of, suits, take_by, taken_by, unfinished}
+use Rattle.xt_base.specs.Order.{Event, finish_by, finished_by, fits, is_among, is_first, is_none_left, is_nothing, keeps_common, of_slot, posted, same_name, state_of, suits, take_by, taken_by, unfinished}
 use Rattle.xt_base.specs.Sound.{Each}
 use Rattle.xt_base.specs.State.{Lone}
 use Rattle.xt_base.specs.Steps.{slot_of}
@@ -83,9 +83,9 @@ distinct_filter p (x ∷ xs) d =
 pub unfinished_of_slot : (h : List Event) (queue : List JobName) (hand : ℕ → Option JobName) (w m : ℕ) → IsTurn h queue hand → unfinished w (of_slot m h) ≡ filter (in_slot m) (held_in hand w)
 unfinished_of_slot h queue hand w m t =
     let names : taken_by w (of_slot m h) ≡ filter (in_slot m) (finished_by w h) ++ filter (in_slot m) (held_in hand w) =
-        taken_of_slot w m h ∙ ap (filter (in_slot m)) (t.takes w) ∙ filter-append (in_slot m) (finished_by w h) (held_in hand w) in
+    taken_of_slot w m h ∙ ap (filter (in_slot m)) (t.takes w) ∙ filter-append (in_slot m) (finished_by w h) (held_in hand w) in
     let once : is_distinct (filter (in_slot m) (finished_by w h) ++ filter (in_slot m) (held_in hand w)) ≡ true =
-        ap is_distinct (sym names) ∙ ap is_distinct (taken_of_slot w m h) ∙ distinct_filter (in_slot m) (taken_by w h) (t.once w) in
+    ap is_distinct (sym names) ∙ ap is_distinct (taken_of_slot w m h) ∙ distinct_filter (in_slot m) (taken_by w h) (t.once w) in
     ap (λ done. filter (λ n. not (is_among done n)) (taken_by w (of_slot m h))) (finished_of_slot w m h)
     ∙ ap (filter (λ n. not (is_among (filter (in_slot m) (finished_by w h)) n))) names
     ∙ filter_rest (filter (in_slot m) (finished_by w h)) (filter (in_slot m) (held_in hand w)) once

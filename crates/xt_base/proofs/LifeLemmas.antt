@@ -1,18 +1,18 @@
 -- Over any step of a slot its life does not fall, and within a life the last serial does not: so a name that was given stays given.
-use Rattle.std.proofs.Common.{drop, length-take, suc, zero, ◌≡◌, ◌∙◌, ◌⊎◌, ◌+◌, ◌<◌, ◌≤◌, ◌∷◌, Bool, List, None, Option, Some, [], ap, arith, false, inl, length, inr, refl, subst, sym, true, ℕ}
+use Rattle.std.proofs.Common.{drop, length-take, suc, zero, ◌≡◌, ◌∙◌, ◌⊎◌, ◌+◌, ◌<◌, ◌≤◌, ◌∷◌, Bool, List, None, Option, Some, [], ap, arith, false, inl, length, inr, refl, sym, true, ℕ}
 use Rattle.std.proofs.lemmas.Bool.{and_parts, cases_Bool, eqb-true, false_from_ne_true, false≢true}
-use Rattle.std.specs.Prelude.{IfSome, if◌then◌else◌, is_some, nat_lt, not, ◌&&◌, ◌-◌, ◌==◌, ◌||◌}
+use Rattle.std.specs.Prelude.{if◌then◌else◌, is_some, nat_lt, not, ◌&&◌, ◌-◌, ◌==◌, ◌||◌}
 use Rattle.xt_base.proofs.NameLemmas.{AreAlike, alike}
-use Rattle.xt_base.proofs.RisingLemmas.{each_map}
 use Rattle.xt_base.specs.Alone.{Turn, alone, call, called, goes_on, is_okay, mount, mount_refusals, mounted_new, on_mount, shown, step_with, turn, unless_refused, with_mount}
 use Rattle.xt_base.specs.Calls.{Outcome, alloc, alloc_refusals, alone_with, answered, asks_ckpt, asks_flush, brought, cancel, closed, commit, commit_number, first_of, force, force_to, force_to_refusals, get, get_refusals, gives, held_of, hold, inval, inval_refusals, io_of, is_absent, is_flight, is_no_room, is_unmount, join, join_refusals, legs_after, locked, log, log_refusals, push, read, read_refusals, release, released, roll, shut_down, shut_if, unhold, unless, unmount, unowned, view, waits_for, with_leg, with_legs, with_owner, with_trans, without_hold}
 use Rattle.xt_base.specs.Jobs.{begin, end, end_of, end_offers, flight_pieces, flush, flush_of, flush_offers, flush_plan, is_owed, is_owed_as, posted}
 use Rattle.xt_base.specs.Legs.{aborted, ended, is_dirty, own_count}
 use Rattle.xt_base.specs.Maps.{at, is_in}
 use Rattle.xt_base.specs.Order.{is_among, mount_is, same_name}
+use Rattle.xt_base.specs.Own.{AreShort, IsOwnIn, IsOwnOf}
 use Rattle.xt_base.specs.Settle.{Dropped, settled}
 use Rattle.xt_base.specs.Sound.{Each}
-use Rattle.xt_base.specs.State.{Flight, Leg, Lone, State, Transaction, mount_of}
+use Rattle.xt_base.specs.State.{Flight, Leg, Lone, State, Transaction}
 use Rattle.xt_base.specs.Steps.{slot_of}
 use Rattle.xt_base.specs.Text.{first_pieces, piece_count, text_of}
 use Rattle.xt_base.specs.declared.names.JobKind.{JobKind}
@@ -31,16 +31,9 @@ use Rattle.xt_base.specs.declared.steps.Reply.TheVariants.{Committed, Done, Free
 use Rattle.xt_base.specs.declared.steps.Request.{Request}
 use Rattle.xt_base.specs.declared.steps.Step.{Step}
 use Rattle.xt_base.specs.declared.steps.Step.TheVariants.{Begin, Call, End, Flush, Mount, Peek, Post, Show, Take}
-use Rattle.xt_base.specs.declared.names.JobKind.TheVariants as JobKind
-use Rattle.xt_base.specs.declared.steps.Answer.TheVariants as Answer
-use Rattle.xt_base.specs.declared.steps.Request.TheVariants as Request
 
 -- ---- calls and job steps of a mount
--- pieces of at most 4,096 bytes each
-abbrev pub AreShort : List (List ℕ) → Type 0
-AreShort ps = Each (λ p. length p ≤ 4096) ps
-
--- the pieces of a text are
+-- the pieces of a text are of at most 4,096 bytes each
 pub short_pieces : (n : ℕ) (text : List ℕ) → AreShort (first_pieces n text)
 short_pieces zero text = tt
 short_pieces (suc n) text = (simp length-take (omega arith), short_pieces n (drop 4096 text))
@@ -213,14 +206,6 @@ module _ (s : State) where
   same_flush dropped answers = same_flush_of dropped answers (flush_plan s)
 
 -- ---- any step of a slot
--- the mount is of this slot, and of its last life, and the pieces in flight are short
-abbrev pub IsOwnIn : ℕ → ℕ → Option State → Type 0
-IsOwnIn slot last o = IfSome o (λ m. (m.slot ≡ slot) × (m.life ≡ last) × AreShort (flight_pieces m.items.flight))
-
--- the same of a slot's state
-abbrev pub IsOwnOf : ℕ → Lone → Type 0
-IsOwnOf slot s = IsOwnIn slot s.last_life s.mounted
-
 -- a name of an earlier life, or of a serial that was given
 abbrev pub IsGivenIn : ℕ → Option State → JobName → Type 0
 IsGivenIn last None n = n.life ≤ last
@@ -318,8 +303,8 @@ not_given last (Some m) n p given owed =
     let life : n.life ≡ m.life = eqb-true n.life m.life number.0 in
     let serial : n.serial ≡ m.jobs.last_serial + 1 = eqb-true n.serial (m.jobs.last_serial + 1) number.1 in
     false_from_ne_true (same_name n p) (λ one.
-      let e : AreAlike n p = alike n p one in
-      elim given [ inl old ↦ omega (arith, old, life, e.life) | inr now ↦ omega (arith, now.1, serial, e.serial) ])
+    let e : AreAlike n p = alike n p one in
+    elim given [ inl old ↦ omega (arith, old, life, e.life) | inr now ↦ omega (arith, now.1, serial, e.serial) ])
 
 -- a name that is owed is not among names of its slot that were given
 pub fresh : (s : Lone) (n : JobName) (names : List JobName) → Each (λ p. p.slot ≡ n.slot → IsGiven s p) names → mount_is (is_owed_as n) s.mounted ≡ true → is_among names n ≡ false

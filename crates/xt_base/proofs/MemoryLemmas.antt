@@ -1,10 +1,10 @@
 -- A step of a slot alone is never answered ENOMEM.
-use Rattle.std.proofs.Common.{◌≡◌, ◌∙◌, ◌∷◌, Bool, List, None, Option, Some, [], ap, false, length, refl, true, ℕ}
+use Rattle.std.proofs.Common.{◌≡◌, ◌∷◌, Bool, List, None, Option, Some, [], false, length, refl, true, ℕ}
 use Rattle.std.specs.List.{list_all}
 use Rattle.std.specs.Prelude.{if◌then◌else◌, is_some, nat_lt, not, ◌&&◌, ◌*◌, ◌+◌, ◌-◌, ◌==◌, ◌||◌}
 use Rattle.std.proofs.lemmas.Bool.{and_parts, not-true}
-use Rattle.xt_base.specs.Alone.{Turn, alone, call, called, goes_on, is_okay, mount, mount_refusals, mounted_new, on_mount, shown, turn, unless_refused, with_mount}
-use Rattle.xt_base.specs.Calls.{Outcome, alloc, alloc_refusals, allocated, alone_with, answered, asks_ckpt, asks_flush, cancel, closed, commit, commit_number, first_of, force, force_to, force_to_refusals, get, get_refusals, gives, held_of, hold, inval, inval_refusals, io_of, is_absent, is_flight, is_held, is_kept, is_no_room, is_own, join, join_refusals, legs_after, locked, log, log_refusals, logged_leg, invalidated, not_fresh, okay_of, push, read, read_refusals, release, released, roll, seen, unhold, unless, unmount, unowned, view, waits_for, with_leg, with_legs, with_owner, with_trans, without_hold}
+use Rattle.xt_base.specs.Alone.{Turn, alone, call, called, goes_on, mount_refusals, mounted_new, on_mount, turn, unless_refused, with_mount}
+use Rattle.xt_base.specs.Calls.{Outcome, alloc, alloc_refusals, allocated, alone_with, answered, asks_ckpt, asks_flush, closed, commit, commit_number, first_of, force, force_to, force_to_refusals, get, get_refusals, gives, held_of, hold, inval, inval_refusals, io_of, is_absent, is_flight, is_held, is_kept, is_no_room, is_own, join, join_refusals, legs_after, locked, log, log_refusals, logged_leg, invalidated, not_fresh, okay_of, push, read, read_refusals, release, released, roll, seen, unhold, unless, unmount, unowned, view, waits_for, with_leg, with_legs, with_owner, with_trans, without_hold}
 use Rattle.xt_base.specs.Isolation.{is_memory, is_no_memory}
 use Rattle.xt_base.specs.Jobs.{begin, begun, end, end_of, end_offers, failed, finished, flush, flush_of, flush_offers, flush_plan, flushed, is_ok, landed, next_pieces, posted, unflushed}
 use Rattle.xt_base.specs.Legs.{aborted, ended, is_dirty, is_stale, own_count}
@@ -25,10 +25,7 @@ use Rattle.xt_base.specs.declared.steps.Reply.TheVariants.{Committed, Done, Fail
 use Rattle.xt_base.specs.declared.steps.Request.{Request}
 use Rattle.xt_base.specs.declared.steps.Step.{Step}
 use Rattle.xt_base.specs.declared.steps.Step.TheVariants.{Begin, Call, End, Flush, Mount, Peek, Post, Show, Take}
-use Rattle.xt_base.specs.declared.names.JobKind.TheVariants as JobKind
-use Rattle.xt_base.specs.declared.steps.Answer.TheVariants as Answer
 use Rattle.xt_base.specs.declared.steps.Reply.TheVariants as Reply
-use Rattle.xt_base.specs.declared.steps.Request.TheVariants as Request
 
 -- an outcome whose reply is not ENOMEM
 abbrev pub IsNoWant : Outcome → Type 0

@@ -1,15 +1,14 @@
 -- Lists of names without a name twice, and what filters leave of them.
-use Rattle.std.proofs.Common.{◌≡◌, ◌∙◌, ◌⊎◌, ◌++◌, ◌∷◌, Bool, List, None, Option, Some, [], ap, false, inl, inr, refl, subst, sym, true, ℕ}
-use Rattle.std.proofs.lemmas.Bool.{and_parts, cases_Bool, eq-eqb, eqb-true, false≢true, not-false, not-true, or_parts}
+use Rattle.std.proofs.Common.{◌≡◌, ◌∙◌, ◌⊎◌, ◌++◌, ◌∷◌, Bool, List, None, Option, Some, [], ap, false, inl, inr, refl, sym, true, ℕ}
+use Rattle.std.proofs.lemmas.Bool.{and_parts, cases_Bool, eq-eqb, eqb-true, false≢true, not-true, or_parts}
 use Rattle.std.proofs.lemmas.List.Elements.{filter-append}
 use Rattle.std.proofs.lemmas.List.Folds.{list_any-append}
 use Rattle.std.specs.List.{cons_option}
-use Rattle.std.specs.Prelude.{cond, filter, filter_map, not, ◌&&◌, ◌==◌, ◌||◌}
+use Rattle.std.specs.Prelude.{filter, filter_map, not, ◌&&◌, ◌==◌, ◌||◌}
 use Rattle.xt_base.proofs.RisingLemmas.{filter_drop, filter_pass}
 use Rattle.xt_base.specs.Order.{is_among, same_kind, same_name}
 use Rattle.xt_base.specs.declared.names.JobKind.{JobKind}
 use Rattle.xt_base.specs.declared.names.JobName.{JobName}
-use Rattle.xt_base.specs.declared.names.JobKind.TheVariants as JobKind
 
 -- ---- two names
 kinds_alike : (a b : JobKind) → same_kind a b ≡ true → a ≡ b
@@ -46,7 +45,7 @@ unfolding name_of
 same_names a b h =
     let e : AreAlike a b = alike a b h in
     let one : name_of a.slot a.life a.kind a.serial ≡ name_of b.slot b.life b.kind b.serial =
-        ap (λ s. name_of s a.life a.kind a.serial) e.slot ∙ ap (λ l. name_of b.slot l a.kind a.serial) e.life ∙ ap (λ k. name_of b.slot b.life k a.serial) e.kind ∙ ap (name_of b.slot b.life b.kind) e.serial in
+    ap (λ s. name_of s a.life a.kind a.serial) e.slot ∙ ap (λ l. name_of b.slot l a.kind a.serial) e.life ∙ ap (λ k. name_of b.slot b.life k a.serial) e.kind ∙ ap (name_of b.slot b.life b.kind) e.serial in
     one
 
 -- a name passes the test with itself
@@ -92,8 +91,8 @@ distinct_more (x ∷ xs) n d new =
     let ds = and_parts (not (is_among xs x)) (is_distinct xs) d in
     let news = or_parts (same_name n x) (is_among xs n) new in
     let apart : is_among (xs ++ n ∷ []) x ≡ false =
-        list_any-append (same_name x) xs (n ∷ [])
-        ∙ or_false (is_among xs x) (same_name x n || false) (not-true (is_among xs x) ds.0) (or_false (same_name x n) false (name_other n x news.0) refl) in
+    list_any-append (same_name x) xs (n ∷ [])
+    ∙ or_false (is_among xs x) (same_name x n || false) (not-true (is_among xs x) ds.0) (or_false (same_name x n) false (name_other n x news.0) refl) in
     ap (λ b. not b && is_distinct (xs ++ n ∷ [])) apart ∙ distinct_more xs n ds.1 news.1
 
 -- where no name stands twice, a later one is not among the earlier ones

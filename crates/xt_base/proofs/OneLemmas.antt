@@ -1,16 +1,16 @@
 -- A run of steps of one slot.
-use Rattle.std.proofs.Common.{◌≡◌, ◌≢◌, ◌∙◌, ◌⊎◌, ◌+◌, ◌<◌, ◌++◌, ◌∷◌, Bool, List, None, Option, Some, [], ap, false, get_or, inl, inr, length, refl, replicate, subst, suc, sym, take, true, zero, ℕ}
-use Rattle.std.proofs.lemmas.Bool.{and_cases, cases_eq, eq-eqb, false≢true, ne_eqb}
+use Rattle.std.proofs.Common.{◌≡◌, ◌≢◌, ◌∙◌, ◌⊎◌, ◌<◌, ◌++◌, ◌∷◌, List, None, Option, [], ap, false, get_or, inl, inr, length, refl, replicate, subst, suc, sym, take, true, zero, ℕ}
+use Rattle.std.proofs.lemmas.Bool.{cases_eq, eq-eqb, ne_eqb}
 use Rattle.std.proofs.lemmas.List.{get_or-set_other, take_more}
 use Rattle.std.proofs.lemmas.Option.{get_or_from_slice_get}
-use Rattle.std.specs.List.{slice_get}
 use Rattle.std.specs.Prelude.{slice_index_or, if◌then◌else◌, ◌&&◌, ◌==◌}
-use Rattle.xt_base.proofs.LifeLemmas.{IsOwnOf}
 use Rattle.xt_base.proofs.RisingLemmas.{each_map}
-use Rattle.xt_base.proofs.RunLemmas.{IsAfter, IsBelow, after_none, after_refused, after_taken, after_tells, breaks_fits, breaks_whole, by_slot, each_append, told_refused, told_taken}
+use Rattle.xt_base.proofs.RunLemmas.{IsAfter, IsBelow, after_none, after_refused, after_taken, after_tells, breaks_fits, breaks_whole, by_slot, each_append}
+use Rattle.xt_base.proofs.TurnLemmas.{turn_hands}
 use Rattle.xt_base.specs.Alone.{Said, alone, reason_of, said_of}
-use Rattle.xt_base.specs.Isolation.{BreaksOne, BreaksOrder, IsOneSlot, TellsOne, Told, events, first_slot, is_no_memory, is_refused, untold}
+use Rattle.xt_base.specs.Isolation.{BreaksOne, BreaksOrder, IsOneSlot, TellsOne, Told, events, first_slot, is_no_memory, is_refused, told_refused, told_taken, untold}
 use Rattle.xt_base.specs.Order.{Event, fits, orderly}
+use Rattle.xt_base.specs.Own.{IsOwnOf}
 use Rattle.xt_base.specs.Sound.{Each}
 use Rattle.xt_base.specs.State.{Lone, empty}
 use Rattle.xt_base.specs.Steps.{slot_of}
@@ -61,6 +61,25 @@ run_alike done h o queue hand lone lone' e a = record {
   retold = a.retold;
 }
 
+-- hands that hold the same
+run_hands : (done : List Step) (h : List Event) (o : Told) (queue : List JobName) (hand hand' : ℕ → Option JobName) (lone : ℕ → Lone) → ((w : ℕ) → hand' w ≡ hand w) → IsAfter done h o queue hand lone → IsAfter done h o queue hand' lone
+run_hands done h o queue hand hand' lone e a = record {
+  slots = a.slots;
+  shut_room = a.shut_room;
+  refused_room = a.refused_room;
+  happened = a.happened;
+  turn = turn_hands h queue hand hand' a.turn e;
+  below = a.below;
+  own = a.own;
+  state = a.state;
+  steps = a.steps;
+  turns = a.turns;
+  shut = a.shut;
+  for_slot = a.for_slot;
+  whole = a.whole;
+  retold = a.retold;
+}
+
 -- the events are those of what was told
 happened_now : (done : List Step) (h : List Event) (o : Told) (queue : List JobName) (hand : ℕ → Option JobName) (lone : ℕ → Lone) → IsAfter done h o queue hand lone → IsAfter done (events done o.turns) o queue hand lone
 happened_now done h o queue hand lone a = subst (λ g. IsAfter done g o queue hand lone) (sym a.happened) a
@@ -73,9 +92,23 @@ never (suc n) (suc m) = never n m
 none_refused : (m : ℕ) → is_refused m untold ≡ false
 none_refused m = never 16 m
 
--- before any step
-pub one_none : (k : ℕ) → IsOneRun k [] untold [] (λ w. None) empty
-one_none k = record { run = run_alike [] [] untold [] (λ w. None) (λ m. empty) (only k empty) (empty_only k) after_none; one = tt; others = λ m other. none_refused m }
+-- before any step, with free hands
+pub one_none : (k : ℕ) (hand : ℕ → Option JobName) → ((w : ℕ) → hand w ≡ None) → IsOneRun k [] untold [] hand empty
+one_none k hand free = record {
+  run = run_hands [] [] untold [] (λ w. None) hand (only k empty) free (run_alike [] [] untold [] (λ w. None) (λ m. empty) (only k empty) (empty_only k) after_none);
+  one = tt;
+  others = λ m other. none_refused m;
+}
+
+-- a run by what it is equal to
+pub one_moved : (k k' : ℕ) (done done' : List Step) (o o' : Told) (queue queue' : List JobName) (hand : ℕ → Option JobName) (s s' : Lone) → k ≡ k' → done ≡ done' → o ≡ o' → queue ≡ queue' → s ≡ s'
+    → IsOneRun k done o queue hand s → IsOneRun k' done' o' queue' hand s'
+one_moved k k' done done' o o' queue queue' hand s s' ek ed eo eq es r =
+    subst (λ k. IsOneRun k done' o' queue' hand s') ek
+    (subst (λ d. IsOneRun k d o' queue' hand s') ed
+    (subst (λ o. IsOneRun k done o queue' hand s') eo
+    (subst (λ q. IsOneRun k done o q hand s') eq
+    (subst (λ s. IsOneRun k done o queue hand s) es r))))
 
 one_slot : (k : ℕ) (xs : List Step) → Each (λ x. slot_of x ≡ k) xs → IsOneSlot xs
 one_slot k [] all = tt

@@ -1,12 +1,12 @@
 -- One more step at the end of a list: what it adds to the events, the states, the turns and the order.
-use Rattle.std.proofs.Common.{◌≡◌, ◌≢◌, ◌∙◌, ◌⊎◌, ◌++◌, ◌∷◌, Bool, List, None, Option, Some, [], ap, append_assoc, cond, false, inl, inr, map, refl, subst, sym, true, ℕ}
-use Rattle.std.proofs.lemmas.Bool.{cases_Bool, cases_eq, eq-eqb, ne_eqb}
-use Rattle.std.proofs.lemmas.List.{append-nil, map-append}
+use Rattle.std.proofs.Common.{◌≡◌, ◌≢◌, ◌∙◌, ◌++◌, ◌∷◌, Bool, List, [], ap, append_assoc, cond, false, map, refl, sym, true, ℕ}
+use Rattle.std.proofs.lemmas.Bool.{eq-eqb, ne_eqb}
+use Rattle.std.proofs.lemmas.List.{append-nil}
 use Rattle.std.proofs.lemmas.List.Elements.{filter-append}
-use Rattle.std.specs.Prelude.{filter, if◌then◌else◌, ◌&&◌, ◌==◌}
+use Rattle.std.specs.Prelude.{filter, ◌&&◌, ◌==◌}
 use Rattle.xt_base.specs.Alone.{Said, after, alone, alone_from, said_of}
 use Rattle.xt_base.specs.Isolation.{event_of, events, turns_of}
-use Rattle.xt_base.specs.Order.{Event, fits, fits_for, of_slot, orderly_for_from, orderly_from, steps_of, told, told_from}
+use Rattle.xt_base.specs.Order.{Event, fits, fits_for, of_slot, orderly_for_from, orderly_from, told, told_from}
 use Rattle.xt_base.specs.State.{Lone}
 use Rattle.xt_base.specs.Steps.{slot_of, strike}
 use Rattle.xt_base.specs.declared.steps.Step.{Step}

@@ -1,18 +1,17 @@
 -- A run of steps over many slots: what it told is what each slot would have been told alone.
-use Rattle.std.proofs.Common.{◌≡◌, ◌≢◌, ◌∙◌, ◌⊎◌, ◌+◌, ◌<◌, ◌++◌, ◌∷◌, Bool, List, None, Option, Some, [], ap, append_assoc, arith, false, inl, inr, length, map, refl, replicate, subst, suc, sym, true, zero, ℕ}
-use Rattle.std.proofs.lemmas.Bool.{and_parts, cases_Bool, cases_eq, eq-eqb, false_from_ne_true, false≢true, ne_eqb}
+use Rattle.std.proofs.Common.{◌≡◌, ◌≢◌, ◌∙◌, ◌<◌, ◌++◌, ◌∷◌, Bool, List, None, Option, [], ap, arith, false, inl, inr, length, map, refl, replicate, subst, suc, sym, true, zero, ℕ}
+use Rattle.std.proofs.lemmas.Bool.{and_parts, cases_eq, eq-eqb, false≢true, ne_eqb}
 use Rattle.std.proofs.lemmas.List.{append-nil, get_or-set_other, get_or-set_same, length-set, map-append}
-use Rattle.std.proofs.lemmas.List.Elements.{filter_map-append}
-use Rattle.std.specs.Prelude.{filter_map, if◌then◌else◌, option_to_list, slice_index_or, slice_set, ◌&&◌, ◌==◌}
-use Rattle.std.specs.List.{cons_option}
+use Rattle.std.specs.Prelude.{if◌then◌else◌, option_to_list, slice_index_or, slice_set, ◌&&◌}
 use Rattle.xt_base.proofs.FitsLemmas.{common_step, fits_is}
-use Rattle.xt_base.proofs.LifeLemmas.{IsGiven, IsLater, IsOwnOf, given_once_posted, later_step}
+use Rattle.xt_base.proofs.LifeLemmas.{IsGiven, IsLater, given_once_posted, later_step}
 use Rattle.xt_base.proofs.OrderLemmas.{after_more, alone_more, events_more, of_slot_other, of_slot_own, orderly_for_more, orderly_more, strike_other, strike_own, told_more, turns_other, turns_own}
 use Rattle.xt_base.proofs.RisingLemmas.{each_map}
 use Rattle.xt_base.proofs.TurnLemmas.{IsTurn, one_more, turn_hands, turn_none, turn_step}
-use Rattle.xt_base.specs.Alone.{Said, after, alone, alone_run, reason_of, said_of, shut_after}
-use Rattle.xt_base.specs.Isolation.{IsAlone, Tells, Told, event_of, events, is_no_memory, is_refused, shut_in, turns_of, untold}
-use Rattle.xt_base.specs.Order.{Event, fits, fits_for, has_in_hand, keeps_common, keeps_own, of_slot, orderly, orderly_for, orderly_from, post_of, posted, state_of, steps_of, suits, told, told_from}
+use Rattle.xt_base.specs.Alone.{Said, after, alone, alone_run, reason_of, said_of}
+use Rattle.xt_base.specs.Isolation.{Tells, Told, events, is_no_memory, is_refused, shut_in, told_refused, told_taken, turns_of, untold}
+use Rattle.xt_base.specs.Order.{Event, fits, fits_for, keeps_common, keeps_own, of_slot, orderly, orderly_for, post_of, posted, state_of, steps_of, suits, told, told_from}
+use Rattle.xt_base.specs.Own.{IsOwnOf}
 use Rattle.xt_base.specs.Sound.{Each}
 use Rattle.xt_base.specs.State.{Lone, empty}
 use Rattle.xt_base.specs.Steps.{slot_of, strike}
@@ -20,7 +19,7 @@ use Rattle.xt_base.specs.Turns.{can_step, keeps_turn, queue_after, hand_after}
 use Rattle.xt_base.specs.declared.names.JobName.{JobName}
 use Rattle.xt_base.specs.declared.steps.Reason.{Reason}
 use Rattle.xt_base.specs.declared.steps.Step.{Step}
-use Rattle.xt_base.specs.declared.steps.Step.TheVariants.{Begin, Call, End, Flush, Mount, Peek, Post, Show, Take}
+use Rattle.xt_base.specs.declared.steps.Step.TheVariants.{Post}
 
 -- a fact of every slot, by one slot and the others
 pub by_slot : (k : ℕ) (P : ℕ → Type 0) → P k → ((m : ℕ) → k ≢ m → P m) → (m : ℕ) → P m
@@ -90,14 +89,6 @@ after_tells done h o queue hand lone a = record {
 }
 
 -- ---- one more step
--- what was told with one more turn, and why its slot is shut then
-abbrev pub told_taken : Told → Said → Option Reason → Told
-told_taken o t reason = record o { turns = o.turns ++ t ∷ []; shut = slice_set o.shut t.slot reason }
-
--- the same where the step was refused memory
-abbrev pub told_refused : Told → Said → Option Reason → Told
-told_refused o t reason = record o { turns = o.turns ++ t ∷ []; shut = slice_set o.shut t.slot reason; refused = slice_set o.refused t.slot true }
-
 and_false : (b : Bool) → (b && false) ≡ false
 and_false true = refl
 and_false false = refl
@@ -146,8 +137,8 @@ module _ (done : List Step) (h : List Event) (o : Told) (queue : List JobName) (
           | inl same ↦
               let within : slot_of x < length o.refused = omega (arith, a.refused_room, small) in
               let set_there : slice_index_or (slice_set o.refused t.slot true) m false ≡ true =
-                  ap (λ k. slice_index_or (slice_set o.refused t.slot true) k false) (sym same) ∙ ap (λ k. slice_index_or (slice_set o.refused k true) (slot_of x) false) here
-                  ∙ get_or-set_same o.refused (slot_of x) true false within in
+              ap (λ k. slice_index_or (slice_set o.refused t.slot true) k false) (sym same) ∙ ap (λ k. slice_index_or (slice_set o.refused k true) (slot_of x) false) here
+              ∙ get_or-set_same o.refused (slot_of x) true false within in
               absurd (false≢true (sym n ∙ set_there))
           | inr other ↦ (other, sym (get_or-set_other o.refused t.slot m true false (λ same. other (sym here ∙ sym same))) ∙ n)
         ]

@@ -1,5 +1,5 @@
 -- The queue of posted names and the hands of the workers are what the history says.
-use Rattle.std.proofs.Common.{◌≡◌, ◌∙◌, ◌⊎◌, ◌++◌, ◌∷◌, Bool, List, None, Option, Some, [], ap, drop, false, inl, inr, refl, subst, sym, true, ℕ}
+use Rattle.std.proofs.Common.{◌≡◌, ◌∙◌, ◌⊎◌, ◌++◌, ◌∷◌, Bool, List, None, Option, Some, [], ap, drop, false, inl, inr, refl, sym, true, ℕ}
 use Rattle.std.proofs.lemmas.Bool.{and_parts, cases_Bool, eqb-true, false≢true, not-true}
 use Rattle.std.proofs.lemmas.List.{append-nil}
 use Rattle.std.proofs.lemmas.List.Elements.{filter_map-append}
@@ -7,7 +7,7 @@ use Rattle.std.proofs.Common.{append_assoc}
 use Rattle.std.specs.List.{cons_option}
 use Rattle.std.specs.Prelude.{filter, filter_map, if◌then◌else◌, is_none, not, option_to_list, ◌&&◌, ◌==◌}
 use Rattle.xt_base.proofs.NameLemmas.{among_first, among_more, apart_from, distinct_more, filter_rest, is_distinct, same_names}
-use Rattle.xt_base.specs.Order.{Event, finish_by, finished_by, has_in_hand, is_among, is_first, is_none_left, is_nothing, keeps_common, post_of, posted, same_name, take_by, take_of, taken, taken_by, unfinished, waiting}
+use Rattle.xt_base.specs.Order.{Event, finish_by, finished_by, is_among, is_first, is_nothing, keeps_common, post_of, posted, take_by, take_of, taken, taken_by, unfinished, waiting}
 use Rattle.xt_base.specs.Turns.{hand_after, held_in, keeps_turn, queue_after}
 use Rattle.xt_base.specs.declared.names.JobName.{JobName}
 use Rattle.xt_base.specs.declared.steps.Reply.{Reply}

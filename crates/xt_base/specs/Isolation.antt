@@ -1,6 +1,6 @@
 -- What a run of many slots told, and that each slot was told what it would have been told alone.
 use Rattle.std.specs.List.{slice_get}
-use Rattle.std.specs.Prelude.{Bool, List, None, Option, [], false, filter, if◌then◌else◌, length, map, replicate, slice_index_or, take, true, ℕ, ◌+◌, ◌<◌, ◌==◌, ◌∷◌, ◌≡◌, ◌≢◌, ◌⊎◌, ◌++◌, Some}
+use Rattle.std.specs.Prelude.{Bool, List, None, Option, [], false, filter, if◌then◌else◌, length, map, replicate, slice_index_or, slice_set, take, true, ℕ, ◌+◌, ◌<◌, ◌==◌, ◌∷◌, ◌≡◌, ◌≢◌, ◌⊎◌, ◌++◌, Some}
 use Rattle.xt_base.specs.Alone.{Said, alone_run, shut_after}
 use Rattle.xt_base.specs.Order.{Event, fits, orderly, orderly_for}
 use Rattle.xt_base.specs.Sound.{Each}
@@ -53,6 +53,18 @@ abbrev pub events : List Step → List Said → List Event
 events [] turns = []
 events (x ∷ xs) [] = []
 events (x ∷ xs) (t ∷ ts) = event_of x t ++ events xs ts
+
+-- what was told with one more turn, and why its slot is shut then
+abbrev pub told_taken : Told → Said → Option Reason → Told
+told_taken o t reason = record o { turns = o.turns ++ t ∷ []; shut = slice_set o.shut t.slot reason }
+
+-- the same of a turn that was refused memory
+abbrev pub told_refused : Told → Said → Option Reason → Told
+told_refused o t reason = record o { turns = o.turns ++ t ∷ []; shut = slice_set o.shut t.slot reason; refused = slice_set o.refused t.slot true }
+
+-- the one or the other, by the turn's reply
+abbrev pub told_then : Told → Said → Option Reason → Told
+told_then o t reason = if is_no_memory t.reply then told_refused o t reason else told_taken o t reason
 
 -- a slot was told what it would have been told alone, and is shut as it would be alone
 pub record IsAlone (m : ℕ) (steps : List Step) (o : Told) : Type 0 where

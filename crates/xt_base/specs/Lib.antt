@@ -13,5 +13,6 @@ pub mod Jobs
 pub mod Alone
 pub mod Order
 pub mod Sound
+pub mod Own
 pub mod Turns
 pub mod Isolation

@@ -1,6 +1,6 @@
 //! What a run of steps told.
 
-ghost use Rattle.std.specs.Prelude.{◌≡◌, ◌++◌, ◌∷◌, [], true, slice_set, OnOk, OnErr};
+ghost use Rattle.std.specs.Prelude.{◌≡◌, ◌<◌, ◌++◌, ◌∷◌, [], true, slice_set, OnOk, OnErr};
 ghost use Rattle.xt_base.specs.Isolation.{is_refused, shut_in, untold};
 
 use crate::names::Slot;
@@ -87,7 +87,8 @@ impl Outcomes {
 
     /// Notes why a slot is shut now, or that it is not.
     pub fn note_shut(&mut self, slot: Slot, reason: Option<Reason>)
-        ensures { self.new ≡ record self.old { shut = slice_set self.old.shut slot reason } }
+        ensures noted { self.new ≡ record self.old { shut = slice_set self.old.shut slot reason } }
+        ensures range { slot < 16 }
     {
         self.shut[slot.index()] = reason;
     }

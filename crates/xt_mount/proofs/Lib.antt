@@ -7,3 +7,4 @@ pub mod KeepLemmas
 pub mod EndLemmas
 pub mod CkptLemmas
 pub mod MountLemmas
+pub mod SoloLemmas

@@ -7,3 +7,4 @@ pub mod Ending
 pub mod Texts
 pub mod Come
 pub mod Stages
+pub mod Solo

@@ -1,0 +1,91 @@
+-- One slot and its workers: the state of the slot, the hands, and what a step makes of them.
+use Rattle.std.specs.Prelude.{Bool, List, MatchBool, None, Option, [], false, slice_index_or, true, ℕ, ◌<◌, ◌≡◌}
+use Rattle.xt_base.specs.Alone.{Said, Turn, alone, reason_of, said_of}
+use Rattle.xt_base.specs.Isolation.{BreaksOne, Told, is_no_memory, told_then}
+use Rattle.xt_base.specs.Jobs.{is_ckpt}
+use Rattle.xt_base.specs.State.{Lone}
+use Rattle.xt_base.specs.Steps.{slot_of}
+use Rattle.xt_base.specs.Turns.{hand_after, queue_after}
+use Rattle.xt_base.specs.declared.names.JobName.{JobName}
+use Rattle.xt_base.specs.declared.outcomes.RunFault.{RunFault}
+use Rattle.xt_base.specs.declared.outcomes.RunFault.TheVariants.{Disorder, Memory}
+use Rattle.xt_base.specs.declared.steps.Reply.{Reply}
+use Rattle.xt_base.specs.declared.steps.Step.{Step}
+use Rattle.xt_base.specs.declared.steps.Step.TheVariants.{Begin, Call, End, Flush, Mount, Peek, Post, Show, Take}
+use Rattle.xt_mount.specs.Come.{has_come}
+use Rattle.xt_mount.specs.declared.solo.Solo.{Solo}
+
+-- the slot's state
+abbrev pub lone_of : Solo → Lone
+lone_of s = record { last_life = s.last_life; seen_life = s.seen_life; seen_reason = s.seen_reason; mounted = s.mount }
+
+-- what a worker has in hand
+abbrev pub hand_of : Solo → ℕ → Option JobName
+hand_of s w = slice_index_or s.hands w None
+
+-- the slot with another state
+abbrev pub with_lone : Lone → Solo → Solo
+with_lone l s = record s { last_life = l.last_life; seen_life = l.seen_life; seen_reason = l.seen_reason; mount = l.mounted }
+
+-- the steps that have come so far: no flush, and no post of one
+abbrev pub step_has_come : Step → Bool
+step_has_come (Mount slot log_bytes blocks) = true
+step_has_come (Call slot life request answer) = has_come request
+step_has_come (Post name) = is_ckpt name.kind
+step_has_come (Take worker name) = true
+step_has_come (Begin worker name) = true
+step_has_come (End worker name answers) = true
+step_has_come (Flush worker name answers) = false
+step_has_come (Show slot) = true
+step_has_come (Peek slot) = true
+
+-- the turn came about, or it was refused memory and nothing changed
+abbrev pub IsTurned : Turn → Reply → Solo → Solo → Type 0
+IsTurned t reply new old = MatchBool (is_no_memory reply) (new ≡ old) ((reply ≡ t.reply) × (new ≡ with_lone t.slot old))
+
+-- nothing changed
+pub record IsKept (new old : Solo) : Type 0 where
+  pub slot : new.slot ≡ old.slot
+  pub state : lone_of new ≡ lone_of old
+  pub queue : new.queue.items ≡ old.queue.items
+  pub hands : new.hands ≡ old.hands
+
+-- a step's reply, state and queue came about; the hands are as they were
+pub record IsServed (x : Step) (r : Reply) (new old : Solo) : Type 0 where
+  pub slot : new.slot ≡ old.slot
+  pub reply : r ≡ (alone x (lone_of old)).reply
+  pub state : lone_of new ≡ (alone x (lone_of old)).slot
+  pub queue : new.queue.items ≡ queue_after x old.queue.items
+  pub hands : new.hands ≡ old.hands
+
+-- a step was served, or it was refused memory and nothing changed
+abbrev pub IsServedUnlessMemory : Step → Reply → Solo → Solo → Type 0
+IsServedUnlessMemory x reply new old = MatchBool (is_no_memory reply) (IsKept new old) (IsServed x reply new old)
+
+-- a step was taken: what it said and left is what it says and leaves alone, with the queue and the hands after it
+pub record IsTaken (x : Step) (t : Said) (new old : Solo) : Type 0 where
+  pub slot : new.slot ≡ old.slot
+  pub said : t ≡ said_of x (alone x (lone_of old))
+  pub state : lone_of new ≡ (alone x (lone_of old)).slot
+  pub queue : new.queue.items ≡ queue_after x old.queue.items
+  pub hands : (w : ℕ) → hand_of new w ≡ hand_after x t.reply w (hand_of old w)
+
+-- a step was refused memory: it offered nothing, and nothing changed
+pub record IsRefused (x : Step) (t : Said) (new old : Solo) : Type 0 where
+  pub kept : IsKept new old
+  pub place : t.slot ≡ slot_of x
+  pub log : t.log ≡ []
+  pub home : t.home ≡ []
+
+-- the one or the other, by the reply
+abbrev pub IsStepped : Step → Said → Solo → Solo → Type 0
+IsStepped x t new old = MatchBool (is_no_memory t.reply) (IsRefused x t new old) (IsTaken x t new old)
+
+-- a step was taken or refused memory, and its turn was told
+abbrev pub IsMore : Step → Solo → Solo → Told → Told → Type 0
+IsMore x new old told_new told_old = (t : Said) × (IsStepped x t new old × (told_new ≡ told_then told_old t (reason_of new.mount)) × (t.slot < 16))
+
+-- why a run of steps of one slot stopped: at a step that breaks order, or for want of memory
+abbrev pub IsFaultOne : List Step → RunFault → Type 0
+IsFaultOne steps (Disorder at before) = BreaksOne at steps before
+IsFaultOne steps Memory = Unit {0}

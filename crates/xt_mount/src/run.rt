@@ -1,0 +1,95 @@
+//! The run of one slot over a list of steps.
+
+ghost use Rattle.std.specs.Prelude.{◌≡◌, ◌<◌, true, IfOk, IfErr, OnOk};
+ghost use Rattle.std.specs.List.{list_all};
+ghost use Rattle.xt_base.specs.Alone.{reason_of};
+ghost use Rattle.xt_base.specs.Isolation.{told_then, TellsOne};
+ghost use Rattle.xt_base.specs.Order.{suits};
+ghost use Rattle.xt_base.specs.Own.{IsOwnOf};
+ghost use Rattle.xt_base.specs.Steps.{slot_of};
+ghost use Rattle.xt_mount.specs.Come.{has_come};
+ghost use Rattle.xt_mount.specs.Solo.{lone_of, step_has_come, IsFaultOne, IsMore};
+
+use crate::solo::{Solo, is_no_memory, slot_named};
+use std::alloc::{AllocError, Global};
+use xt_base::names::JobKind;
+use xt_base::outcomes::{Outcomes, RunFault, Turn};
+use xt_base::steps::{Reason, Request, Step};
+
+/// Whether a request has come so far: alloc, get, log, commit, force.
+fn request_has_come(request: &Request) -> bool
+    ensures { result ≡ has_come request.now }
+{
+    match request {
+        Request::Alloc { .. } | Request::Get { .. } | Request::Log { .. } => true,
+        Request::Commit { .. } | Request::Force => true,
+        _ => false,
+    }
+}
+
+/// Whether a step has come so far: none of a flush job has, and of the requests alloc, get, log, commit and force have.
+pub fn has_come(step: &Step) -> bool
+    ensures { result ≡ step_has_come step.now }
+{
+    match step {
+        Step::Call { request, .. } => request_has_come(request),
+        Step::Post(name) => matches!(name.kind, JobKind::Ckpt),
+        Step::Flush { .. } => false,
+        _ => true,
+    }
+}
+
+/// Notes a turn, and why its slot is shut then. The one error is want of memory.
+fn note(outcomes: &mut Outcomes, turn: Turn, reason: Option<Reason>) -> Result<(), AllocError>
+    ensures told { OnOk result (outcomes.new ≡ told_then outcomes.old turn reason) }
+    ensures range { OnOk result (turn.slot < 16) }
+{
+    let slot = turn.slot;
+    let refused = is_no_memory(&turn.reply);
+    outcomes.add(turn)?;
+    outcomes.note_shut(slot, reason);
+    if refused {
+        outcomes.note_refused(slot);
+    }
+    Ok(())
+}
+
+/// Takes a step that may come, and notes its turn.
+fn advance(solo: &mut Solo, outcomes: &mut Outcomes, step: &Step) -> Result<(), AllocError>
+    requires came { step_has_come step.now ≡ true }
+    requires slot { slot_of step.now ≡ solo.old.slot }
+    requires own { IsOwnOf solo.old.slot (lone_of solo.old) }
+    requires suit { suits step.now (lone_of solo.old) ≡ true }
+    ensures { OnOk result (IsMore step.now solo.new solo.old outcomes.new outcomes.old) }
+{
+    let turn = solo.take(step)?;
+    note(outcomes, turn, solo.shut())
+}
+
+/// Runs steps of one slot from the first on: every step names the slot of the first, and each is answered as the
+/// machine of one mount says, or, where a growth was refused, ENOMEM. `Disorder` where a step names another slot or may not come
+/// after those before it, with its place from 0 and what was told before it; `Memory` where a turn or a copy of an
+/// offer found no memory.
+pub fn run_one(alloc: Global, steps: &[Step]) -> Result<Outcomes, RunFault>
+    requires { list_all step_has_come steps.now ≡ true }
+    ensures ok { IfOk result (λ o. TellsOne steps.now o) }
+    ensures fault { IfErr result (IsFaultOne steps.now) }
+{
+    let mut outcomes = Outcomes::new(alloc);
+    let Some(first) = steps.first() else {
+        return Ok(outcomes);
+    };
+    let mut solo = Solo::new(alloc, slot_named(first));
+    for (at, step) in steps.iter().enumerate() {
+        if !solo.can_take(step) {
+            return Err(RunFault::Disorder {
+                at,
+                before: outcomes,
+            });
+        }
+        let Ok(()) = advance(&mut solo, &mut outcomes, step) else {
+            return Err(RunFault::Memory);
+        };
+    }
+    Ok(outcomes)
+}
