@@ -1,2 +1,2 @@
-mod Script
 pub mod Printing
+pub mod Script

@@ -1,6 +1,5 @@
 -- What a script says, and what is printed of its run.
 use Rattle.std.specs.Prelude.{ℕ, List, Option, None, Some, [], flat_map, length, ◌+◌, ◌++◌, ◌<◌, ◌≡◌, ◌≢◌, ◌∷◌, ◌⊎◌}
-use Rattle.std.specs.List.{slice_get}
 use Rattle.std.specs.Io.KnownBytes.{Appends, Keeps}
 use Rattle.xt_base.specs.Isolation.{BreaksOne, TellsOne, Told}
 use Rattle.xt_base.specs.Sound.{Each}
@@ -18,9 +17,9 @@ pub record IsScript (script : List ℕ) (steps : List Step) : Type 0 where
   pub valid : Each IsStep steps
   pub text : (script ≡ script_text steps) ⊎ (script ++ 10 ∷ [] ≡ script_text steps)
 
--- a text ends after its first line, or a newline stands there
-abbrev pub EndsLine : List ℕ → ℕ → Type 0
-EndsLine text len = (len ≡ length text) ⊎ (slice_get text len ≡ Some 10)
+-- the first line of a text and what comes after its newline, or the whole text, where it has no newline
+abbrev pub IsCut : List ℕ → List ℕ → List ℕ → Type 0
+IsCut text line after = (text ≡ line ++ 10 ∷ after) ⊎ ((text ≡ line) × (after ≡ []))
 
 -- the lines of these steps were read of a script, and the rest of it was not; or all was, and the last newline was wanting
 pub record IsParsed (script : List ℕ) (steps : List Step) (rest : List ℕ) : Type 0 where

@@ -1,8 +1,8 @@
 //! The lines of a script, read and parsed.
 
-ghost use Rattle.std.specs.Prelude.{◌≡◌, ◌≤◌, ◌++◌, ℕ, List, IfOk, IfErr, IfSome, OnErr, length};
+ghost use Rattle.std.specs.Prelude.{◌≡◌, ◌<◌, IfOk, IfSome, length, Some, slice_get};
 ghost use Rattle.xt_base.specs.declared.steps.Step.{Step as AnyStep};
-ghost use Rattle.xt_cli.specs.Script.{IsScript, EndsLine};
+ghost use Rattle.xt_cli.specs.Script.{IsScript, IsCut};
 
 use crate::fault::ScriptFault;
 use std::alloc::{AllocError, Global};
@@ -26,13 +26,22 @@ pub fn read_script<R: Read>(alloc: Global, reader: &mut R) -> Result<Vec<u8>, Sc
     Ok(script)
 }
 
-/// The bytes before the first newline of a text, all where it has none.
-fn line_len(text: &[u8]) -> usize
-    ensures { EndsLine text.now result }
+/// The place of the first newline of a text, if it has one.
+fn newline_at(text: &[u8]) -> Option<usize>
+    ensures bound { IfSome result (λ at. at < length text.now) }
+    ensures newline { IfSome result (λ at. slice_get text.now at ≡ Some 10) }
 {
-    match text.iter().position(|byte| *byte == b'\n') {
-        Some(len) => len,
-        None => text.len(),
+    text.iter().position(|byte| *byte == b'\n')
+}
+
+/// The first line of a text, without its newline, and what comes after it.
+#[tactic(auto, using(crate::proofs::ScriptLemmas::cut_line))]
+fn first_line(text: &[u8]) -> (&[u8], &[u8])
+    ensures { IsCut text.now result.0.now result.1.now }
+{
+    match newline_at(text) {
+        Some(len) => (&text[..len], &text[len + 1..]),
+        None => (text, &[]),
     }
 }
 
@@ -43,13 +52,13 @@ pub fn parse_script(alloc: Global, script: &[u8]) -> Result<Vec<Step>, ScriptFau
     let mut steps = Vec::new(alloc);
     let mut rest = script;
     while !rest.is_empty() {
-        let len = line_len(rest);
-        match parse_line(alloc, &rest[..len]) {
+        let (line, after) = first_line(rest);
+        match parse_line(alloc, line) {
             Ok(step) => steps.push(step)?,
             Err(BadLine::Spelling) => return Err(ScriptFault::BadLine(steps.len() + 1)),
             Err(BadLine::Memory) => return Err(ScriptFault::Memory(AllocError)),
         }
-        rest = if len < rest.len() { &rest[len + 1..] } else { &[] };
+        rest = after;
     }
     Ok(steps)
 }

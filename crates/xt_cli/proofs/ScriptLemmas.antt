@@ -1,0 +1,59 @@
+-- Lines of a text, one after another.
+use Rattle.std.proofs.Common.{add-one, inl, inr, suc, zero, ◌-◌, ◌≡◌, ◌∙◌, ◌+◌, ◌≤◌, ◌<◌, ◌≢◌, ◌⊎◌, ℕ, List, [], ◌∷◌, ◌++◌, Option, Some, None, sym, ap, subst, refl, length, take, drop, arith, append_assoc, append-nil, flat_map}
+use Rattle.std.proofs.lemmas.List.{flat_map_more, take_rest}
+use Rattle.std.specs.List.{slice_get}
+use Rattle.std.specs.Prelude.{unwrap_or}
+use Rattle.xt_base.proofs.MapLemmas.{some_none}
+use Rattle.xt_base.specs.Sound.{Each}
+use Rattle.xt_base.specs.declared.steps.Step.{Step}
+use Rattle.xt_cli.specs.Printing.{ended}
+use Rattle.xt_cli.specs.Script.{IsCut, IsParsed, script_text}
+use Rattle.xt_text.specs.Lines.{IsStep, line_of}
+
+-- a list is cut at an element
+pub cut_at : {X : Type 0} (xs : List X) (i : ℕ) (x : X) → slice_get xs i ≡ Some x → xs ≡ take i xs ++ x ∷ drop (suc i) xs
+cut_at [] i x at = some_none x _ (sym at)
+cut_at (y ∷ xs) zero x at = ap (λ z. z ∷ xs) (ap (λ o. unwrap_or o y) at)
+cut_at (y ∷ xs) (suc i) x at = ap (λ zs. y ∷ zs) (cut_at xs i x at)
+
+-- a text is its first line, a newline, and the rest
+pub cut_line : (text : List ℕ) (len : ℕ) → slice_get text len ≡ Some 10 → IsCut text (take len text) (take (length text - (len + 1)) (drop (len + 1) text))
+cut_line text len at = inl (cut_at text len 10 at ∙ (ap (λ n. take len text ++ 10 ∷ drop n text) (sym (add-one len)) ∙ ap (λ t. take len text ++ 10 ∷ t) (sym (take_rest text (len + 1)))))
+
+-- the lines of steps, with one more
+pub text_more : (steps : List Step) (x : Step) → script_text steps ++ ended (line_of x) ≡ script_text (steps ++ x ∷ [])
+text_more steps x = flat_map_more (λ y. ended (line_of y)) [] steps x
+
+-- each of some, and one more
+pub each_more : (P : Step → Type 0) (steps : List Step) (x : Step) → Each P steps → P x → Each P (steps ++ x ∷ [])
+each_more P [] x all holds = (holds , tt)
+each_more P (y ∷ steps) x all holds = (all.0 , each_more P steps x all.1 holds)
+
+-- the same before what comes after
+pub text_before : (steps : List Step) (x : Step) (after : List ℕ) → script_text steps ++ (ended (line_of x) ++ after) ≡ script_text (steps ++ x ∷ []) ++ after
+text_before steps x after = sym (append_assoc (script_text steps) (ended (line_of x)) after) ∙ ap (λ t. t ++ after) (text_more steps x)
+
+-- a line and its newline before what comes after
+pub line_before : (line after : List ℕ) → line ++ 10 ∷ after ≡ ended line ++ after
+line_before line after = sym (append_assoc line (10 ∷ []) after)
+
+-- a step's line was read, and its newline
+pub parsed_line : (script : List ℕ) (steps : List Step) (x : Step) (after : List ℕ) → IsStep x → script ≡ script_text steps ++ (ended (line_of x) ++ after) → Each IsStep steps → IsParsed script (steps ++ x ∷ []) after
+parsed_line script steps x after valid text all = record
+  { valid = each_more IsStep steps x all valid
+  ; text = inl (text ∙ text_before steps x after) }
+
+-- the last line was read, which had no newline
+pub parsed_last : (script : List ℕ) (steps : List Step) (x : Step) → IsStep x → (script ≡ script_text steps ++ line_of x) → Each IsStep steps → IsParsed script (steps ++ x ∷ []) []
+parsed_last script steps x valid text all = record
+  { valid = each_more IsStep steps x all valid
+  ; text = inr (refl , ap (λ t. t ++ 10 ∷ []) text ∙ append_assoc (script_text steps) (line_of x) (10 ∷ []) ∙ text_more steps x) }
+
+-- one more line was read
+pub parsed_more : (script : List ℕ) (steps : List Step) (rest line after : List ℕ) (x : Step) → IsParsed script steps rest → IsCut rest line after → rest ≢ [] → line ≡ line_of x → IsStep x → IsParsed script (steps ++ x ∷ []) after
+parsed_more script steps rest line after x parsed cut left same valid = more parsed.text cut
+  where
+    more : (script ≡ script_text steps ++ rest) ⊎ ((rest ≡ []) × (script ++ 10 ∷ [] ≡ script_text steps)) → IsCut rest line after → IsParsed script (steps ++ x ∷ []) after
+    more (inr none) c = absurd (left none.0)
+    more (inl text) (inl c) = parsed_line script steps x after valid (text ∙ ap (λ t. script_text steps ++ t) (c ∙ (ap (λ t. t ++ 10 ∷ after) same ∙ line_before (line_of x) after))) parsed.valid
+    more (inl text) (inr c) = subst (λ a. IsParsed script (steps ++ x ∷ []) a) (sym c.1) (parsed_last script steps x valid (text ∙ ap (λ t. script_text steps ++ t) (c.0 ∙ same)) parsed.valid)
