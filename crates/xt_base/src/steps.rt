@@ -1,5 +1,8 @@
 //! Requests, answers, replies, steps and offers.
 
+ghost use Rattle.std.specs.Prelude.{◌≡◌};
+ghost use Rattle.xt_base.specs.Steps.{slot_of};
+
 use crate::content::{Content, Data, HeldBlocks};
 use crate::names::{Block, CkptNo, JobName, Life, Slot, TransNo, Worker};
 
@@ -226,6 +229,20 @@ pub enum Step {
     },
     Show(Slot),
     Peek(Slot),
+}
+
+impl Step {
+    /// The slot that the step names.
+    pub fn slot(&self) -> Slot
+        ensures { result ≡ slot_of self.now }
+    {
+        match self {
+            Step::Mount { slot, .. } | Step::Call { slot, .. } => *slot,
+            Step::Post(name) | Step::Take { name, .. } | Step::Begin { name, .. } => name.slot,
+            Step::End { name, .. } | Step::Flush { name, .. } => name.slot,
+            Step::Show(slot) | Step::Peek(slot) => *slot,
+        }
+    }
 }
 
 /// What was offered to a log device, with its answer.

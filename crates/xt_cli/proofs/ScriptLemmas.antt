@@ -1,8 +1,8 @@
 -- Lines of a text, one after another.
-use Rattle.std.proofs.Common.{add-one, inl, inr, suc, zero, ◌-◌, ◌≡◌, ◌∙◌, ◌+◌, ◌≤◌, ◌<◌, ◌≢◌, ◌⊎◌, ℕ, List, [], ◌∷◌, ◌++◌, Option, Some, None, sym, ap, subst, refl, length, take, drop, arith, append_assoc, append-nil, flat_map}
+use Rattle.std.proofs.Common.{add-one, le_of_suc-le-suc, suc-le-suc, not-suc-le-zero, inl, inr, suc, zero, ◌-◌, ◌≡◌, ◌∙◌, ◌+◌, ◌≤◌, ◌<◌, ◌≢◌, ◌⊎◌, ℕ, List, [], ◌∷◌, ◌++◌, Option, Some, None, sym, ap, subst, refl, length, take, drop, arith, append_assoc, append-nil, flat_map}
 use Rattle.std.proofs.lemmas.List.{flat_map_more, take_rest}
 use Rattle.std.specs.List.{slice_get}
-use Rattle.std.specs.Prelude.{unwrap_or}
+use Rattle.std.specs.Prelude.{IfSome, option_map, unwrap_or}
 use Rattle.xt_base.proofs.MapLemmas.{some_none}
 use Rattle.xt_base.specs.Sound.{Each}
 use Rattle.xt_base.specs.declared.steps.Step.{Step}
@@ -57,3 +57,20 @@ parsed_more script steps rest line after x parsed cut left same valid = more par
     more (inr none) c = absurd (left none.0)
     more (inl text) (inl c) = parsed_line script steps x after valid (text ∙ ap (λ t. script_text steps ++ t) (c ∙ (ap (λ t. t ++ 10 ∷ after) same ∙ line_before (line_of x) after))) parsed.valid
     more (inl text) (inr c) = subst (λ a. IsParsed script (steps ++ x ∷ []) a) (sym c.1) (parsed_last script steps x valid (text ∙ ap (λ t. script_text steps ++ t) (c.0 ∙ same)) parsed.valid)
+
+-- what was read up to a limit and did not reach it is all that was left
+pub taken_whole : (xs : List ℕ) (n : ℕ) → length (take n xs) < n → take n xs ≡ xs
+taken_whole [] zero short = refl
+taken_whole [] (suc n) short = refl
+taken_whole (x ∷ xs) zero short = absurd (not-suc-le-zero short)
+taken_whole (x ∷ xs) (suc n) short = ap (λ zs. x ∷ zs) (taken_whole xs n (le_of_suc-le-suc short))
+
+-- the same where what is left is known
+pub read_known : (left : Option (List ℕ)) (got : List ℕ) → IfSome (option_map (take 16777217) left) (λ xs. got ≡ xs) → length got ≤ 16777216 → IfSome left (λ bytes. got ≡ bytes)
+read_known None got read short = tt
+read_known (Some bytes) got read short = read ∙ taken_whole bytes 16777217 (subst (λ xs. length xs < 16777217) read (suc-le-suc short))
+
+-- the same by the reader and the limit that were given, after nothing
+pub read_whole : (left inner : Option (List ℕ)) (limit : ℕ) (before got : List ℕ) → inner ≡ left → limit ≡ 16777217 → before ≡ [] → IfSome (option_map (take limit) inner) (λ xs. got ≡ before ++ xs) → length got ≤ 16777216 → IfSome left (λ bytes. got ≡ bytes)
+read_whole left inner limit before got same whole none read short =
+  read_known left got (subst (λ i. IfSome (option_map (take 16777217) i) (λ xs. got ≡ xs)) same (subst (λ n. IfSome (option_map (take n) inner) (λ xs. got ≡ xs)) whole (subst (λ b. IfSome (option_map (take limit) inner) (λ xs. got ≡ b ++ xs)) none read))) short

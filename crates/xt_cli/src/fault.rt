@@ -1,5 +1,8 @@
 //! Why a script was not run to its end.
 
+ghost use Rattle.std.specs.Prelude.{◌≡◌};
+ghost use Rattle.xt_cli.specs.Script.{status_of};
+
 use std::alloc::AllocError;
 use std::io;
 use thiserror::Error;
@@ -19,4 +22,16 @@ pub enum ScriptFault {
     /// Memory was refused.
     #[error("fault: {0}")]
     Memory(#[from(alloc)] AllocError),
+}
+
+impl ScriptFault {
+    /// The exit status: 2 for a line that is no step's, else 1.
+    pub fn status(&self) -> u8
+        ensures { result ≡ status_of self.now }
+    {
+        match self {
+            ScriptFault::BadLine(_) => 2,
+            ScriptFault::TooLong | ScriptFault::Io(_) | ScriptFault::Memory(_) => 1,
+        }
+    }
 }

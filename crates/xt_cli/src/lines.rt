@@ -1,8 +1,8 @@
 //! The lines of a script, read and parsed.
 
-ghost use Rattle.std.specs.Prelude.{◌≡◌, ◌<◌, IfOk, IfSome, length, Some, slice_get};
+ghost use Rattle.std.specs.Prelude.{◌≡◌, ◌<◌, IfErr, IfOk, IfSome, length, Some, slice_get};
 ghost use Rattle.xt_base.specs.declared.steps.Step.{Step as AnyStep};
-ghost use Rattle.xt_cli.specs.Script.{IsScript, IsCut};
+ghost use Rattle.xt_cli.specs.Script.{IsBadIn, IsCut, IsScript};
 
 use crate::fault::ScriptFault;
 use std::alloc::{AllocError, Global};
@@ -15,6 +15,7 @@ use xt_text::parse::parse_line;
 pub const SCRIPT_BYTES: usize = 16_777_216;
 
 /// All that a reader has, if it is at most 16,777,216 bytes.
+#[tactic(auto, using(crate::proofs::ScriptLemmas::read_whole))]
 pub fn read_script<R: Read>(alloc: Global, reader: &mut R) -> Result<Vec<u8>, ScriptFault>
     ensures { IfOk result (λ script. IfSome (R.remaining reader.old) (λ bytes. script.items ≡ bytes)) }
 {
@@ -47,7 +48,8 @@ fn first_line(text: &[u8]) -> (&[u8], &[u8])
 
 /// The steps of the lines of a script. A newline at the very end opens no line.
 pub fn parse_script(alloc: Global, script: &[u8]) -> Result<Vec<Step>, ScriptFault>
-    ensures { IfOk result (λ steps. IsScript script.now steps.items) }
+    ensures steps { IfOk result (λ steps. IsScript script.now steps.items) }
+    ensures bad { IfErr result (λ fault. IsBadIn script.now fault) }
 {
     let mut steps = Vec::new(alloc);
     let mut rest = script;

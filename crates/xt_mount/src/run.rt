@@ -10,7 +10,7 @@ ghost use Rattle.xt_base.specs.Steps.{slot_of};
 ghost use Rattle.xt_mount.specs.Come.{has_come};
 ghost use Rattle.xt_mount.specs.Solo.{lone_of, step_has_come, IsFaultOne, IsMore};
 
-use crate::solo::{Solo, is_no_memory, slot_named};
+use crate::solo::{Solo, is_no_memory};
 use std::alloc::{AllocError, Global};
 use xt_base::names::JobKind;
 use xt_base::outcomes::{Outcomes, RunFault, Turn};
@@ -79,7 +79,7 @@ pub fn run_one(alloc: Global, steps: &[Step]) -> Result<Outcomes, RunFault>
     let Some(first) = steps.first() else {
         return Ok(outcomes);
     };
-    let mut solo = Solo::new(alloc, slot_named(first));
+    let mut solo = Solo::new(alloc, first.slot());
     for (at, step) in steps.iter().enumerate() {
         if !solo.can_take(step) {
             return Err(RunFault::Disorder {

@@ -39,18 +39,6 @@ pub struct Solo {
     pub hands: [Option<JobName>; 8],
 }
 
-/// The slot that a step names.
-pub fn slot_named(step: &Step) -> Slot
-    ensures { result ≡ slot_of step.now }
-{
-    match step {
-        Step::Mount { slot, .. } | Step::Call { slot, .. } => *slot,
-        Step::Post(name) | Step::Take { name, .. } | Step::Begin { name, .. } => name.slot,
-        Step::End { name, .. } | Step::Flush { name, .. } => name.slot,
-        Step::Show(slot) | Step::Peek(slot) => *slot,
-    }
-}
-
 /// Whether two kinds are one.
 fn is_same_kind(a: JobKind, b: JobKind) -> bool
     ensures { result ≡ same_kind a b }
@@ -274,7 +262,7 @@ impl Solo {
         ensures { result ≡ ((slot_of step.now == self.now.slot) && can_step self.now.queue.items (hand_of self.now) (lone_of self.now) step.now) }
     {
         let may_come = self.keeps_turn(step) && self.suits(step);
-        slot_named(step) == self.slot && may_come
+        step.slot() == self.slot && may_come
     }
 
     // ---- what steps do
