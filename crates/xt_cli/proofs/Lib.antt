@@ -1,2 +1,4 @@
 pub mod AppendLemmas
+pub mod ComeLemmas
 pub mod ScriptLemmas
+pub mod PlayLemmas

@@ -2,13 +2,16 @@
 use Rattle.std.proofs.Common.{add-one, le_of_suc-le-suc, suc-le-suc, not-suc-le-zero, inl, inr, suc, zero, ◌-◌, ◌≡◌, ◌∙◌, ◌+◌, ◌≤◌, ◌<◌, ◌≢◌, ◌⊎◌, ℕ, List, [], ◌∷◌, ◌++◌, Option, Some, None, sym, ap, subst, refl, length, take, drop, arith, append_assoc, append-nil, flat_map}
 use Rattle.std.proofs.lemmas.List.{flat_map_more, take_rest}
 use Rattle.std.specs.List.{slice_get}
-use Rattle.std.specs.Prelude.{IfSome, option_map, unwrap_or}
+use Rattle.std.specs.Prelude.{Err, IfSome, Result, option_map, unwrap_or}
 use Rattle.xt_base.proofs.MapLemmas.{some_none}
 use Rattle.xt_base.specs.Sound.{Each}
 use Rattle.xt_base.specs.declared.steps.Step.{Step}
 use Rattle.xt_cli.specs.Printing.{ended}
-use Rattle.xt_cli.specs.Script.{IsCut, IsParsed, script_text}
+use Rattle.xt_cli.specs.Script.{IsBadAt, IsBadLine, IsBadScript, IsCut, IsParsed, IsScript, script_text}
 use Rattle.xt_text.specs.Lines.{IsStep, line_of}
+use Rattle.xt_text.specs.Reading.{Gives}
+use Rattle.xt_text.specs.declared.bad_line.BadLine.{BadLine}
+use Rattle.xt_text.specs.declared.bad_line.BadLine.TheVariants.{Spelling}
 
 -- a list is cut at an element
 pub cut_at : {X : Type 0} (xs : List X) (i : ℕ) (x : X) → slice_get xs i ≡ Some x → xs ≡ take i xs ++ x ∷ drop (suc i) xs
@@ -66,11 +69,38 @@ taken_whole (x ∷ xs) zero short = absurd (not-suc-le-zero short)
 taken_whole (x ∷ xs) (suc n) short = ap (λ zs. x ∷ zs) (taken_whole xs n (le_of_suc-le-suc short))
 
 -- the same where what is left is known
-pub read_known : (left : Option (List ℕ)) (got : List ℕ) → IfSome (option_map (take 16777217) left) (λ xs. got ≡ xs) → length got ≤ 16777216 → IfSome left (λ bytes. got ≡ bytes)
-read_known None got read short = tt
-read_known (Some bytes) got read short = read ∙ taken_whole bytes 16777217 (subst (λ xs. length xs < 16777217) read (suc-le-suc short))
+pub read_whole : (left : Option (List ℕ)) (got : List ℕ) → IfSome left (λ bytes. got ≡ take 16777217 bytes) → length got ≤ 16777216 → IfSome left (λ bytes. got ≡ bytes)
+read_whole None got read short = tt
+read_whole (Some bytes) got read short = read ∙ taken_whole bytes 16777217 (subst (λ xs. length xs < 16777217) read (suc-le-suc short))
 
--- the same by the reader and the limit that were given, after nothing
-pub read_whole : (left inner : Option (List ℕ)) (limit : ℕ) (before got : List ℕ) → inner ≡ left → limit ≡ 16777217 → before ≡ [] → IfSome (option_map (take limit) inner) (λ xs. got ≡ before ++ xs) → length got ≤ 16777216 → IfSome left (λ bytes. got ≡ bytes)
-read_whole left inner limit before got same whole none read short =
-  read_known left got (subst (λ i. IfSome (option_map (take 16777217) i) (λ xs. got ≡ xs)) same (subst (λ n. IfSome (option_map (take n) inner) (λ xs. got ≡ xs)) whole (subst (λ b. IfSome (option_map (take limit) inner) (λ xs. got ≡ b ++ xs)) none read))) short
+-- what was read after nothing up to a limit
+pub read_limited : (left inner : Option (List ℕ)) (limit : ℕ) (before got : List ℕ) → inner ≡ left → limit ≡ 16777217 → before ≡ [] → IfSome (option_map (take limit) inner) (λ xs. got ≡ before ++ xs) → IfSome left (λ bytes. got ≡ take 16777217 bytes)
+read_limited left inner limit before got same whole none read =
+  known left (subst (λ i. IfSome (option_map (take 16777217) i) (λ xs. got ≡ xs)) same (subst (λ n. IfSome (option_map (take n) inner) (λ xs. got ≡ xs)) whole (subst (λ b. IfSome (option_map (take limit) inner) (λ xs. got ≡ b ++ xs)) none read)))
+  where
+    known : (l : Option (List ℕ)) → IfSome (option_map (take 16777217) l) (λ xs. got ≡ xs) → IfSome l (λ bytes. got ≡ take 16777217 bytes)
+    known None k = tt
+    known (Some bytes) k = k
+
+-- a line that is no step's follows the lines of steps
+pub bad_here : (script : List ℕ) (steps : List Step) (rest line after : List ℕ) → IsParsed script steps rest → IsCut rest line after → rest ≢ [] → IsBadLine line → IsBadScript script (length steps + 1)
+bad_here script steps rest line after parsed cut left bad = (steps , (line , (after , here parsed.text cut)))
+  where
+    at : (script ≡ script_text steps ++ line) ⊎ (script ≡ script_text steps ++ (ended line ++ after)) → IsBadAt script (length steps + 1) steps line after
+    at text = record { valid = parsed.valid; text = text; bad = bad; place = refl }
+    here : (script ≡ script_text steps ++ rest) ⊎ ((rest ≡ []) × (script ++ 10 ∷ [] ≡ script_text steps)) → IsCut rest line after → IsBadAt script (length steps + 1) steps line after
+    here (inr none) c = absurd (left none.0)
+    here (inl text) (inl c) = at (inr (text ∙ ap (λ t. script_text steps ++ t) (c ∙ line_before line after)))
+    here (inl text) (inr c) = at (inl (text ∙ ap (λ t. script_text steps ++ t) c.0))
+
+-- a line at which a parser says Spelling is no step's
+pub bad_line : (line : List ℕ) (found : Result Step BadLine) → ((x : Step) → IsStep x → line ≡ line_of x → Gives found (Some x)) → found ≡ Err Spelling → IsBadLine line
+bad_line line found only is x valid same = some_none x _ (subst (λ r. Gives r (Some x)) is (only x valid same))
+
+-- all that was read
+pub all_parsed : (script : List ℕ) (steps : List Step) (rest : List ℕ) → IsParsed script steps rest → rest ≡ [] → IsScript script steps
+all_parsed script steps rest parsed none = record { valid = parsed.valid; text = whole parsed.text }
+  where
+    whole : (script ≡ script_text steps ++ rest) ⊎ ((rest ≡ []) × (script ++ 10 ∷ [] ≡ script_text steps)) → (script ≡ script_text steps) ⊎ (script ++ 10 ∷ [] ≡ script_text steps)
+    whole (inl text) = inl (text ∙ (ap (λ t. script_text steps ++ t) none ∙ append-nil (script_text steps)))
+    whole (inr last) = inr last.1

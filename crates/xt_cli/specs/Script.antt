@@ -1,5 +1,5 @@
 -- What a script says, and what is printed of its run.
-use Rattle.std.specs.Prelude.{List, Option, None, Some, [], flat_map, length, ℕ, ◌+◌, ◌++◌, ◌<◌, ◌≡◌, ◌≢◌, ◌∷◌, ◌⊎◌}
+use Rattle.std.specs.Prelude.{Bool, List, Option, None, Some, [], false, flat_map, length, true, ℕ, ◌+◌, ◌++◌, ◌<◌, ◌≡◌, ◌≢◌, ◌∷◌, ◌⊎◌}
 use Rattle.std.specs.Io.KnownBytes.{Appends, Keeps}
 use Rattle.xt_base.specs.Isolation.{BreaksOne, TellsOne, Told}
 use Rattle.xt_base.specs.Sound.{Each}
@@ -35,7 +35,7 @@ IsBadLine line = (x : Step) → IsStep x → line ≢ line_of x
 -- the first line of a script that is no step's, counted from 1, comes after the lines of these steps
 pub record IsBadAt (script : List ℕ) (number : ℕ) (steps : List Step) (line rest : List ℕ) : Type 0 where
   pub valid : Each IsStep steps
-  pub text : (script ≡ script_text steps ++ line) ⊎ (script ≡ script_text steps ++ ended line ++ rest)
+  pub text : (script ≡ script_text steps ++ line) ⊎ (script ≡ script_text steps ++ (ended line ++ rest))
   pub bad : IsBadLine line
   pub place : number ≡ length steps + 1
 
@@ -84,3 +84,8 @@ IsFault script old new other = Unit {0}
 abbrev pub status_of : ScriptFault → ℕ
 status_of (BadLine number) = 2
 status_of other = 1
+
+-- whether a fault is that of a line
+abbrev pub is_bad : ScriptFault → Bool
+is_bad (BadLine number) = true
+is_bad other = false

@@ -1,12 +1,12 @@
 //! The lines of a script, read and parsed.
 
-ghost use Rattle.std.specs.Prelude.{◌≡◌, ◌<◌, IfErr, IfOk, IfSome, length, Some, slice_get};
+ghost use Rattle.std.specs.Prelude.{◌≡◌, ◌<◌, IfErr, IfOk, IfSome, length, false, Some, slice_get, take};
 ghost use Rattle.xt_base.specs.declared.steps.Step.{Step as AnyStep};
-ghost use Rattle.xt_cli.specs.Script.{IsBadIn, IsCut, IsScript};
+ghost use Rattle.xt_cli.specs.Script.{is_bad, IsBadIn, IsCut, IsScript};
 
 use crate::fault::ScriptFault;
 use std::alloc::{AllocError, Global};
-use std::io::Read;
+use std::io::{self, Read};
 use xt_base::steps::Step;
 use xt_text::bad_line::BadLine;
 use xt_text::parse::parse_line;
@@ -14,13 +14,22 @@ use xt_text::parse::parse_line;
 /// The most bytes of a script.
 pub const SCRIPT_BYTES: usize = 16_777_216;
 
+/// What a reader has, up to a byte more than a script may have.
+fn read_up_to<R: Read>(alloc: Global, reader: &mut R) -> io::Result<Vec<u8>>
+    ensures { IfOk result (λ got. IfSome (R.remaining reader.old) (λ bytes. got.items ≡ take 16777217 bytes)) }
+{
+    let mut got = Vec::new(alloc);
+    Read::take(reader, SCRIPT_BYTES as u64 + 1).read_to_end(&mut got)?;
+    Ok(got)
+}
+
 /// All that a reader has, if it is at most 16,777,216 bytes.
 #[tactic(auto, using(crate::proofs::ScriptLemmas::read_whole))]
 pub fn read_script<R: Read>(alloc: Global, reader: &mut R) -> Result<Vec<u8>, ScriptFault>
-    ensures { IfOk result (λ script. IfSome (R.remaining reader.old) (λ bytes. script.items ≡ bytes)) }
+    ensures whole { IfOk result (λ script. IfSome (R.remaining reader.old) (λ bytes. script.items ≡ bytes)) }
+    ensures fault { IfErr result (λ fault. is_bad fault ≡ false) }
 {
-    let mut script = Vec::new(alloc);
-    Read::take(reader, SCRIPT_BYTES as u64 + 1).read_to_end(&mut script)?;
+    let script = read_up_to(alloc, reader).map_err(ScriptFault::Io)?;
     if script.len() > SCRIPT_BYTES {
         return Err(ScriptFault::TooLong);
     }
@@ -56,7 +65,9 @@ pub fn parse_script(alloc: Global, script: &[u8]) -> Result<Vec<Step>, ScriptFau
     while !rest.is_empty() {
         let (line, after) = first_line(rest);
         match parse_line(alloc, line) {
-            Ok(step) => steps.push(step)?,
+            Ok(step) => steps
+                .push(step)
+                .map_err(|_| ScriptFault::Memory(AllocError))?,
             Err(BadLine::Spelling) => return Err(ScriptFault::BadLine(steps.len() + 1)),
             Err(BadLine::Memory) => return Err(ScriptFault::Memory(AllocError)),
         }

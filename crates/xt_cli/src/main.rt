@@ -4,6 +4,7 @@
 mod fault;
 mod lines;
 mod printing;
+mod script;
 
 use std::io;
 

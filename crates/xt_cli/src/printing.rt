@@ -67,8 +67,17 @@ fn print_line<W: Write>(writer: &mut W, text: &mut Text) -> io::Result<()>
     writer.write_all(text.bytes())
 }
 
-/// Prints which step broke order, counted from 1.
-pub fn print_disorder<W: Write>(writer: &mut W, at: usize) -> io::Result<()>
+/// Prints what the steps before one that breaks order said, and its place, counted from 1.
+pub fn print_broken<W: Write>(alloc: Global, writer: &mut W, turns: &[Turn], at: usize) -> io::Result<()>
+    requires { at < 18446744073709551615 }
+    ensures { OnOk result (Appends (W.contents writer.old) (W.contents writer.new) (turns_text turns.now ++ disorder_text at)) }
+{
+    print_turns(alloc, writer, turns)?;
+    print_disorder(writer, at)
+}
+
+/// Prints which step breaks order, counted from 1.
+fn print_disorder<W: Write>(writer: &mut W, at: usize) -> io::Result<()>
     requires { at < 18446744073709551615 }
     ensures { OnOk result (Appends (W.contents writer.old) (W.contents writer.new) (disorder_text at)) }
 {
