@@ -1,0 +1,9 @@
+//! Devices: what a log or a home device is asked, what it answers, and what was offered to it.
+#![tactic(auto)]
+
+mod failures;
+pub mod fault;
+pub mod log;
+pub mod mem_log;
+pub mod offer;
+pub mod record;

@@ -1,0 +1,69 @@
+//! A log device in memory.
+
+ghost use Rattle.std.specs.Prelude.{◌≡◌, ◌≤◌, [], true, length, IfSome};
+ghost use Rattle.xt_base.specs.declared.steps.LogOffer.{LogOffer};
+
+use crate::fault::DevFault;
+use crate::log::LogDevice;
+use crate::record::Record;
+use std::alloc::Global;
+use xt_base::content::Data;
+use xt_base::steps::LogOffer;
+
+/// A log in memory. It never fails, and tells what it was offered until a record finds no
+/// memory; then it tells no more, and answers as before.
+#[derive(Drop)]
+pub struct MemLog {
+    alloc: Global,
+    kept: Record<LogOffer>,
+}
+
+impl MemLog {
+    /// A log to which nothing was offered.
+    pub fn new(alloc: Global) -> Self
+        ensures tells { ⟦<MemLog as LogDevice>⟧.log_tells result ≡ true }
+        ensures taken { ⟦<MemLog as LogDevice>⟧.log_taken result ≡ [] }
+        ensures failures { ⟦<MemLog as LogDevice>⟧.log_failures result ≡ 0 }
+    {
+        MemLog {
+            alloc,
+            kept: Record::new(alloc),
+        }
+    }
+
+    /// What it was offered, in order; None where it tells no more.
+    pub fn taken(&self) -> Option<&[LogOffer]>
+        ensures told { ⟦<MemLog as LogDevice>⟧.log_tells self.now ≡ true → IfSome result (λ offers. offers.now ≡ ⟦<MemLog as LogDevice>⟧.log_taken self.now) }
+        ensures silent { IfSome result (λ _. ⟦<MemLog as LogDevice>⟧.log_tells self.now ≡ true) }
+    {
+        self.kept.told()
+    }
+}
+
+impl LogDevice for MemLog {
+    ghost log_tells = { λ d. d.kept.tells };
+
+    ghost log_taken = { λ d. d.kept.calls.items };
+
+    ghost log_failures = { λ _. 0 };
+
+    fn append(&mut self, piece: &[u8]) -> Result<(), DevFault> {
+        let call = piece_offer(self.alloc, piece, true);
+        self.kept.note(call);
+        Ok(())
+    }
+
+    fn sync(&mut self) -> Result<(), DevFault> {
+        self.kept.note(Some(LogOffer::Sync { ok: true }));
+        Ok(())
+    }
+}
+
+/// A piece as a record says it; None where there is no memory for it.
+pub(crate) fn piece_offer(alloc: Global, piece: &[u8], ok: bool) -> Option<LogOffer>
+    requires short { length piece.now ≤ 4096 }
+    ensures { IfSome result (λ offer. offer ≡ LogOffer.Piece piece.now ok) }
+{
+    let bytes = Data::of(piece.to_vec(alloc).ok()?)?;
+    Some(LogOffer::Piece { bytes, ok })
+}
