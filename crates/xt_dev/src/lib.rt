@@ -9,4 +9,5 @@ pub mod log;
 pub mod mem_home;
 pub mod mem_log;
 pub mod offer;
+pub mod offer_home;
 pub mod record;
