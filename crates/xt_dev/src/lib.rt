@@ -2,6 +2,8 @@
 #![tactic(auto)]
 
 pub mod call;
+mod copies;
+pub mod fail_at;
 mod failures;
 pub mod fault;
 pub mod home;

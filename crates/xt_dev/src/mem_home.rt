@@ -8,6 +8,7 @@ ghost use Rattle.xt_dev.specs.Devices.{Tells, failures_after};
 ghost use Rattle.xt_dev.specs.declared.call.HomeCall.{HomeCall};
 
 use crate::call::HomeCall;
+use crate::copies::{content_of, read_call, write_call};
 use crate::failures::Failures;
 use crate::fault::DevFault;
 use crate::home::HomeDevice;
@@ -128,33 +129,4 @@ impl HomeDevice for MemHome {
             .note(Some(HomeCall::Offer(HomeOffer::Sync { ok: true })));
         Ok(())
     }
-}
-
-/// A copy of the content of a block; None where there is no memory for it.
-fn content_of(alloc: Global, content: &[u8]) -> Option<Content>
-    requires whole { length content.now ≡ 4096 }
-    ensures { IfSome result (λ copy. copy ≡ content.now) }
-{
-    Content::of(content.to_vec(alloc).ok()?).ok()
-}
-
-/// A read that did not fail, as a record says it; None where there is no memory for it.
-pub(crate) fn read_call(alloc: Global, block: Block, content: &[u8]) -> Option<HomeCall>
-    requires whole { length content.now ≡ 4096 }
-    ensures { IfSome result (λ call. call ≡ HomeCall.Read block (Some content.now)) }
-{
-    let content = content_of(alloc, content)?;
-    Some(HomeCall::Read {
-        block,
-        content: Some(content),
-    })
-}
-
-/// A write as a record says it; None where there is no memory for it.
-pub(crate) fn write_call(alloc: Global, block: Block, content: &[u8], ok: bool) -> Option<HomeCall>
-    requires whole { length content.now ≡ 4096 }
-    ensures { IfSome result (λ call. call ≡ HomeCall.Offer (HomeOffer.Write block content.now ok)) }
-{
-    let content = content_of(alloc, content)?;
-    Some(HomeCall::Offer(HomeOffer::Write { block, content, ok }))
 }

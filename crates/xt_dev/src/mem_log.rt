@@ -3,11 +3,11 @@
 ghost use Rattle.std.specs.Prelude.{◌≡◌, ◌≤◌, [], true, length, IfSome};
 ghost use Rattle.xt_base.specs.declared.steps.LogOffer.{LogOffer};
 
+use crate::copies::piece_offer;
 use crate::fault::DevFault;
 use crate::log::LogDevice;
 use crate::record::Record;
 use std::alloc::Global;
-use xt_base::content::Data;
 use xt_base::steps::LogOffer;
 
 /// A log in memory. It never fails, and tells what it was offered until a record finds no
@@ -57,13 +57,4 @@ impl LogDevice for MemLog {
         self.kept.note(Some(LogOffer::Sync { ok: true }));
         Ok(())
     }
-}
-
-/// A piece as a record says it; None where there is no memory for it.
-pub(crate) fn piece_offer(alloc: Global, piece: &[u8], ok: bool) -> Option<LogOffer>
-    requires short { length piece.now ≤ 4096 }
-    ensures { IfSome result (λ offer. offer ≡ LogOffer.Piece piece.now ok) }
-{
-    let bytes = Data::of(piece.to_vec(alloc).ok()?)?;
-    Some(LogOffer::Piece { bytes, ok })
 }
