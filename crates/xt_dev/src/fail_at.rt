@@ -90,7 +90,7 @@ impl<D: HomeDevice> FailAt<D, HomeCall> {
     }
 
     /// Its calls, in order; None where it tells no more.
-    pub fn calls(&self) -> Option<&[HomeCall]>
+    pub fn taken(&self) -> Option<&[HomeCall]>
         ensures told { ⟦<FailAt<D, HomeCall> as HomeDevice>⟧.home_tells self.now ≡ true → IfSome result (λ calls. calls.now ≡ ⟦<FailAt<D, HomeCall> as HomeDevice>⟧.home_taken self.now) }
         ensures silent { IfSome result (λ _. ⟦<FailAt<D, HomeCall> as HomeDevice>⟧.home_tells self.now ≡ true) }
     {

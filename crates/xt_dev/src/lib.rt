@@ -13,3 +13,5 @@ pub mod mem_log;
 pub mod offer;
 pub mod offer_home;
 pub mod record;
+#[cfg(test)]
+mod tests;
