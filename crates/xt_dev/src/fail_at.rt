@@ -1,6 +1,6 @@
 //! A device that fails once.
 
-ghost use Rattle.std.specs.Prelude.{◌≡◌, ◌≢◌, ◌≤◌, ◌<◌, ◌-◌, ◌+◌, ◌==◌, ◌∷◌, [], true, length, IfSome, IsErr, is_ok, if◌then◌else◌};
+ghost use Rattle.std.specs.Prelude.{◌≡◌, ◌≢◌, ◌≤◌, ◌<◌, ◌-◌, ◌+◌, ◌==◌, ◌∷◌, [], true, length, IfSome, IsSomeAnd, IsErr, is_ok, if◌then◌else◌};
 ghost use Rattle.xt_base.specs.declared.steps.HomeOffer.{HomeOffer};
 ghost use Rattle.xt_base.specs.declared.steps.LogOffer.{LogOffer};
 ghost use Rattle.xt_dev.specs.Devices.{Tells, failures_after};
@@ -69,7 +69,7 @@ impl<D: LogDevice> FailAt<D, LogOffer> {
 
     /// Its calls, in order; None where it tells no more.
     pub fn taken(&self) -> Option<&[LogOffer]>
-        ensures told { ⟦<FailAt<D, LogOffer> as LogDevice>⟧.log_tells self.now ≡ true → IfSome result (λ offers. offers.now ≡ ⟦<FailAt<D, LogOffer> as LogDevice>⟧.log_taken self.now) }
+        ensures told { ⟦<FailAt<D, LogOffer> as LogDevice>⟧.log_tells self.now ≡ true → IsSomeAnd result (λ offers. offers.now ≡ ⟦<FailAt<D, LogOffer> as LogDevice>⟧.log_taken self.now) }
         ensures silent { IfSome result (λ _. ⟦<FailAt<D, LogOffer> as LogDevice>⟧.log_tells self.now ≡ true) }
     {
         self.kept.told()
@@ -91,7 +91,7 @@ impl<D: HomeDevice> FailAt<D, HomeCall> {
 
     /// Its calls, in order; None where it tells no more.
     pub fn taken(&self) -> Option<&[HomeCall]>
-        ensures told { ⟦<FailAt<D, HomeCall> as HomeDevice>⟧.home_tells self.now ≡ true → IfSome result (λ calls. calls.now ≡ ⟦<FailAt<D, HomeCall> as HomeDevice>⟧.home_taken self.now) }
+        ensures told { ⟦<FailAt<D, HomeCall> as HomeDevice>⟧.home_tells self.now ≡ true → IsSomeAnd result (λ calls. calls.now ≡ ⟦<FailAt<D, HomeCall> as HomeDevice>⟧.home_taken self.now) }
         ensures silent { IfSome result (λ _. ⟦<FailAt<D, HomeCall> as HomeDevice>⟧.home_tells self.now ≡ true) }
     {
         self.kept.told()

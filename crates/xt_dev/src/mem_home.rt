@@ -1,6 +1,6 @@
 //! A home device in memory.
 
-ghost use Rattle.std.specs.Prelude.{◌≡◌, ◌∷◌, [], true, false, length, IsOk, IfSome, OnOk, OnErr, is_ok, if◌then◌else◌};
+ghost use Rattle.std.specs.Prelude.{◌≡◌, ◌∷◌, [], true, false, length, IsOk, IfSome, IsSomeAnd, OnOk, OnErr, is_ok, if◌then◌else◌};
 ghost use Rattle.xt_base.specs.Maps.{put};
 ghost use Rattle.xt_base.specs.Text.{content_at};
 ghost use Rattle.xt_base.specs.declared.steps.HomeOffer.{HomeOffer};
@@ -49,7 +49,7 @@ impl MemHome {
 
     /// Its calls, in order; None where it tells no more.
     pub fn taken(&self) -> Option<&[HomeCall]>
-        ensures told { ⟦<MemHome as HomeDevice>⟧.home_tells self.now ≡ true → IfSome result (λ calls. calls.now ≡ ⟦<MemHome as HomeDevice>⟧.home_taken self.now) }
+        ensures told { ⟦<MemHome as HomeDevice>⟧.home_tells self.now ≡ true → IsSomeAnd result (λ calls. calls.now ≡ ⟦<MemHome as HomeDevice>⟧.home_taken self.now) }
         ensures silent { IfSome result (λ _. ⟦<MemHome as HomeDevice>⟧.home_tells self.now ≡ true) }
     {
         self.kept.told()

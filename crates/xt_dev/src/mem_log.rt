@@ -1,7 +1,6 @@
 //! A log device in memory.
 
-ghost use Rattle.std.specs.Prelude.{◌≡◌, ◌≤◌, [], true, length, IfSome};
-ghost use Rattle.xt_base.specs.declared.steps.LogOffer.{LogOffer};
+ghost use Rattle.std.specs.Prelude.{◌≡◌, [], true, IfSome, IsSomeAnd};
 
 use crate::copies::piece_offer;
 use crate::fault::DevFault;
@@ -33,7 +32,7 @@ impl MemLog {
 
     /// What it was offered, in order; None where it tells no more.
     pub fn taken(&self) -> Option<&[LogOffer]>
-        ensures told { ⟦<MemLog as LogDevice>⟧.log_tells self.now ≡ true → IfSome result (λ offers. offers.now ≡ ⟦<MemLog as LogDevice>⟧.log_taken self.now) }
+        ensures told { ⟦<MemLog as LogDevice>⟧.log_tells self.now ≡ true → IsSomeAnd result (λ offers. offers.now ≡ ⟦<MemLog as LogDevice>⟧.log_taken self.now) }
         ensures silent { IfSome result (λ _. ⟦<MemLog as LogDevice>⟧.log_tells self.now ≡ true) }
     {
         self.kept.told()

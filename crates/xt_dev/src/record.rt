@@ -1,6 +1,6 @@
 //! A record of calls, kept as long as there is memory for it.
 
-ghost use Rattle.std.specs.Prelude.{◌≡◌, ◌++◌, ◌∷◌, [], true, IfSome, IfNone, IsNone};
+ghost use Rattle.std.specs.Prelude.{◌≡◌, ◌++◌, ◌∷◌, [], true, IfSome, IsSomeAnd, IsNone};
 
 use std::alloc::Global;
 
@@ -25,7 +25,7 @@ impl<C: Drop> Record<C> {
 
     /// The calls, where it still tells them.
     pub fn told(&self) -> Option<&[C]>
-        ensures told { self.now.tells ≡ true → IfSome result (λ calls. calls.now ≡ self.now.calls.items) }
+        ensures told { self.now.tells ≡ true → IsSomeAnd result (λ calls. calls.now ≡ self.now.calls.items) }
         ensures silent { IfSome result (λ _. self.now.tells ≡ true) }
     {
         if self.tells { Some(&self.calls) } else { None }
