@@ -110,9 +110,10 @@ impl<D: LogDevice> LogDevice for FailAt<D, LogOffer> {
         ensures told { Tells (⟦<FailAt<D, LogOffer> as LogDevice>⟧.log_tells self.old) (⟦<FailAt<D, LogOffer> as LogDevice>⟧.log_taken self.old) (LogOffer.Piece piece.now (is_ok result) ∷ []) (⟦<FailAt<D, LogOffer> as LogDevice>⟧.log_tells self.new) (⟦<FailAt<D, LogOffer> as LogDevice>⟧.log_taken self.new) }
         ensures failures { ⟦<FailAt<D, LogOffer> as LogDevice>⟧.log_failures self.new ≡ failures_after (is_ok result) (⟦<FailAt<D, LogOffer> as LogDevice>⟧.log_failures self.old) }
         ensures left { self.new.left ≡ self.old.left - 1 }
-        ensures fails { self.old.left ≡ 1 → IsErr result × (self.new.device ≡ self.old.device) }
-        ensures goes_on { self.old.left ≢ 1 → Tells (D.log_tells self.old.device) (D.log_taken self.old.device) (LogOffer.Piece piece.now (is_ok result) ∷ []) (D.log_tells self.new.device) (D.log_taken self.new.device)
-            × (D.log_failures self.new.device ≡ failures_after (is_ok result) (D.log_failures self.old.device)) }
+        ensures fails { self.old.left ≡ 1 → IsErr result }
+        ensures kept_back { self.old.left ≡ 1 → self.new.device ≡ self.old.device }
+        ensures handed_on { self.old.left ≢ 1 → Tells (D.log_tells self.old.device) (D.log_taken self.old.device) (LogOffer.Piece piece.now (is_ok result) ∷ []) (D.log_tells self.new.device) (D.log_taken self.new.device) }
+        ensures answered { self.old.left ≢ 1 → D.log_failures self.new.device ≡ failures_after (is_ok result) (D.log_failures self.old.device) }
     {
         let answer = if self.is_due() {
             Err(DevFault)
@@ -128,9 +129,10 @@ impl<D: LogDevice> LogDevice for FailAt<D, LogOffer> {
         ensures told { Tells (⟦<FailAt<D, LogOffer> as LogDevice>⟧.log_tells self.old) (⟦<FailAt<D, LogOffer> as LogDevice>⟧.log_taken self.old) (LogOffer.Sync (is_ok result) ∷ []) (⟦<FailAt<D, LogOffer> as LogDevice>⟧.log_tells self.new) (⟦<FailAt<D, LogOffer> as LogDevice>⟧.log_taken self.new) }
         ensures failures { ⟦<FailAt<D, LogOffer> as LogDevice>⟧.log_failures self.new ≡ failures_after (is_ok result) (⟦<FailAt<D, LogOffer> as LogDevice>⟧.log_failures self.old) }
         ensures left { self.new.left ≡ self.old.left - 1 }
-        ensures fails { self.old.left ≡ 1 → IsErr result × (self.new.device ≡ self.old.device) }
-        ensures goes_on { self.old.left ≢ 1 → Tells (D.log_tells self.old.device) (D.log_taken self.old.device) (LogOffer.Sync (is_ok result) ∷ []) (D.log_tells self.new.device) (D.log_taken self.new.device)
-            × (D.log_failures self.new.device ≡ failures_after (is_ok result) (D.log_failures self.old.device)) }
+        ensures fails { self.old.left ≡ 1 → IsErr result }
+        ensures kept_back { self.old.left ≡ 1 → self.new.device ≡ self.old.device }
+        ensures handed_on { self.old.left ≢ 1 → Tells (D.log_tells self.old.device) (D.log_taken self.old.device) (LogOffer.Sync (is_ok result) ∷ []) (D.log_tells self.new.device) (D.log_taken self.new.device) }
+        ensures answered { self.old.left ≢ 1 → D.log_failures self.new.device ≡ failures_after (is_ok result) (D.log_failures self.old.device) }
     {
         let answer = if self.is_due() {
             Err(DevFault)
@@ -155,9 +157,10 @@ impl<D: HomeDevice> HomeDevice for FailAt<D, HomeCall> {
         ensures told { Tells (⟦<FailAt<D, HomeCall> as HomeDevice>⟧.home_tells self.old) (⟦<FailAt<D, HomeCall> as HomeDevice>⟧.home_taken self.old) (HomeCall.Read block (if is_ok result then Some into.new else None) ∷ []) (⟦<FailAt<D, HomeCall> as HomeDevice>⟧.home_tells self.new) (⟦<FailAt<D, HomeCall> as HomeDevice>⟧.home_taken self.new) }
         ensures failures { ⟦<FailAt<D, HomeCall> as HomeDevice>⟧.home_failures self.new ≡ failures_after (is_ok result) (⟦<FailAt<D, HomeCall> as HomeDevice>⟧.home_failures self.old) }
         ensures left { self.new.left ≡ self.old.left - 1 }
-        ensures fails { self.old.left ≡ 1 → IsErr result × (self.new.device ≡ self.old.device) }
-        ensures goes_on { self.old.left ≢ 1 → Tells (D.home_tells self.old.device) (D.home_taken self.old.device) (HomeCall.Read block (if is_ok result then Some into.new else None) ∷ []) (D.home_tells self.new.device) (D.home_taken self.new.device)
-            × (D.home_failures self.new.device ≡ failures_after (is_ok result) (D.home_failures self.old.device)) }
+        ensures fails { self.old.left ≡ 1 → IsErr result }
+        ensures kept_back { self.old.left ≡ 1 → self.new.device ≡ self.old.device }
+        ensures handed_on { self.old.left ≢ 1 → Tells (D.home_tells self.old.device) (D.home_taken self.old.device) (HomeCall.Read block (if is_ok result then Some into.new else None) ∷ []) (D.home_tells self.new.device) (D.home_taken self.new.device) }
+        ensures answered { self.old.left ≢ 1 → D.home_failures self.new.device ≡ failures_after (is_ok result) (D.home_failures self.old.device) }
     {
         let answer = if self.is_due() {
             Err(DevFault)
@@ -180,9 +183,10 @@ impl<D: HomeDevice> HomeDevice for FailAt<D, HomeCall> {
         ensures told { Tells (⟦<FailAt<D, HomeCall> as HomeDevice>⟧.home_tells self.old) (⟦<FailAt<D, HomeCall> as HomeDevice>⟧.home_taken self.old) (HomeCall.Offer (HomeOffer.Write block content.now (is_ok result)) ∷ []) (⟦<FailAt<D, HomeCall> as HomeDevice>⟧.home_tells self.new) (⟦<FailAt<D, HomeCall> as HomeDevice>⟧.home_taken self.new) }
         ensures failures { ⟦<FailAt<D, HomeCall> as HomeDevice>⟧.home_failures self.new ≡ failures_after (is_ok result) (⟦<FailAt<D, HomeCall> as HomeDevice>⟧.home_failures self.old) }
         ensures left { self.new.left ≡ self.old.left - 1 }
-        ensures fails { self.old.left ≡ 1 → IsErr result × (self.new.device ≡ self.old.device) }
-        ensures goes_on { self.old.left ≢ 1 → Tells (D.home_tells self.old.device) (D.home_taken self.old.device) (HomeCall.Offer (HomeOffer.Write block content.now (is_ok result)) ∷ []) (D.home_tells self.new.device) (D.home_taken self.new.device)
-            × (D.home_failures self.new.device ≡ failures_after (is_ok result) (D.home_failures self.old.device)) }
+        ensures fails { self.old.left ≡ 1 → IsErr result }
+        ensures kept_back { self.old.left ≡ 1 → self.new.device ≡ self.old.device }
+        ensures handed_on { self.old.left ≢ 1 → Tells (D.home_tells self.old.device) (D.home_taken self.old.device) (HomeCall.Offer (HomeOffer.Write block content.now (is_ok result)) ∷ []) (D.home_tells self.new.device) (D.home_taken self.new.device) }
+        ensures answered { self.old.left ≢ 1 → D.home_failures self.new.device ≡ failures_after (is_ok result) (D.home_failures self.old.device) }
     {
         let answer = if self.is_due() {
             Err(DevFault)
@@ -198,9 +202,10 @@ impl<D: HomeDevice> HomeDevice for FailAt<D, HomeCall> {
         ensures told { Tells (⟦<FailAt<D, HomeCall> as HomeDevice>⟧.home_tells self.old) (⟦<FailAt<D, HomeCall> as HomeDevice>⟧.home_taken self.old) (HomeCall.Offer (HomeOffer.Sync (is_ok result)) ∷ []) (⟦<FailAt<D, HomeCall> as HomeDevice>⟧.home_tells self.new) (⟦<FailAt<D, HomeCall> as HomeDevice>⟧.home_taken self.new) }
         ensures failures { ⟦<FailAt<D, HomeCall> as HomeDevice>⟧.home_failures self.new ≡ failures_after (is_ok result) (⟦<FailAt<D, HomeCall> as HomeDevice>⟧.home_failures self.old) }
         ensures left { self.new.left ≡ self.old.left - 1 }
-        ensures fails { self.old.left ≡ 1 → IsErr result × (self.new.device ≡ self.old.device) }
-        ensures goes_on { self.old.left ≢ 1 → Tells (D.home_tells self.old.device) (D.home_taken self.old.device) (HomeCall.Offer (HomeOffer.Sync (is_ok result)) ∷ []) (D.home_tells self.new.device) (D.home_taken self.new.device)
-            × (D.home_failures self.new.device ≡ failures_after (is_ok result) (D.home_failures self.old.device)) }
+        ensures fails { self.old.left ≡ 1 → IsErr result }
+        ensures kept_back { self.old.left ≡ 1 → self.new.device ≡ self.old.device }
+        ensures handed_on { self.old.left ≢ 1 → Tells (D.home_tells self.old.device) (D.home_taken self.old.device) (HomeCall.Offer (HomeOffer.Sync (is_ok result)) ∷ []) (D.home_tells self.new.device) (D.home_taken self.new.device) }
+        ensures answered { self.old.left ≢ 1 → D.home_failures self.new.device ≡ failures_after (is_ok result) (D.home_failures self.old.device) }
     {
         let answer = if self.is_due() {
             Err(DevFault)
