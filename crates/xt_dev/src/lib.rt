@@ -1,0 +1,17 @@
+//! Devices: what a log or a home device is asked, what it answers, and what was offered to it.
+#![tactic(auto)]
+
+pub mod call;
+mod copies;
+pub mod fail_at;
+mod failures;
+pub mod fault;
+pub mod home;
+pub mod log;
+pub mod mem_home;
+pub mod mem_log;
+pub mod offer;
+pub mod offer_home;
+pub mod record;
+#[cfg(test)]
+mod tests;
