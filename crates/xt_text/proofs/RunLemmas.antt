@@ -1,9 +1,12 @@
 -- Runs of equal bytes.
-use Rattle.std.proofs.Common.{Bool, List, [], arith, drop, eqb, false, get_or, length, one-add, refl, sym, subst, replicate, ◌++◌, add-one, true, ℕ, ◌+◌, ◌<◌, ◌≡◌, ◌∷◌}
+use Rattle.std.proofs.Common.{ap, ap₂, cond, nat_eq, take, take-append-drop, ◌∙◌, Bool, List, [], arith, drop, eqb, false, get_or, length, one-add, refl, sym, subst, replicate, ◌++◌, add-one, true, ℕ, ◌+◌, ◌<◌, ◌≡◌, ◌∷◌}
 use Rattle.std.proofs.lemmas.Bool.{eq-eqb, eqb-true}
 use Rattle.std.proofs.lemmas.List.Concat.{flat_map-append}
 use Rattle.std.proofs.lemmas.List.{replicate_more}
+use Rattle.std.proofs.lemmas.List.Folds.{prefix_len-append, prefix_len-replicate}
+use Rattle.std.specs.Cmp.Lexicographic.{pointwise, same_text}
 use Rattle.std.specs.List.{flat_map, prefix_len}
+
 use Rattle.xt_text.specs.DataText.{hex, runs}
 use Rattle.xt_text.specs.declared.data_text.Run.{Run}
 
@@ -46,3 +49,15 @@ first_count (y ∷ ys) some = rw (eq-eqb y y refl) (omega arith)
 -- the digits of a byte repeated once more
 pub hex_more : (byte n : ℕ) → flat_map hex (replicate (n + 1) byte) ≡ flat_map hex (replicate n byte) ++ hex byte
 hex_more byte n = rw (← replicate_more n byte, flat_map-append hex (replicate n byte) (byte ∷ [])) refl
+
+-- a block of equal bytes at the front counts whole
+pub block_more : (byte : ℕ) (rest after : List ℕ) → rest ≡ replicate 64 byte ++ after → prefix_len (λ x. eqb x byte) rest ≡ 64 + prefix_len (λ x. eqb x byte) after
+block_more byte rest after is =
+  ap (λ xs. prefix_len (λ x. eqb x byte) xs) is
+  ∙ prefix_len-append (λ x. eqb x byte) (replicate 64 byte) after
+  ∙ ap (λ n. cond (eqb n 64) (64 + prefix_len (λ x. eqb x byte) after) n) (prefix_len-replicate (λ x. eqb x byte) 64 byte (eq-eqb byte byte refl))
+
+-- what starts with a block of equal bytes
+pub block_front : (byte : ℕ) (block bytes after : List ℕ) → pointwise nat_eq (take (length block) bytes) block ≡ true → after ≡ drop (length block) bytes → block ≡ replicate 64 byte → bytes ≡ replicate 64 byte ++ after
+block_front byte block bytes after same rest is =
+  sym (take-append-drop (length block) bytes) ∙ ap₂ (λ a b. a ++ b) (same_text (take (length block) bytes) block (sym same) ∙ is) (sym rest)

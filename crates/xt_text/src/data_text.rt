@@ -1,7 +1,7 @@
 //! Data as text, both ways. A list of bytes is cut into maximal runs of equal bytes. A run of four or more is
 //! `XX*N`, shorter ones are plain digits, and a dot stands between neighbours unless both are short; no bytes are `-`.
 
-ghost use Rattle.std.specs.Prelude.{◌≡◌, ◌==◌, ◌<◌, ◌≤◌, ◌∷◌, List, ℕ, length, drop, IfSome, IfOk};
+ghost use Rattle.std.specs.Prelude.{◌≡◌, ◌==◌, ◌<◌, ◌≤◌, ◌++◌, ◌∷◌, List, ℕ, length, drop, replicate, IfSome, IfOk};
 ghost use Rattle.std.specs.List.{All, prefix_len};
 ghost use Rattle.xt_text.specs.Buffer.{put};
 ghost use Rattle.xt_text.specs.DataReading.{at_end, byte_value, front_at, hex_value, next, read_data, with_run};
@@ -19,6 +19,9 @@ const DATA_BYTES: usize = 4096;
 
 /// The shortest run that is spelled with a count.
 const COUNTED: usize = 4;
+
+/// How many bytes are compared at once where runs are counted.
+const BLOCK: usize = 64;
 
 /// A run of equal bytes.
 #[derive(Clone, Copy, Debug)]
@@ -197,11 +200,36 @@ fn put_run(out: &mut Text, run: Run)
     }
 }
 
-/// How many bytes equal to one stand at the front.
+/// The bytes after a block of equal ones, if one stands at the front.
+fn after_block(bytes: &[u8], byte: u8) -> Option<&[u8]>
+    ensures { IfSome result (λ after. bytes.now ≡ replicate 64 byte ++ after.now) }
+{
+    match bytes.strip_prefix([byte; BLOCK].as_slice()) {
+        Some(after) => Some(after),
+        None => None,
+    }
+}
+
+/// How many bytes equal to one stand at the front, one by one.
+fn count_front(bytes: &[u8], byte: u8) -> usize
+    ensures value { result ≡ prefix_len (λ x. x == byte) bytes.now }
+    ensures bound { result ≤ length bytes.now }
+{
+    bytes.iter().take_while(|x| **x == byte).count()
+}
+
+/// How many bytes equal to one stand at the front: whole blocks of them first, since these are compared at once.
+#[tactic(auto, using(crate::proofs::RunLemmas::block_more))]
 fn count_equal(bytes: &[u8], byte: u8) -> usize
     ensures value { result ≡ prefix_len (λ x. x == byte) bytes.now }
 {
-    bytes.iter().take_while(|x| **x == byte).count()
+    let mut count = 0;
+    let mut rest = bytes;
+    while let Some(after) = after_block(rest, byte) {
+        count += BLOCK;
+        rest = after;
+    }
+    count + count_front(rest, byte)
 }
 
 /// The first run of some bytes.
