@@ -51,13 +51,12 @@ pub hex_more : (byte n : ℕ) → flat_map hex (replicate (n + 1) byte) ≡ flat
 hex_more byte n = rw (← replicate_more n byte, flat_map-append hex (replicate n byte) (byte ∷ [])) refl
 
 -- a block of equal bytes at the front counts whole
-pub block_more : (byte : ℕ) (rest after : List ℕ) → rest ≡ replicate 64 byte ++ after → prefix_len (λ x. eqb x byte) rest ≡ 64 + prefix_len (λ x. eqb x byte) after
-block_more byte rest after is =
-  ap (λ xs. prefix_len (λ x. eqb x byte) xs) is
-  ∙ prefix_len-append (λ x. eqb x byte) (replicate 64 byte) after
-  ∙ ap (λ n. cond (eqb n 64) (64 + prefix_len (λ x. eqb x byte) after) n) (prefix_len-replicate (λ x. eqb x byte) 64 byte (eq-eqb byte byte refl))
+pub block_more : (byte : ℕ) (block rest after : List ℕ) → rest ≡ block ++ after → block ≡ replicate 128 byte → prefix_len (λ x. eqb x byte) rest ≡ 128 + prefix_len (λ x. eqb x byte) after
+block_more byte block rest after is all =
+  ap (λ xs. prefix_len (λ x. eqb x byte) xs) (is ∙ ap (λ b. b ++ after) all)
+  ∙ prefix_len-append (λ x. eqb x byte) (replicate 128 byte) after
+  ∙ ap (λ n. cond (eqb n 128) (128 + prefix_len (λ x. eqb x byte) after) n) (prefix_len-replicate (λ x. eqb x byte) 128 byte (eq-eqb byte byte refl))
 
--- what starts with a block of equal bytes
-pub block_front : (byte : ℕ) (block bytes after : List ℕ) → pointwise nat_eq (take (length block) bytes) block ≡ true → after ≡ drop (length block) bytes → block ≡ replicate 64 byte → bytes ≡ replicate 64 byte ++ after
-block_front byte block bytes after same rest is =
-  sym (take-append-drop (length block) bytes) ∙ ap₂ (λ a b. a ++ b) (same_text (take (length block) bytes) block (sym same) ∙ is) (sym rest)
+-- what starts with a block
+pub block_front : (block bytes after : List ℕ) → pointwise nat_eq (take (length block) bytes) block ≡ true → after ≡ drop (length block) bytes → bytes ≡ block ++ after
+block_front block bytes after same rest = sym (take-append-drop (length block) bytes) ∙ ap₂ (λ a b. a ++ b) (same_text (take (length block) bytes) block (sym same)) (sym rest)

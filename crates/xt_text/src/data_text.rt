@@ -1,7 +1,7 @@
 //! Data as text, both ways. A list of bytes is cut into maximal runs of equal bytes. A run of four or more is
 //! `XX*N`, shorter ones are plain digits, and a dot stands between neighbours unless both are short; no bytes are `-`.
 
-ghost use Rattle.std.specs.Prelude.{◌≡◌, ◌==◌, ◌<◌, ◌≤◌, ◌++◌, ◌∷◌, List, ℕ, length, drop, replicate, IfSome, IfOk};
+ghost use Rattle.std.specs.Prelude.{◌≡◌, ◌==◌, ◌<◌, ◌≤◌, ◌++◌, ◌∷◌, List, ℕ, length, drop, IfSome, IfOk};
 ghost use Rattle.std.specs.List.{All, prefix_len};
 ghost use Rattle.xt_text.specs.Buffer.{put};
 ghost use Rattle.xt_text.specs.DataReading.{at_end, byte_value, front_at, hex_value, next, read_data, with_run};
@@ -21,7 +21,7 @@ const DATA_BYTES: usize = 4096;
 const COUNTED: usize = 4;
 
 /// How many bytes are compared at once where runs are counted.
-const BLOCK: usize = 64;
+const BLOCK: usize = 128;
 
 /// A run of equal bytes.
 #[derive(Clone, Copy, Debug)]
@@ -200,11 +200,11 @@ fn put_run(out: &mut Text, run: Run)
     }
 }
 
-/// The bytes after a block of equal ones, if one stands at the front.
-fn after_block(bytes: &[u8], byte: u8) -> Option<&[u8]>
-    ensures { IfSome result (λ after. bytes.now ≡ replicate 64 byte ++ after.now) }
+/// The bytes after a block, if it stands at the front.
+fn after_block<'a>(bytes: &'a [u8], block: &[u8]) -> Option<&'a [u8]>
+    ensures { IfSome result (λ after. bytes.now ≡ block.now ++ after.now) }
 {
-    match bytes.strip_prefix([byte; BLOCK].as_slice()) {
+    match bytes.strip_prefix(block) {
         Some(after) => Some(after),
         None => None,
     }
@@ -223,9 +223,10 @@ fn count_front(bytes: &[u8], byte: u8) -> usize
 fn count_equal(bytes: &[u8], byte: u8) -> usize
     ensures value { result ≡ prefix_len (λ x. x == byte) bytes.now }
 {
+    let block = [byte; BLOCK];
     let mut count = 0;
     let mut rest = bytes;
-    while let Some(after) = after_block(rest, byte) {
+    while let Some(after) = after_block(rest, &block) {
         count += BLOCK;
         rest = after;
     }
