@@ -1,0 +1,7 @@
+//! What all mounts share: the queue of job names, and the board of shutdown words.
+//! Neither has a lock, and nothing here says that a thread gets on.
+#![tactic(auto)]
+
+pub mod jobs;
+mod rule;
+mod views;
