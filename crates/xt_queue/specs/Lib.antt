@@ -1,3 +1,6 @@
 pub mod Names
 pub mod Queues
 pub mod Passes
+pub mod Words
+pub mod Boards
+pub mod Seats

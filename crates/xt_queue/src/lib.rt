@@ -2,6 +2,8 @@
 //! Neither has a lock, and nothing here says that a thread gets on.
 #![tactic(auto)]
 
+pub mod board;
 pub mod jobs;
 mod rule;
 mod views;
+mod words;

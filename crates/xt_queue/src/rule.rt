@@ -1,6 +1,7 @@
-//! The rule of the queue, and what each kind of step tells its caller.
+//! The rules of the queue and of the board, and what each kind of step tells its caller.
 
-use crate::views::JobView;
+use crate::views::{BoardView, JobView};
+use atomic_table::{Play, TableRule};
 use crossbeam_queue::protocol::{Lesson, Outcome, Protocol, Split};
 use xt_base::names::JobName;
 
@@ -55,4 +56,46 @@ impl Lesson<JobName, JobView> for Take {
     ghost use Rattle.xt_queue.specs.Queues.{Sees};
 
     ghost fact = { Sees };
+}
+
+/// No word goes down.
+pub struct NeverDown;
+
+impl TableRule<(), BoardView, ()> for NeverDown {
+    ghost use Rattle.xt_queue.specs.Boards.{BoardRule, blank};
+
+    ghost holds = { λ _ s. BoardRule s.words s.views };
+
+    ghost first = { λ _. blank };
+}
+
+/// One load.
+pub struct Peek;
+
+impl Play<(), BoardView> for Peek {
+    ghost use Rattle.std.specs.Prelude.{◌≡◌};
+    ghost use Rattle.xt_queue.specs.Boards.{Peeks};
+
+    ghost then = { λ s me found after. Peeks me.0 s.word found after.0 × (after.1 ≡ me.1) };
+}
+
+/// One `fetch_max`.
+pub struct Show;
+
+impl Play<(), BoardView> for Show {
+    ghost use Rattle.std.specs.Prelude.{◌≡◌};
+    ghost use Rattle.xt_queue.specs.Boards.{Shows};
+
+    ghost then = { λ s me found after. Shows me.0 s.word s.first found after.0 × (after.1 ≡ me.1) };
+}
+
+/// A new seat, which has seen what the old one saw and shown nothing.
+pub struct Beside;
+
+impl Split<BoardView> for Beside {
+    ghost use Rattle.xt_queue.specs.Boards.{blank_words, board_view};
+
+    ghost left = { λ v. v };
+
+    ghost right = { λ v. board_view blank_words v.seen };
 }

@@ -1,4 +1,4 @@
-//! What a pass of the queue knows. No value of it is made: it stands in proofs alone.
+//! What a pass of the queue and a seat of the board know. No value of these is made: they stand in proofs alone.
 
 use std::collections::LinkedList;
 use xt_base::names::JobName;
@@ -11,4 +11,12 @@ pub struct JobView {
     pub made: u64,
     /// The names posted, or taken, through this pass, in order.
     pub names: LinkedList<JobName>,
+}
+
+/// What a seat of the board has done, slot by slot.
+pub struct BoardView {
+    /// The greatest word that the seat showed of each slot; 0 where it showed none.
+    pub shown: LinkedList<u64>,
+    /// The word that the seat last saw of each slot, its own shows counted; 0 before the first.
+    pub seen: LinkedList<u64>,
 }
