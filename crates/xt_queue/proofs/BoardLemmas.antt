@@ -186,9 +186,3 @@ splits id v s rule at =
           (λ (by : (place : ℕ) × (u : BoardView) × (get_elem? s.views place ≡ some u) × (slice_index u.shown j ≡ slice_index s.words j)). inr (by.0, by.1, at_longer s.views (r ∷ []) by.0 by.1 by.2, by.3))
           (rule.was_shown j);
     })
-
--- after a look the seat has seen what it found
-pub seen_found : (slot found : ℕ) (v w : BoardView) → slot < 16 → Peeks v slot found w → slice_index w.seen slot ≡ found
-seen_found slot found v w below look =
-    let count = (look.3.rule.fits look.3.place v look.3.own).seen_count in
-    ap (λ (u : BoardView). slice_index u.seen slot) look.2 ∙ get_or-set_same v.seen slot found 0 (omega arith)

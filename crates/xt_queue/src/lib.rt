@@ -5,5 +5,7 @@
 pub mod board;
 pub mod jobs;
 mod rule;
+#[cfg(test)]
+mod tests;
 mod views;
 mod words;

@@ -1,5 +1,5 @@
 use Rattle.std.proofs.Common.{ap, arith, sym, ◌∙◌}
-use Rattle.xt_queue.proofs.BoardLemmas.{peeks, seen_found}
+use Rattle.xt_queue.proofs.BoardLemmas.{peeks}
 use Rattle.xt_queue.specs.Seats.{SeatView}
 use Rattle.xt_queue.proofs.board.Board.peek.Goals as goal
 
