@@ -1,10 +1,10 @@
 -- Each kind of step keeps the rule of the board.
-use Rattle.std.proofs.Common.{arith, ap, get_or, length, max, refl, replicate, set, subst, suc, sym, zero, List, [], inl, inr, ⊎_elim, ℕ, ◌+◌, ◌++◌, ◌<◌, ◌%◌, ◌^◌, ◌∙◌, ◌≡◌, ◌≢◌, ◌≤◌, ◌⊎◌, ◌∷◌}
+use Rattle.std.proofs.Common.{arith, ap, length, max, refl, replicate, set, subst, suc, sym, zero, List, [], inl, inr, ⊎_elim, ℕ, ◌++◌, ◌<◌, ◌∙◌, ◌≡◌, ◌≢◌, ◌≤◌, ◌∷◌}
 use Rattle.std.proofs.lemmas.List.{get_or-set_other, get_or-set_same, length-set}
 use Rattle.atomic_table.proofs.Lists.{at_longer, at_set, at_snoc, set_again, set_else, set_here}
 use Rattle.atomic_table.specs.Table.{Act, Allows, Me, Splits, State}
-use Rattle.std.specs.Prelude.{slice_index, slice_set}
-use Rattle.xt_queue.specs.Boards.{BoardRule, BoardStep, Fits, Peeks, Rises, Shows, WasShown, blank_words, board_view, with_seen, with_shown}
+use Rattle.std.specs.Prelude.{slice_index}
+use Rattle.xt_queue.specs.Boards.{BoardRule, Fits, Peeks, Rises, Shows, WasShown, blank_words, board_view, with_seen, with_shown}
 use Rattle.xt_queue.specs.Words.{IsWord}
 use Rattle.xt_queue.specs.declared.views.BoardView.{BoardView}
 use lib.ListN.{get_elem?}

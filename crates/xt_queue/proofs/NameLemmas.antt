@@ -1,5 +1,5 @@
 -- Lists of names and of views: what a changed or a new view leaves, and what one name more makes.
-use Rattle.std.proofs.Common.{arith, ap, filter, length, refl, set, suc, sym, zero, List, [], inl, inr, ℕ, ◌+◌, ◌++◌, ◌<◌, ◌==◌, ◌∙◌, ◌≡◌, ◌≢◌, ◌⊎◌, ◌∷◌}
+use Rattle.std.proofs.Common.{ap, length, refl, set, suc, sym, zero, List, [], inl, inr, ℕ, ◌++◌, ◌==◌, ◌∙◌, ◌≡◌, ◌≢◌, ◌⊎◌, ◌∷◌}
 use Rattle.std.proofs.lemmas.Bool.{eq-eqb, ne_eqb}
 use Rattle.std.proofs.lemmas.List.{append-nil}
 use Rattle.std.proofs.lemmas.List.Elements.{filter-append}

@@ -1,12 +1,12 @@
 -- Each kind of step keeps the rule of the queue.
-use Rattle.std.proofs.Common.{arith, ap, append_assoc, filter, length, map, refl, set, subst, suc, sym, zero, List, [], ⊎_elim, ℕ, ◌+◌, ◌++◌, ◌<◌, ◌==◌, ◌∙◌, ◌≡◌, ◌≢◌, ◌≤◌, ◌⊎◌, ◌∷◌}
+use Rattle.std.proofs.Common.{arith, ap, append_assoc, filter, length, refl, set, subst, sym, List, [], ⊎_elim, ℕ, ◌+◌, ◌++◌, ◌<◌, ◌==◌, ◌∙◌, ◌≡◌, ◌≢◌, ◌∷◌}
 use Rattle.std.proofs.lemmas.Bool.{eq-eqb, ne_eqb}
 use Rattle.std.proofs.lemmas.List.{append-nil, length-set, length_push, map-append}
 use Rattle.std.proofs.lemmas.List.Elements.{filter-append}
 use Rattle.crossbeam_queue.proofs.Lists.{at_set, set_again}
 use Rattle.crossbeam_queue.specs.Fifo.{Forks, Learns, Pops, Pushes}
 use Rattle.xt_base.specs.declared.names.JobName.{JobName}
-use Rattle.xt_queue.proofs.NameLemmas.{at_new, last_longer, names_at_new, names_at_other, names_at_set, names_at_view, of_slot_other, of_slot_own, run_longer}
+use Rattle.xt_queue.proofs.NameLemmas.{at_new, names_at_new, names_at_other, names_at_set, names_at_view, of_slot_other, of_slot_own, run_longer}
 use Rattle.xt_queue.specs.Names.{IsRun, MayFollow, last_of, of_slot, unposted}
 use Rattle.xt_queue.specs.Queues.{Handed, Posts, QueueRule, Sees, Takes, maker, names_at, names_of, of_worker, posted, taken, unused, with_name}
 use Rattle.xt_queue.specs.declared.views.JobView.{JobView}

@@ -1,5 +1,5 @@
 -- The rule of the board, over its words and what each seat has shown and seen, and its kinds of step.
-use Rattle.std.specs.Prelude.{List, [], length, max, replicate, slice_index, slice_set, ℕ, ◌++◌, ◌≡◌, ◌≢◌, ◌≤◌, ◌⊎◌, ◌∷◌}
+use Rattle.std.specs.Prelude.{List, length, max, replicate, slice_index, slice_set, ℕ, ◌≡◌, ◌≤◌, ◌⊎◌}
 use Rattle.xt_queue.specs.Words.{IsWord}
 use Rattle.xt_queue.specs.declared.views.BoardView.{BoardView}
 use lib.ListN.{get_elem?}

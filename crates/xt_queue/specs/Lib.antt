@@ -4,3 +4,4 @@ pub mod Passes
 pub mod Words
 pub mod Boards
 pub mod Seats
+pub mod Laws

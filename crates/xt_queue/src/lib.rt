@@ -4,6 +4,7 @@
 
 pub mod board;
 pub mod jobs;
+pub mod laws;
 mod rule;
 #[cfg(test)]
 mod tests;

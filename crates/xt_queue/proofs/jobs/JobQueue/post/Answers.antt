@@ -1,8 +1,5 @@
-use Rattle.std.proofs.Common.{ap, arith, ◌+◌, ◌∙◌, ◌≡◌}
-use Rattle.crossbeam_queue.specs.Passes.{view}
-use Rattle.xt_queue.proofs.NameLemmas.{last_longer}
+use Rattle.std.proofs.Common.{ap, arith}
 use Rattle.xt_queue.proofs.RuleLemmas.{learns, pushes}
-use Rattle.xt_queue.specs.Names.{MayFollow, last_of, unposted}
 use Rattle.xt_queue.specs.Passes.{PostView}
 use Rattle.xt_queue.proofs.jobs.JobQueue.post.Goals as goal
 

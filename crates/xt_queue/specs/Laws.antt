@@ -1,0 +1,39 @@
+-- What the rules of the queue and of the board imply, in words that name no step.
+use Rattle.std.specs.Prelude.{Bool, List, Option, Some, [], filter, length, ℕ, ⊤, ◌&&◌, ◌++◌, ◌<◌, ◌==◌, ◌≡◌, ◌≢◌, ◌≤◌, ◌⊎◌, ◌∷◌}
+use Rattle.xt_base.specs.declared.names.JobName.{JobName}
+use Rattle.xt_base.specs.declared.steps.Reason.{Reason}
+use Rattle.xt_queue.specs.Names.{of_slot}
+use Rattle.xt_queue.specs.Queues.{QueueRule, posted, taken}
+use Rattle.xt_queue.specs.Words.{IsOver, word_of}
+use Rattle.xt_queue.specs.declared.views.JobView.{JobView}
+
+-- the same slot, life and serial
+abbrev pub is_same : JobName → JobName → Bool
+is_same x y = (y.slot == x.slot) && (y.life == x.life) && (y.serial == x.serial)
+
+-- how often a name stands in a list
+abbrev pub times : JobName → List JobName → ℕ
+times x names = length (filter (is_same x) names)
+
+-- the first list is the second with names struck out
+abbrev pub IsPartOf : List JobName → List JobName → Type 0
+IsPartOf [] ys = ⊤
+IsPartOf (x ∷ xs) [] = ⊥
+IsPartOf (x ∷ xs) (y ∷ ys) = ((x ≡ y) × IsPartOf xs ys) ⊎ IsPartOf (x ∷ xs) ys
+
+-- of one slot: the waiting names are the last of those posted, in order, and none was posted twice; each earlier one stands in the list
+-- of one worker, once, and in no other worker's; and each worker's names of the slot stand in the order of posting
+pub record HandedOver (waiting : List JobName) (views : List JobView) (slot : ℕ) : Type 0 where
+  pub gone : List JobName
+  pub waiting_last : posted views slot ≡ gone ++ of_slot slot waiting
+  pub posted_once : (x : JobName) → times x (posted views slot) ≤ 1
+  pub taken_once : (x : JobName) → 0 < times x gone → (worker : ℕ) × (times x (taken views worker) ≡ 1) × ((other : ℕ) → other ≢ worker → times x (taken views other) ≡ 0)
+  pub in_order : (worker : ℕ) → IsPartOf (of_slot slot (taken views worker)) gone
+
+-- wherever the rule of the queue holds, each slot's names are handed over once and in order
+abbrev pub GoesOnceInOrder : Type 0
+GoesOnceInOrder = (waiting : List JobName) (views : List JobView) (slot : ℕ) → QueueRule waiting views → slot < 16 → HandedOver waiting views slot
+
+-- a word that is at least that of a life that was shut is of that life, shut, or of a later one
+abbrev pub ShutForGood : Type 0
+ShutForGood = (life later : ℕ) (reason : Reason) (state : Option Reason) → word_of life (Some reason) ≤ word_of later state → IsOver life later state
