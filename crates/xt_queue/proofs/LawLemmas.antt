@@ -6,12 +6,12 @@ use Rattle.std.specs.Prelude.{IsSome}
 use Rattle.xt_base.specs.declared.names.JobName.{JobName}
 use Rattle.xt_base.specs.declared.steps.Reason.{Reason}
 use Rattle.xt_base.specs.declared.steps.Reason.TheVariants.{CorruptIncore, ForceUmount, LogIoError, MetaIoError}
-use Rattle.xt_queue.specs.Laws.{GoesOnceInOrder, IsPartOf, ShutForGood, is_same, times}
+use Rattle.xt_queue.specs.Laws.{CountsUp, GoesOnceInOrder, IsPartOf, ShutForGood, is_same, serials_of, times}
 use Rattle.xt_queue.specs.Names.{IsRun, MayFollow, of_slot, unposted}
 use Rattle.xt_queue.specs.Queues.{Handed, names_of, of_worker, posted}
 use Rattle.xt_queue.specs.Words.{code_of}
 use mathlib.Core.Logic.{dite}
-use native.Mathlib.Decide.{ℕ_discrete}
+use native.Mathlib.Decide.{dec_le, ℕ_discrete}
 
 -- two names are the same in slot, life and serial, or the test says that they are not
 same_or_not : (x y : JobName) → ((is_same x y ≡ true) × (y.slot ≡ x.slot) × (y.life ≡ x.life) × (y.serial ≡ x.serial)) ⊎ (is_same x y ≡ false)
@@ -216,6 +216,48 @@ one_worker x handed some most =
 slot_of_one : (slot : ℕ) (x : JobName) (names : List JobName) → 0 < times x (of_slot slot names) → x.slot ≡ slot
 slot_of_one slot x names some = dite (ℕ_discrete x.slot slot) (λ same. same) (λ apart. let none = times_elsewhere slot x names apart in absurd (omega arith))
 
+-- the serials of a life with one of its own in front
+serials_yes : (life : ℕ) (y : JobName) (ys : List JobName) → y.life ≡ life → serials_of life (y ∷ ys) ≡ y.serial ∷ serials_of life ys
+serials_yes life y ys same = rw (eq-eqb y.life life same) refl
+
+-- and with one of another life in front
+serials_no : (life : ℕ) (y : JobName) (ys : List JobName) → y.life ≢ life → serials_of life (y ∷ ys) ≡ serials_of life ys
+serials_no life y ys apart = rw (ne_eqb y.life life apart) refl
+
+-- a run has no name of an earlier life
+serials_earlier : (last : ℕ × ℕ) (names : List JobName) (life : ℕ) → IsRun last names → life < last.0 → serials_of life names ≡ []
+serials_earlier last [] life run earlier = refl
+serials_earlier last (y ∷ ys) life run earlier =
+    let later : last.0 ≤ y.life = ⊎_elim (λ (n : (y.life ≡ last.0) × (y.serial ≡ last.1 + 1)). let a = n.0 in omega arith) (λ (n : (last.0 < y.life) × (y.serial ≡ 1)). let a = n.0 in omega arith) run.0 in
+    serials_no life y ys (λ e. absurd (omega arith)) ∙ serials_earlier (y.life, y.serial) ys life run.1 (omega arith)
+
+-- in a run the serials of the last life go on, and those of a later life count from 1
+serials_count : (last : ℕ × ℕ) (names : List JobName) (life : ℕ) → IsRun last names → (life ≡ last.0 → CountsUp (last.1 + 1) (serials_of life names)) × (last.0 < life → CountsUp 1 (serials_of life names))
+serials_count last [] life run = ((λ e. tt), λ l. tt)
+serials_count last (y ∷ ys) life run =
+    let rest = serials_count (y.life, y.serial) ys life run.1 in
+    let front : (n : ℕ) → y.life ≡ life → y.serial ≡ n → CountsUp n (serials_of life (y ∷ ys)) =
+    λ n same serial. subst (CountsUp n) (sym (serials_yes life y ys same)) (serial, subst (λ k. CountsUp (k + 1) (serials_of life ys)) serial (rest.0 (sym same))) in
+    let none : (n : ℕ) → life < y.life → CountsUp n (serials_of life (y ∷ ys)) =
+    λ n earlier. subst (CountsUp n) (sym (serials_no life y ys (λ e. absurd (omega arith)) ∙ serials_earlier (y.life, y.serial) ys life run.1 earlier)) tt in
+    let on : y.life < life → CountsUp 1 (serials_of life (y ∷ ys)) =
+    λ later. subst (CountsUp 1) (sym (serials_no life y ys (λ e. absurd (omega arith)))) (rest.1 later) in
+    ⊎_elim
+    (λ (n : (y.life ≡ last.0) × (y.serial ≡ last.1 + 1)). ((λ e. front (last.1 + 1) (n.0 ∙ sym e) n.1), λ l. on (let a = n.0 in omega arith)))
+    (λ (n : (last.0 < y.life) × (y.serial ≡ 1)). (
+      (λ e. none (last.1 + 1) (let a = n.0 in omega arith)),
+      λ l. dite (ℕ_discrete y.life life)
+          (λ same. front 1 same n.1)
+          (λ apart. dite (dec_le life y.life) (λ low. none 1 (omega arith)) (λ high. on (omega arith))),
+    ))
+    run.0
+
+-- in a slot's names the serials of each life count from 1
+serials_posted : (names : List JobName) (life : ℕ) → IsRun unposted names → CountsUp 1 (serials_of life names)
+serials_posted names life run = dite (ℕ_discrete life 0)
+    (λ first. (serials_count unposted names life run).0 first)
+    (λ later. (serials_count unposted names life run).1 (omega arith))
+
 -- the rule of the queue hands each slot's names over once and in order
 pub goes_once_in_order : GoesOnceInOrder
 goes_once_in_order waiting views slot rule below =
@@ -226,6 +268,7 @@ goes_once_in_order waiting views slot rule below =
       gone = of_slot slot all;
       waiting_last = split;
       posted_once = most;
+      serials = λ life. serials_posted (posted views slot) life (rule.serials slot below);
       taken_once = λ x some.
           let own = times_of_slot slot x all (slot_of_one slot x all some) in
           let joined = ap (times x) split ∙ times_joined x (of_slot slot all) (of_slot slot waiting) in

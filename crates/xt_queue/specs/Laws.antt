@@ -1,5 +1,5 @@
 -- What the rules of the queue and of the board imply, in words that name no step.
-use Rattle.std.specs.Prelude.{Bool, List, Option, Some, [], filter, length, ℕ, ⊤, ◌&&◌, ◌++◌, ◌<◌, ◌==◌, ◌≡◌, ◌≢◌, ◌≤◌, ◌⊎◌, ◌∷◌}
+use Rattle.std.specs.Prelude.{Bool, List, Option, Some, [], filter, length, map, ℕ, ⊤, ◌&&◌, ◌+◌, ◌++◌, ◌<◌, ◌==◌, ◌≡◌, ◌≢◌, ◌≤◌, ◌⊎◌, ◌∷◌}
 use Rattle.xt_base.specs.declared.names.JobName.{JobName}
 use Rattle.xt_base.specs.declared.steps.Reason.{Reason}
 use Rattle.xt_queue.specs.Names.{of_slot}
@@ -21,12 +21,22 @@ IsPartOf [] ys = ⊤
 IsPartOf (x ∷ xs) [] = ⊥
 IsPartOf (x ∷ xs) (y ∷ ys) = ((x ≡ y) × IsPartOf xs ys) ⊎ IsPartOf (x ∷ xs) ys
 
--- of one slot: the waiting names are the last of those posted, in order, and none was posted twice; each earlier one stands in the list
+-- the serials of one life, in order
+abbrev pub serials_of : ℕ → List JobName → List ℕ
+serials_of life names = map (λ x. x.serial) (filter (λ x. x.life == life) names)
+
+-- the numbers count up by one, the first from n on
+abbrev pub CountsUp : ℕ → List ℕ → Type 0
+CountsUp n [] = ⊤
+CountsUp n (k ∷ ks) = (k ≡ n) × CountsUp (n + 1) ks
+
+-- of one slot: the waiting names are the last of those posted, in order, none was posted twice, and the serials posted in one life are 1, 2, 3 and so on; each earlier one stands in the list
 -- of one worker, once, and in no other worker's; and each worker's names of the slot stand in the order of posting
 pub record HandedOver (waiting : List JobName) (views : List JobView) (slot : ℕ) : Type 0 where
   pub gone : List JobName
   pub waiting_last : posted views slot ≡ gone ++ of_slot slot waiting
   pub posted_once : (x : JobName) → times x (posted views slot) ≤ 1
+  pub serials : (life : ℕ) → CountsUp 1 (serials_of life (posted views slot))
   pub taken_once : (x : JobName) → 0 < times x gone → (worker : ℕ) × (times x (taken views worker) ≡ 1) × ((other : ℕ) → other ≢ worker → times x (taken views other) ≡ 0)
   pub in_order : (worker : ℕ) → IsPartOf (of_slot slot (taken views worker)) gone
 
