@@ -33,11 +33,15 @@ abbrev pub WasShown : List ℕ → List BoardView → ℕ → Type 0
 WasShown words views slot =
     (slice_index words slot ≡ 0) ⊎ ((place : ℕ) × (v : BoardView) × (get_elem? views place ≡ some v) × (slice_index v.shown slot ≡ slice_index words slot))
 
--- the rule: each seat's view fits, and each word is one that a seat showed
+-- the rule, of the words and of the views of all seats
 pub record BoardRule (words : List ℕ) (views : List BoardView) : Type 0 where
+  -- there is a word for each of the sixteen slots
   pub count : length words ≡ 16
+  -- of each seat, what it showed is at most what it saw, and that at most what stands
   pub fits : (place : ℕ) (v : BoardView) → get_elem? views place ≡ some v → Fits words v
+  -- each word is of a life and a state
   pub formed : (slot : ℕ) → IsWord (slice_index words slot)
+  -- each word but 0 is one that a seat showed
   pub was_shown : (slot : ℕ) → WasShown words views slot
 
 -- one step of the board: the word found at a slot becomes a new one, one seat's view becomes another, and the rule holds before and after

@@ -30,14 +30,19 @@ abbrev pub CountsUp : ℕ → List ℕ → Type 0
 CountsUp n [] = ⊤
 CountsUp n (k ∷ ks) = (k ≡ n) × CountsUp (n + 1) ks
 
--- of one slot: the waiting names are the last of those posted, in order, none was posted twice, and the serials posted in one life are 1, 2, 3 and so on; each earlier one stands in the list
--- of one worker, once, and in no other worker's; and each worker's names of the slot stand in the order of posting
+-- what the rule of the queue says of one slot
 pub record HandedOver (waiting : List JobName) (views : List JobView) (slot : ℕ) : Type 0 where
+  -- the posted names that no longer wait, in order
   pub gone : List JobName
+  -- the waiting names are the last of those posted, in order
   pub waiting_last : posted views slot ≡ gone ++ of_slot slot waiting
+  -- no name was posted twice
   pub posted_once : (x : JobName) → times x (posted views slot) ≤ 1
+  -- the serials posted in one life are 1, 2, 3 and so on
   pub serials : (life : ℕ) → CountsUp 1 (serials_of life (posted views slot))
+  -- each name that no longer waits stands in the list of one worker, once, and in no other worker's
   pub taken_once : (x : JobName) → 0 < times x gone → (worker : ℕ) × (times x (taken views worker) ≡ 1) × ((other : ℕ) → other ≢ worker → times x (taken views other) ≡ 0)
+  -- each worker's names of the slot stand in the order of posting
   pub in_order : (worker : ℕ) → IsPartOf (of_slot slot (taken views worker)) gone
 
 -- wherever the rule of the queue holds, each slot's names are handed over once and in order

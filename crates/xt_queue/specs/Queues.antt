@@ -45,15 +45,21 @@ names_of handed = map (λ h. h.name) handed
 abbrev pub of_worker : ℕ → List Handed → List JobName
 of_worker worker handed = names_of (filter (λ h. h.worker == worker) handed)
 
--- the rule, of the waiting names, oldest first, and of the views of all passes: all that was ever handed over stands in one order,
--- each name once with the one worker that took it; of each slot these and then the waiting names are the posted ones
+-- the rule, of the waiting names, oldest first, and of the views of all passes
 pub record QueueRule (waiting : List JobName) (views : List JobView) : Type 0 where
+  -- each pass's number is its place
   pub numbered : (place : ℕ) (v : JobView) → get_elem? views place ≡ some v → v.number ≡ place
+  -- the maker has made every other pass
   pub counted : (v : JobView) → get_elem? views 0 ≡ some v → v.made + 1 ≡ length views
+  -- all that was ever handed over, in order: each name once, with the one worker that took it
   pub handed : List Handed
+  -- of each slot the names handed over, and then those that wait, are the posted ones
   pub in_order : (slot : ℕ) → slot < 16 → posted views slot ≡ of_slot slot (names_of handed ++ waiting)
+  -- there are no names of any other slot
   pub no_other : (slot : ℕ) → 16 ≤ slot → of_slot slot (names_of handed ++ waiting) ≡ []
+  -- each worker has taken what was handed to it
   pub by_worker : (worker : ℕ) → taken views worker ≡ of_worker worker handed
+  -- of each slot every posted name follows the one before it
   pub serials : (slot : ℕ) → slot < 16 → IsRun unposted (posted views slot)
 
 -- one step of the queue: the view of one pass becomes another, all other views stay, and the rule holds before and after

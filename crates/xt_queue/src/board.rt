@@ -79,6 +79,7 @@ impl Board {
         requires board { seat.old.board ≡ self.now }
         ensures board { seat.new.board ≡ seat.old.board }
         ensures shown { seat.new.shown ≡ slice_set seat.old.shown slot (max (slice_index seat.old.shown slot) (word_of life shut)) }
+        ensures seen { (found : ℕ) × (slice_index seat.old.seen slot ≤ found) × (seat.new.seen ≡ slice_set seat.old.seen slot (max found (word_of life shut))) }
         ensures saw { word_of life shut ≤ slice_index seat.new.seen slot }
         ensures rises { Rises seat.old.seen seat.new.seen }
         ensures rule { (found : ℕ) × Shows (of_seat seat.old) slot (word_of life shut) found (of_seat seat.new) }
