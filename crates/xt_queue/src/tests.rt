@@ -1,13 +1,12 @@
 //! Worked rows of the queue and of the board, and names that go through two threads on each side.
 
-ghost use Rattle.std.specs.Prelude.{◌≡◌, ◌+◌, ◌-◌, ◌<◌, ◌≤◌, ◌++◌, [], ◌∷◌, IfOk, IfSome};
+ghost use Rattle.std.specs.Prelude.{◌≡◌, ◌+◌, ◌-◌, ◌<◌, ◌≤◌, ◌++◌, [], ◌∷◌, IfSome, vec_capacity, vec_len};
 ghost use Rattle.xt_queue.specs.Names.{last_of, unposted};
 ghost use Rattle.xt_queue.specs.Passes.{fresh_post, fresh_posts, fresh_works};
 
 use crate::board::Board;
 use crate::jobs::{JobQueue, PostPass, WorkPass};
 use crate::words;
-use std::alloc::{AllocError, Global};
 use std::sync::Wait;
 use std::test::*;
 use std::thread;
@@ -150,22 +149,23 @@ fn post_all<R: Wait>(rt: &R, queue: &JobQueue, mut pass: PostPass, index: u8)
     unreachable!()
 }
 
-/// Takes so many names, waiting where there is none.
+/// Fills the room in a list with names, waiting where there is none to take.
 fn take_all<R: Wait>(
     rt: &R,
-    alloc: Global,
     queue: &JobQueue,
     mut pass: WorkPass,
-) -> Result<Vec<JobName>, AllocError>
+    mut names: Vec<JobName>,
+) -> Vec<JobName>
     requires queue { pass.queue ≡ queue.now }
+    requires empty { vec_len names ≡ 0 }
+    requires room { vec_capacity names ≡ 50 }
 {
-    let mut names = Vec::with_capacity(alloc, SERIALS)?;
     for _ in rt.forever() {
-        if names.len() == SERIALS {
-            return Ok(names);
+        if names.len() >= SERIALS {
+            return names;
         }
         match queue.take(rt, &mut pass) {
-            Some(name) => names.push(name)?,
+            Some(name) => names.push_reserved(name),
             None => thread::yield_now(),
         }
     }
@@ -191,24 +191,25 @@ fn post_both<R: Threads + Wait + Sync>(rt: &R, queue: &JobQueue, high: PostPass,
 /// Two workers take, in threads of their own.
 fn take_both<R: Threads + Wait + Sync>(
     rt: &R,
-    alloc: Global,
     queue: &JobQueue,
-    first: WorkPass,
-    second: WorkPass,
-) -> Result<(Vec<JobName>, Vec<JobName>), AllocError>
-    requires first { first.queue ≡ queue.now }
-    requires second { second.queue ≡ queue.now }
+    works: (WorkPass, WorkPass),
+    lists: (Vec<JobName>, Vec<JobName>),
+) -> (Vec<JobName>, Vec<JobName>)
+    requires queue { (works.0.queue ≡ queue.now) × (works.1.queue ≡ queue.now) }
+    requires empty { (vec_len lists.0 ≡ 0) × (vec_len lists.1 ≡ 0) }
+    requires room { (vec_capacity lists.0 ≡ 50) × (vec_capacity lists.1 ≡ 50) }
 {
-    let (first, second) = thread::join(
+    let (first, second) = works;
+    let (one, other) = lists;
+    thread::join(
         rt,
         move ||
-            requires { first.queue ≡ queue.now }
-        { take_all(rt, alloc, queue, first) },
+            requires { (first.queue ≡ queue.now) × (vec_len one ≡ 0) × (vec_capacity one ≡ 50) }
+        { take_all(rt, queue, first, one) },
         move ||
-            requires { second.queue ≡ queue.now }
-        { take_all(rt, alloc, queue, second) },
-    );
-    Ok((first?, second?))
+            requires { (second.queue ≡ queue.now) × (vec_len other ≡ 0) × (vec_capacity other ≡ 50) }
+        { take_all(rt, queue, second, other) },
+    )
 }
 
 /// How often a slot's serial stands in the list.
@@ -243,12 +244,15 @@ fn each_name_goes_to_one_worker_in_order(rt: HostRuntime) -> Result<(), Fail> {
     let (Some(first), Some(second)) = (passes.works.pop(), passes.works.pop()) else {
         unreachable!()
     };
-    let ((), taken) = thread::join(
+    let lists = (
+        Vec::with_capacity(alloc, SERIALS)?,
+        Vec::with_capacity(alloc, SERIALS)?,
+    );
+    let ((), (first, second)) = thread::join(
         &rt,
         || post_both(&rt, &queue, high, low),
-        || take_both(&rt, alloc, &queue, first, second),
+        || take_both(&rt, &queue, (first, second), lists),
     );
-    let (first, second) = taken?;
     for index in 14..16 {
         assert!(rt;
             rises(&first, index) && rises(&second, index),
