@@ -1,0 +1,5 @@
+pub mod NameLemmas
+pub mod RuleLemmas
+pub mod BoardLemmas
+pub mod PassLemmas
+pub mod LawLemmas

@@ -1,0 +1,222 @@
+//! The queue of job names: each name posted goes to one worker, once, in its slot's order.
+
+ghost use Rattle.std.specs.Prelude.{◌≡◌, ◌+◌, ◌-◌, ◌<◌, ◌≤◌, ◌++◌, [], ◌∷◌, IfOk, IfErr, OnOk, IfSome, MatchOption, MatchResult};
+ghost use Rattle.crossbeam_queue.specs.Fifo.{Held};
+ghost use Rattle.xt_base.specs.declared.steps.Errno.TheVariants.{NoMemory};
+ghost use Rattle.xt_queue.specs.Names.{MayFollow, last_of, unposted};
+ghost use Rattle.xt_queue.specs.Passes.{fresh_post, fresh_posts, fresh_work, fresh_works, of_post, of_work};
+ghost use Rattle.xt_queue.specs.Queues.{Posts, Sees, Takes};
+
+use crate::rule::{NextPass, OnceInOrder, Post, Take};
+use crate::views::JobView;
+use crossbeam_queue::{Pass, RuledArrayQueue};
+use std::alloc::{AllocError, Global};
+use std::marker::Model;
+use std::sync::Wait;
+use xt_base::names::JobName;
+use xt_base::steps::Errno;
+
+/// How many names may wait at once.
+const CAPACITY: usize = 32;
+
+const SLOTS: usize = 16;
+
+const WORKERS: usize = 8;
+
+/// The names of posted jobs that no worker has taken, 32 at most. A contract sees which queue it is.
+#[derive(Drop)]
+pub struct JobQueue {
+    ring: RuledArrayQueue<JobName, JobView, OnceInOrder>,
+}
+
+impl Model for JobQueue {
+    ghost use Rattle.atomic_table.specs.Seated.{TableId, table_id_coded};
+    ghost use Rattle.crossbeam_queue.specs.Passes.{ruled_capacity};
+    ghost use Rattle.std.specs.Prelude.{◌≡◌};
+
+    ghost Value = { TableId };
+
+    ghost coded = { table_id_coded };
+
+    ghost view = { λ q. q.ring.table.shared.table_id };
+
+    ghost invariant = { λ q. ruled_capacity q.ring ≡ 32 };
+}
+
+/// The right to post the names of one slot. A contract sees its queue, its slot, and the names posted through it, in order.
+#[derive(Drop)]
+pub struct PostPass {
+    pass: Pass<JobName, JobView>,
+}
+
+impl Model for PostPass {
+    ghost use Rattle.crossbeam_queue.specs.Passes.{view as known};
+    ghost use Rattle.std.specs.Prelude.{◌-◌, ◌<◌, ◌≡◌, []};
+    ghost use Rattle.xt_queue.specs.Passes.{PostView};
+
+    ghost Value = { PostView };
+
+    ghost view = { λ p. record { queue = p.pass.table_id; slot = (known p.pass).number - 1; posted = (known p.pass).names } };
+
+    ghost invariant = { λ p. (p.pass.me.1 ≡ []) × ((known p.pass).made ≡ 0) × (0 < (known p.pass).number) × ((known p.pass).number < 17) };
+}
+
+/// The right to take names, one worker's. A contract sees its queue, its worker, and the names taken through it, in order.
+#[derive(Drop)]
+pub struct WorkPass {
+    pass: Pass<JobName, JobView>,
+}
+
+impl Model for WorkPass {
+    ghost use Rattle.crossbeam_queue.specs.Passes.{view as known};
+    ghost use Rattle.std.specs.Prelude.{◌-◌, ◌<◌, ◌≡◌, ◌≤◌, []};
+    ghost use Rattle.xt_queue.specs.Passes.{WorkView};
+
+    ghost Value = { WorkView };
+
+    ghost view = { λ p. record { queue = p.pass.table_id; worker = (known p.pass).number - 17; taken = (known p.pass).names } };
+
+    ghost invariant = { λ p. (p.pass.me.1 ≡ []) × ((known p.pass).made ≡ 0) × (17 ≤ (known p.pass).number) × ((known p.pass).number < 25) };
+}
+
+/// Makes the passes of a queue, one after another.
+#[derive(Drop)]
+struct Maker {
+    pass: Pass<JobName, JobView>,
+}
+
+impl Model for Maker {
+    ghost use Rattle.crossbeam_queue.specs.Passes.{view as known};
+    ghost use Rattle.std.specs.Prelude.{◌≡◌, []};
+    ghost use Rattle.xt_queue.specs.Passes.{MakerView};
+    ghost use Rattle.xt_queue.specs.Queues.{maker};
+
+    ghost Value = { MakerView };
+
+    ghost view = { λ m. record { queue = m.pass.table_id; made = (known m.pass).made } };
+
+    ghost invariant = { λ m. (m.pass.me.1 ≡ []) × (known m.pass ≡ maker (known m.pass).made) };
+}
+
+/// All passes of a queue, none of which was used.
+#[derive(Drop)]
+pub struct Passes {
+    /// One for each slot, 0 to 15 in order.
+    pub posts: Vec<PostPass>,
+    /// One for each worker, 0 to 7 in order.
+    pub works: Vec<WorkPass>,
+}
+
+impl JobQueue {
+    /// An empty queue with all its passes: sixteen to post with, one a slot, and eight to take with. The one error is `NoMemory`.
+    pub fn new(alloc: Global) -> Result<(Self, Passes), Errno>
+        ensures posts { IfOk result (λ made. made.1.posts.items ≡ fresh_posts made.0 16) }
+        ensures works { IfOk result (λ made. made.1.works.items ≡ fresh_works made.0 8) }
+        ensures memory { IfErr result (λ errno. errno ≡ NoMemory) }
+    {
+        Self::with_passes(alloc).map_err(|_| Errno::NoMemory)
+    }
+
+    /// The same with the allocator's own error.
+    fn with_passes(alloc: Global) -> Result<(Self, Passes), AllocError>
+        ensures posts { IfOk result (λ made. made.1.posts.items ≡ fresh_posts made.0 16) }
+        ensures works { IfOk result (λ made. made.1.works.items ≡ fresh_works made.0 8) }
+    {
+        let (queue, mut maker) = Self::with_maker(alloc)?;
+        let posts = queue.post_passes(alloc, &mut maker)?;
+        let works = queue.work_passes(alloc, &mut maker)?;
+        Ok((queue, Passes { posts, works }))
+    }
+
+    /// An empty queue, and the maker of its passes.
+    fn with_maker(alloc: Global) -> Result<(Self, Maker), AllocError>
+        ensures queue { IfOk result (λ made. made.1.queue ≡ made.0) }
+        ensures none { IfOk result (λ made. made.1.made ≡ 0) }
+    {
+        let (ring, pass) = RuledArrayQueue::ruled(alloc, CAPACITY)?;
+        Ok((JobQueue { ring }, Maker { pass }))
+    }
+
+    /// The passes of all slots, in order.
+    fn post_passes(&self, alloc: Global, maker: &mut Maker) -> Result<Vec<PostPass>, AllocError>
+        requires queue { maker.old.queue ≡ self.now }
+        requires first { maker.old.made ≡ 0 }
+        ensures queue { maker.new.queue ≡ maker.old.queue }
+        ensures made { OnOk result (maker.new.made ≡ 16) }
+        ensures posts { IfOk result (λ posts. posts.items ≡ fresh_posts self.now 16) }
+    {
+        let mut posts = Vec::with_capacity(alloc, SLOTS)?;
+        for _slot in 0..SLOTS {
+            posts.push(self.next_post(maker))?;
+        }
+        Ok(posts)
+    }
+
+    /// The passes of all workers, in order.
+    fn work_passes(&self, alloc: Global, maker: &mut Maker) -> Result<Vec<WorkPass>, AllocError>
+        requires queue { maker.old.queue ≡ self.now }
+        requires slots { maker.old.made ≡ 16 }
+        ensures works { IfOk result (λ works. works.items ≡ fresh_works self.now 8) }
+    {
+        let mut works = Vec::with_capacity(alloc, WORKERS)?;
+        for _worker in 0..WORKERS {
+            works.push(self.next_work(maker))?;
+        }
+        Ok(works)
+    }
+
+    /// The pass of the next slot.
+    fn next_post(&self, maker: &mut Maker) -> PostPass
+        requires queue { maker.old.queue ≡ self.now }
+        requires slots { maker.old.made < 16 }
+        ensures queue { maker.new.queue ≡ maker.old.queue }
+        ensures made { maker.new.made ≡ maker.old.made + 1 }
+        ensures pass { result ≡ fresh_post self.now maker.old.made }
+    {
+        PostPass {
+            pass: self.ring.another::<NextPass>(&mut maker.pass),
+        }
+    }
+
+    /// The pass of the next worker.
+    fn next_work(&self, maker: &mut Maker) -> WorkPass
+        requires queue { maker.old.queue ≡ self.now }
+        requires slots { 16 ≤ maker.old.made }
+        requires workers { maker.old.made < 24 }
+        ensures queue { maker.new.queue ≡ maker.old.queue }
+        ensures made { maker.new.made ≡ maker.old.made + 1 }
+        ensures pass { result ≡ fresh_work self.now (maker.old.made - 16) }
+    {
+        WorkPass {
+            pass: self.ring.another::<NextPass>(&mut maker.pass),
+        }
+    }
+
+    /// Adds a name at the back. Where 32 names wait it comes back, and nothing has changed.
+    #[tactic(auto, using(crate::proofs::NameLemmas::last_longer))]
+    pub fn post<R: Wait>(&self, rt: &R, pass: &mut PostPass, name: JobName) -> Result<(), JobName>
+        requires queue { pass.old.queue ≡ self.now }
+        requires slot { pass.old.slot ≡ name.slot }
+        requires next { MayFollow (last_of unposted pass.old.posted) name }
+        ensures queue { pass.new.queue ≡ pass.old.queue }
+        ensures slot { pass.new.slot ≡ pass.old.slot }
+        ensures posted { OnOk result (pass.new.posted ≡ pass.old.posted ++ name ∷ []) }
+        ensures back { IfErr result (λ back. (back ≡ name) × (pass.new.posted ≡ pass.old.posted)) }
+        ensures last { OnOk result (last_of unposted pass.new.posted ≡ (name.life, name.serial)) }
+        ensures rule { MatchResult result (λ _. Posts (of_post pass.old) name (of_post pass.new)) (λ _. Held 32 (Sees (of_post pass.old))) }
+    {
+        self.ring.push_as::<Post, R>(rt, &mut pass.pass, name)
+    }
+
+    /// Takes the name at the front; None only where no name waits.
+    pub fn take<R: Wait>(&self, rt: &R, pass: &mut WorkPass) -> Option<JobName>
+        requires queue { pass.old.queue ≡ self.now }
+        ensures queue { pass.new.queue ≡ pass.old.queue }
+        ensures worker { pass.new.worker ≡ pass.old.worker }
+        ensures taken { MatchOption result (pass.new.taken ≡ pass.old.taken) (λ name. pass.new.taken ≡ pass.old.taken ++ name ∷ []) }
+        ensures slot { IfSome result (λ name. name.slot < 16) }
+        ensures rule { MatchOption result (Held 0 (Sees (of_work pass.old))) (λ name. Takes (of_work pass.old) name (of_work pass.new)) }
+    {
+        self.ring.pop_as::<Take, R>(rt, &mut pass.pass)
+    }
+}

@@ -1,0 +1,12 @@
+//! What all mounts share: the queue of job names, and the board of shutdown words.
+//! Neither has a lock, and nothing here says that a thread gets on.
+#![tactic(auto)]
+
+pub mod board;
+pub mod jobs;
+pub mod laws;
+mod rule;
+#[cfg(test)]
+mod tests;
+mod views;
+mod words;
