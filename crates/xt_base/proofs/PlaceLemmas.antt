@@ -1,11 +1,10 @@
 -- What stands at the place of a key.
-use Rattle.std.proofs.Common.{◌≡◌, ◌≢◌, ◌∙◌, ℕ, zero, suc, ◌+◌, ◌<◌, ◌≤◌, List, [], ◌∷◌, ◌++◌, Bool, true, false, Option, None, Some, sym, ap, refl, length, arith, inl, inr, ◌⊎◌, subst, get_or, drop, take, not}
-use Rattle.std.specs.Prelude.{◌==◌, nat_lt, nat_eq, cond, insert, remove, if◌then◌else◌}
+use Rattle.std.proofs.Common.{◌≡◌, ◌≢◌, ◌∙◌, ℕ, suc, ◌<◌, ◌≤◌, List, [], ◌∷◌, None, Some, sym, ap, refl, length, arith, inl, inr, subst, get_or}
+use Rattle.std.specs.Prelude.{insert, remove}
 use Rattle.std.proofs.Math.ListN.{set}
-use Rattle.std.specs.Ordering.{nat_cmp, match_ordering}
 use Rattle.std.proofs.lemmas.Bool.Decides.{nat_tests}
 use Rattle.std.proofs.lemmas.Bool.{cases_eq, cases_order}
-use Rattle.xt_base.specs.Maps.{at, put, without, is_in}
+use Rattle.xt_base.specs.Maps.{at, put, without}
 use Rattle.xt_base.specs.Places.{place, spot}
 
 differ : (a b : ℕ) → a ≡ b → b < a → ⊥

@@ -1,6 +1,6 @@
 -- What stands at the rank of a number.
-use Rattle.std.proofs.Common.{◌≡◌, ◌≢◌, ◌∙◌, ℕ, suc, ◌+◌, ◌<◌, ◌≤◌, List, [], ◌∷◌, ◌++◌, sym, ap, refl, length, arith, inl, inr, subst, get_or}
-use Rattle.std.specs.Prelude.{nat_lt, insert}
+use Rattle.std.proofs.Common.{◌≡◌, ◌≢◌, ◌∙◌, ℕ, suc, ◌<◌, ◌≤◌, List, [], ◌∷◌, sym, ap, refl, length, arith, inl, inr, subst, get_or}
+use Rattle.std.specs.Prelude.{insert}
 use Rattle.std.proofs.lemmas.Bool.Decides.{nat_tests}
 use Rattle.std.proofs.lemmas.Bool.{cases_order}
 use Rattle.xt_base.specs.Maps.{with_member}

@@ -1,26 +1,20 @@
 -- Scripts computed over the definitions: what each step of the mount alone says, and that the list is orderly.
 -- Made by tools/row-theorems from the files of rows/.
-use Rattle.std.proofs.Common.{◌≡◌, ℕ, List, [], ◌∷◌, ◌++◌, Some, None, Bool, true, false, refl}
+use Rattle.std.proofs.Common.{◌≡◌, ℕ, List, [], ◌∷◌, ◌++◌, Some, None, true, false, refl}
 use Rattle.std.specs.Prelude.{replicate}
 use Rattle.xt_base.specs.Alone.{Said, alone_run}
 use Rattle.xt_base.specs.Chunks.{chunks_where}
-use Rattle.xt_base.specs.Order.{first_disorder, in_order, orderly}
+use Rattle.xt_base.specs.Order.{in_order, orderly}
 use Rattle.xt_base.specs.State.{empty}
 use Rattle.xt_base.specs.declared.names.JobKind.{JobKind}
-use Rattle.xt_base.specs.declared.names.JobKind.TheVariants as JobKind
 use Rattle.xt_base.specs.declared.names.JobName.{JobName}
 use Rattle.xt_base.specs.declared.steps.Answer.TheVariants as Answer
 use Rattle.xt_base.specs.declared.steps.Errno.TheVariants as Errno
 use Rattle.xt_base.specs.declared.steps.HomeOffer.{HomeOffer}
-use Rattle.xt_base.specs.declared.steps.HomeOffer.TheVariants as HomeOffer
 use Rattle.xt_base.specs.declared.steps.LogOffer.{LogOffer}
-use Rattle.xt_base.specs.declared.steps.LogOffer.TheVariants as LogOffer
-use Rattle.xt_base.specs.declared.steps.Reason.TheVariants as Reason
 use Rattle.xt_base.specs.declared.steps.Reply.{Reply}
-use Rattle.xt_base.specs.declared.steps.Reply.TheVariants as Reply
 use Rattle.xt_base.specs.declared.steps.Request.TheVariants as Request
 use Rattle.xt_base.specs.declared.steps.Step.{Step}
-use Rattle.xt_base.specs.declared.steps.Step.TheVariants as Step
 
 -- the name of a job
 abbrev name : ℕ → ℕ → JobKind → ℕ → JobName

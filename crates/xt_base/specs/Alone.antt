@@ -16,8 +16,6 @@ use Rattle.xt_base.specs.declared.steps.Reply.TheVariants.{Okay, Refused, Seen}
 use Rattle.xt_base.specs.declared.steps.Request.{Request}
 use Rattle.xt_base.specs.declared.steps.Step.{Step}
 use Rattle.xt_base.specs.declared.steps.Step.TheVariants.{Begin, Call, End, Flush, Mount, Peek, Post, Show, Take}
-use Rattle.xt_base.specs.declared.steps.Reply.TheVariants as Reply
-use Rattle.xt_base.specs.declared.steps.Errno.TheVariants as Errno
 
 -- what a step of a slot answers and leaves, and what it offered to the two devices
 pub record Turn : Type 0 where

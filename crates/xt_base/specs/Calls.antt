@@ -18,9 +18,6 @@ use Rattle.xt_base.specs.declared.steps.Reason.TheVariants.{CorruptIncore, Force
 use Rattle.xt_base.specs.declared.steps.Reply.{Reply}
 use Rattle.xt_base.specs.declared.steps.Reply.TheVariants.{Aborted, Committed, Done, Free, Kept, Okay, OkayHeld, Refused, Wait}
 use Rattle.xt_base.specs.declared.steps.Request.{Request}
-use Rattle.xt_base.specs.declared.steps.Request.TheVariants as Request
-use Rattle.xt_base.specs.declared.steps.Answer.TheVariants as Answer
-use Rattle.xt_base.specs.declared.steps.Reply.TheVariants as Reply
 
 -- what a call or job answers and leaves
 pub record Outcome : Type 0 where

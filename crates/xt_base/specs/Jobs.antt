@@ -17,8 +17,6 @@ use Rattle.xt_base.specs.declared.steps.Owner.{Owner}
 use Rattle.xt_base.specs.declared.steps.Owner.TheVariants.{Stale}
 use Rattle.xt_base.specs.declared.steps.Reason.TheVariants.{LogIoError}
 use Rattle.xt_base.specs.declared.steps.Reply.TheVariants.{Begun, Failed, Flushed, Landed, Nothing}
-use Rattle.xt_base.specs.declared.names.JobKind.TheVariants as JobKind
-use Rattle.xt_base.specs.declared.steps.HomeOffer.TheVariants as HomeOffer
 
 -- ---- owed, posted, outstanding
 -- the outstanding job of a kind

@@ -1,6 +1,6 @@
 -- The end of a leg, committed or given up.
 use Rattle.std.specs.Prelude.{Bool, List, None, Option, Some, [], cond, filter, filter_map, if◌then◌else◌, is_none, is_some, length, not, unwrap_or, ℕ, ◌&&◌, ◌==◌, ◌∷◌}
-use Rattle.xt_base.specs.Chunks.{marks, union}
+use Rattle.xt_base.specs.Chunks.{union}
 use Rattle.xt_base.specs.Maps.{at, has, is_in, put, with_member, without}
 use Rattle.xt_base.specs.State.{Change, Leg, State}
 use Rattle.xt_base.specs.declared.steps.Owner.{Owner}

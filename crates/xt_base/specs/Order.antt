@@ -14,8 +14,6 @@ use Rattle.xt_base.specs.declared.steps.Reply.TheVariants.{Nothing}
 use Rattle.xt_base.specs.declared.steps.Request.{Request}
 use Rattle.xt_base.specs.declared.steps.Step.{Step}
 use Rattle.xt_base.specs.declared.steps.Step.TheVariants.{Begin, Call, End, Flush, Post, Take}
-use Rattle.xt_base.specs.declared.steps.Answer.TheVariants as Answer
-use Rattle.xt_base.specs.declared.names.JobKind.TheVariants as JobKind
 
 -- a step that was taken, with its reply
 pub record Event : Type 0 where

@@ -1,6 +1,5 @@
 -- What one slot is: the values of its layers side by side.
 use Rattle.std.specs.Prelude.{Bool, List, None, Option, [], false, ℕ, ◌≡◌}
-use Rattle.xt_base.specs.Chunks.{marks}
 use Rattle.xt_base.specs.declared.steps.Owner.{Owner}
 use Rattle.xt_base.specs.declared.steps.Reason.{Reason}
 

@@ -5,7 +5,6 @@ use Rattle.xt_base.specs.Chunks.{word_of}
 use Rattle.xt_base.specs.Maps.{at}
 use Rattle.xt_base.specs.declared.steps.LogAnswers.{LogAnswers}
 use Rattle.xt_base.specs.declared.steps.LogOffer.{LogOffer}
-use Rattle.xt_base.specs.declared.steps.LogOffer.TheVariants as LogOffer
 
 -- a block of zeros
 abbrev pub zeros : List ℕ

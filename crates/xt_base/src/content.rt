@@ -110,7 +110,7 @@ impl Data {
     }
 }
 
-/// Blocks that are handed back held, ascending: 1 to 64.
+/// Blocks that are handed back held, in the order in which they are told: 1 to 64.
 #[derive(Debug, Drop)]
 pub struct HeldBlocks {
     blocks: Vec<Block>,

@@ -88,7 +88,7 @@ impl Items {
         self.cil.entries()
     }
 
-    /// The items in flight, by rising block; none where nothing is in flight.
+    /// Whether a block is in flight.
     pub fn is_in_flight(&self, block: u64) -> bool
         ensures { result ≡ is_in block (flight_items self.now.flight) }
     {

@@ -27,7 +27,8 @@ fn request_has_come(request: &Request) -> bool
     }
 }
 
-/// Whether a step has come so far: none of a flush job has, and of the requests alloc, get, log, commit and force have.
+/// Whether a step has come so far: of the requests alloc, get, log, commit and force, of the posts those of
+/// checkpoints, and no flush.
 pub fn has_come(step: &Step) -> bool
     ensures { result ≡ step_has_come step.now }
 {

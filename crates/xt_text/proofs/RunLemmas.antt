@@ -6,7 +6,6 @@ use Rattle.std.proofs.lemmas.List.{replicate_more}
 use Rattle.std.proofs.lemmas.List.Folds.{prefix_len-append, prefix_len-replicate}
 use Rattle.std.specs.Cmp.Lexicographic.{pointwise, same_text}
 use Rattle.std.specs.List.{flat_map, prefix_len}
-
 use Rattle.xt_text.specs.DataText.{hex, runs}
 use Rattle.xt_text.specs.declared.data_text.Run.{Run}
 
@@ -53,9 +52,9 @@ hex_more byte n = rw (← replicate_more n byte, flat_map-append hex (replicate 
 -- a block of equal bytes at the front counts whole
 pub block_more : (byte : ℕ) (block rest after : List ℕ) → rest ≡ block ++ after → block ≡ replicate 128 byte → prefix_len (λ x. eqb x byte) rest ≡ 128 + prefix_len (λ x. eqb x byte) after
 block_more byte block rest after is all =
-  ap (λ xs. prefix_len (λ x. eqb x byte) xs) (is ∙ ap (λ b. b ++ after) all)
-  ∙ prefix_len-append (λ x. eqb x byte) (replicate 128 byte) after
-  ∙ ap (λ n. cond (eqb n 128) (128 + prefix_len (λ x. eqb x byte) after) n) (prefix_len-replicate (λ x. eqb x byte) 128 byte (eq-eqb byte byte refl))
+    ap (λ xs. prefix_len (λ x. eqb x byte) xs) (is ∙ ap (λ b. b ++ after) all)
+    ∙ prefix_len-append (λ x. eqb x byte) (replicate 128 byte) after
+    ∙ ap (λ n. cond (eqb n 128) (128 + prefix_len (λ x. eqb x byte) after) n) (prefix_len-replicate (λ x. eqb x byte) 128 byte (eq-eqb byte byte refl))
 
 -- what starts with a block
 pub block_front : (block bytes after : List ℕ) → pointwise nat_eq (take (length block) bytes) block ≡ true → after ≡ drop (length block) bytes → bytes ≡ block ++ after

@@ -1,6 +1,6 @@
-use Rattle.std.proofs.Common.{◌≡◌, ◌∙◌, ◌<◌, ◌≤◌, ap, sym, length, arith, is_ok, insert, if◌then◌else◌}
-use Rattle.xt_base.specs.Maps.{at, put, without}
-use Rattle.xt_base.specs.Places.{place, spot}
+use Rattle.std.proofs.Common.{◌∙◌, ◌<◌, ◌≤◌, ap, length, arith, is_ok, insert, if◌then◌else◌}
+use Rattle.xt_base.specs.Maps.{put}
+use Rattle.xt_base.specs.Places.{place}
 use Rattle.xt_base.proofs.PlaceLemmas.{put_found, put_there, put_last}
 use Rattle.xt_base.proofs.map.NumberMap.put.Goals as goal
 use Rattle.xt_base.proofs.map.NumberMap.put.Goals.{else-at-len-via-then-at-len+else-index-key, else-at-len-via-else-at-len}

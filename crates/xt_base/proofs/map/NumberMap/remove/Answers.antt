@@ -1,6 +1,6 @@
-use Rattle.std.proofs.Common.{◌≡◌, ◌∙◌, ◌<◌, ◌≤◌, ap, sym, length, arith}
-use Rattle.xt_base.specs.Maps.{at, put, without}
-use Rattle.xt_base.specs.Places.{place, spot}
+use Rattle.std.proofs.Common.{◌∙◌, ◌<◌, ◌≤◌, ap, sym, length, arith}
+use Rattle.xt_base.specs.Maps.{at, without}
+use Rattle.xt_base.specs.Places.{spot}
 use Rattle.xt_base.proofs.PlaceLemmas.{value_found, rest_found, value_missing, rest_missing}
 use Rattle.xt_base.proofs.map.NumberMap.remove.Goals as goal
 

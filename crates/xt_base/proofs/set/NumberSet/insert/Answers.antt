@@ -1,4 +1,4 @@
-use Rattle.std.proofs.Common.{◌≡◌, ◌∙◌, ◌<◌, ◌≤◌, ap, sym, length, arith, is_ok, insert, if◌then◌else◌}
+use Rattle.std.proofs.Common.{◌∙◌, ◌<◌, ◌≤◌, ap, sym, length, arith, is_ok, insert, if◌then◌else◌}
 use Rattle.xt_base.specs.Maps.{with_member}
 use Rattle.xt_base.specs.Places.{rank}
 use Rattle.xt_base.proofs.RankLemmas.{insert_rank, there_rank, insert_last}
