@@ -1,5 +1,5 @@
 -- The changes of a leg, seen as the definitions have them.
-use Rattle.std.proofs.Common.{◌≡◌, ◌∙◌, ◌+◌, ◌*◌, ◌-◌, ◌≤◌, ℕ, List, [], Option, Some, None, Bool, true, false, sym, ap, refl, map, length, arith}
+use Rattle.std.proofs.Common.{◌≡◌, ◌∙◌, ◌+◌, ◌*◌, ◌-◌, ◌≤◌, ℕ, List, [], Option, Some, None, false, sym, ap, refl, map, length, arith}
 use Rattle.std.specs.Prelude.{◌&&◌, option_map, unwrap_or, sum_by, is_some, is_none}
 use Rattle.xt_base.specs.Maps.{at, put}
 use Rattle.xt_base.specs.State.{Change, Leg, Transaction}

@@ -1,5 +1,5 @@
 -- The text of a checkpoint, chunk by chunk and item by item.
-use Rattle.std.proofs.Common.{◌≡◌, ◌∙◌, ◌+◌, ◌*◌, ◌-◌, ◌<◌, ◌≤◌, ℕ, suc, List, [], ◌∷◌, ◌++◌, Option, Some, None, Bool, true, false, sym, ap, subst, refl, length, arith, map, take, drop, filter, if◌then◌else◌, add-one, append-nil, length-append, IfSome}
+use Rattle.std.proofs.Common.{◌≡◌, ◌∙◌, ◌+◌, ◌*◌, ◌-◌, ◌<◌, ◌≤◌, ℕ, suc, List, [], ◌∷◌, ◌++◌, Option, Some, None, Bool, true, false, sym, ap, subst, refl, length, arith, map, take, filter, if◌then◌else◌, add-one, append-nil, length-append, IfSome}
 use Rattle.std.specs.Prelude.{All, ◌==◌, flat_map, get_or, replicate, not}
 use Rattle.std.specs.Int.{bit_at}
 use Rattle.std.proofs.lemmas.List.{drop-replicate, take-replicate, take_more, length-map, map-append}
@@ -10,7 +10,7 @@ use Rattle.xt_base.specs.Jobs.{landed, landed_items, waits_on}
 use Rattle.xt_base.specs.Settle.{settled}
 use Rattle.xt_base.specs.Sound.{IsRising, RisesFrom, AllBelow, IsBetween, IsSound, RisesFromKeys as NumbersRise}
 use Rattle.xt_base.specs.State.{Flight, Items, Jobs, State}
-use Rattle.xt_base.specs.Text.{chunk, chunk_bytes, zeros}
+use Rattle.xt_base.specs.Text.{chunk, zeros}
 use Rattle.xt_base.specs.declared.steps.Owner.{Owner}
 use Rattle.xt_base.proofs.MapLemmas.{some_same}
 use Rattle.xt_ckpt.specs.Items.{BlocksRise, HasForm, item_bytes}

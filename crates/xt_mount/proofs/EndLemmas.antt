@@ -1,13 +1,13 @@
 -- The end of a leg none of whose blocks is invalidated or held.
-use Rattle.std.proofs.Common.{◌≡◌, ◌∙◌, ◌+◌, ◌≤◌, ℕ, List, [], ◌∷◌, Option, Some, None, Bool, true, false, not, sym, ap, subst, refl, length, arith, map, filter, if◌then◌else◌, MatchOption}
+use Rattle.std.proofs.Common.{◌≡◌, ◌∙◌, ℕ, List, [], ◌∷◌, Option, Some, None, Bool, true, false, not, sym, ap, subst, refl, map, filter, if◌then◌else◌, MatchOption}
 use Rattle.std.specs.Prelude.{◌&&◌, cond, filter_map, is_some}
 use Rattle.std.specs.List.{cons_option}
 use Rattle.std.proofs.lemmas.List.Elements.{filter_agree}
-use Rattle.xt_base.specs.Maps.{at, is_in, put, without}
+use Rattle.xt_base.specs.Maps.{at, is_in, without}
 use Rattle.xt_base.specs.Calls.{closed, commit, commit_number, gives, held_of, io_of, with_trans}
 use Rattle.xt_base.specs.Legs.{aborted, ended, is_dirty, is_stale, owned_by, owner_aborted, owner_after, with_edits, with_lost, with_marks}
 use Rattle.xt_base.specs.Settle.{settled}
-use Rattle.xt_base.specs.State.{Change, Frames, Items, Leg, State, Transaction}
+use Rattle.xt_base.specs.State.{Change, Leg, State, Transaction}
 use Rattle.xt_base.specs.declared.steps.Errno.TheVariants.{Io}
 use Rattle.xt_base.specs.declared.steps.Owner.{Owner}
 use Rattle.xt_base.specs.declared.steps.Owner.TheVariants.{Stale}

@@ -1,8 +1,8 @@
 -- Finite maps whose values are seen another way.
-use Rattle.std.proofs.Common.{◌≡◌, ◌≢◌, ◌∙◌, ℕ, ◌<◌, List, [], ◌∷◌, Option, Some, None, sym, ap, refl, map, inl, inr}
+use Rattle.std.proofs.Common.{◌≡◌, ◌∙◌, ℕ, List, [], ◌∷◌, sym, ap, refl, map, inl, inr}
 use Rattle.std.specs.Prelude.{option_map}
 use Rattle.std.proofs.lemmas.Bool.{cases_eq, cases_order}
-use Rattle.xt_base.specs.Maps.{at, put, is_in}
+use Rattle.xt_base.specs.Maps.{at, put}
 use Rattle.xt_base.proofs.MapLemmas.{at_first, at_later, put_less, put_same, put_more}
 
 module _ {V W : Type 0} (g : V → W) where

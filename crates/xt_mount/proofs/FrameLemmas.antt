@@ -1,5 +1,5 @@
 -- Frames after a block was brought in.
-use Rattle.std.proofs.Common.{◌≡◌, ◌∙◌, ◌<◌, ◌≤◌, ℕ, List, [], Option, Some, None, Bool, true, false, sym, ap, subst, length, arith, inl, inr}
+use Rattle.std.proofs.Common.{◌≡◌, ◌∙◌, ◌<◌, ◌≤◌, ℕ, List, [], Some, None, true, false, sym, ap, subst, length, arith, inl, inr}
 use Rattle.std.specs.Prelude.{nat_lt, is_some}
 use Rattle.std.proofs.lemmas.Bool.Decides.{nat_tests}
 use Rattle.std.proofs.lemmas.Bool.{cases_lt}
@@ -33,6 +33,6 @@ lt_false a b h = grind (arith, nat_tests)
 pub spot_is_in : (k : ℕ) (m : List (ℕ × List ℕ)) (p n : ℕ) → p ≡ spot k m → n ≡ length m → nat_lt p n ≡ is_in k m
 spot_is_in k m p n is count =
     elim (cases_lt p n) [
-      inl lt ↦ lt_true p n lt ∙ sym (ap is_some (found k m (0 , []) (subst (λ x. x < length m) is (subst (λ x. p < x) count lt))).0)
+      | inl lt ↦ lt_true p n lt ∙ sym (ap is_some (found k m (0, []) (subst (λ x. x < length m) is (subst (λ x. p < x) count lt))).0)
       | inr ge ↦ lt_false p n ge ∙ sym (ap is_some (missing k m (subst (λ x. length m ≤ x) is (subst (λ x. x ≤ p) count ge))).0)
     ]

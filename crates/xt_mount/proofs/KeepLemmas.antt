@@ -1,11 +1,11 @@
 -- A transaction that is taken out, changed and put back.
-use Rattle.std.proofs.Common.{◌≡◌, ◌≢◌, ◌∙◌, ◌+◌, ◌<◌, ◌≤◌, ℕ, suc, List, [], ◌∷◌, Option, Some, None, sym, ap, subst, refl, inl, inr, arith, IfSome, length}
+use Rattle.std.proofs.Common.{◌≡◌, ◌≢◌, ◌∙◌, ◌<◌, ◌≤◌, ℕ, suc, List, [], ◌∷◌, Some, sym, ap, subst, refl, inl, inr, arith, IfSome, length}
 use Rattle.std.proofs.lemmas.Bool.{cases_order}
 use Rattle.xt_base.specs.Maps.{at, put, set_at, without, without_member}
 use Rattle.xt_base.specs.Calls.{edited, not_fresh, with_leg}
 use Rattle.xt_base.specs.Sound.{IsFair, IsRising, IsSound, RisesFrom}
 use Rattle.xt_base.specs.State.{Frames, State, Transaction}
-use Rattle.xt_base.proofs.MapLemmas.{some_none, at_first, at_later, put_less, put_more, set_first, set_later, without_first, without_later}
+use Rattle.xt_base.proofs.MapLemmas.{some_none, at_later, put_less, put_more, set_first, set_later, without_first, without_later}
 use Rattle.xt_base.proofs.RisingLemmas.{each_at, none_below}
 use Rattle.xt_base.proofs.SoundBounds.{few_changes}
 

@@ -1,12 +1,11 @@
 -- Costs of landed checkpoints: which of them still count.
-use Rattle.std.proofs.Common.{◌≡◌, ◌∙◌, ◌+◌, ◌<◌, ◌≤◌, ℕ, suc, List, [], ◌∷◌, ◌++◌, Option, Some, None, Bool, true, false, not, sym, ap, subst, refl, length, arith}
+use Rattle.std.proofs.Common.{◌≡◌, ◌∙◌, ◌+◌, ◌≤◌, ℕ, suc, List, [], ◌∷◌, ◌++◌, Option, Some, None, Bool, true, false, not, sym, ap, subst, refl, arith}
 use Rattle.std.specs.Prelude.{◌||◌, filter, sum_by, nat_le, IfSome}
-use Rattle.std.specs.List.{list_any}
 use Rattle.std.proofs.lemmas.List.Sums.{sum_by-cons}
 use Rattle.std.proofs.lemmas.Bool.Decides.{nat_tests}
 use Rattle.xt_base.specs.Maps.{put}
 use Rattle.xt_base.specs.Space.{cost, is_needed, still_needed}
-use Rattle.xt_base.specs.Sound.{IsRising, RisesFrom, Each, AllBelow}
+use Rattle.xt_base.specs.Sound.{IsRising, Each, AllBelow}
 use Rattle.xt_base.specs.State.{Flight, Items}
 use Rattle.xt_base.specs.Jobs.{activated, landed_items}
 use Rattle.xt_base.proofs.RisingLemmas.{filter_pass, filter_drop, rises_weaker, rises_above, rises_put, put_last, each_map}

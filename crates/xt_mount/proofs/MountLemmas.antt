@@ -1,5 +1,5 @@
 -- A mount stays sound, whatever it serves.
-use Rattle.std.proofs.Common.{◌≡◌, ◌∙◌, ℕ, [], Option, Some, None, Bool, true, false, sym, ap, subst, refl, IfOk, OnErr, Result, Ok, Err}
+use Rattle.std.proofs.Common.{◌≡◌, [], Option, Some, None, true, sym, ap, subst, refl, IfOk, OnErr, Result, Ok, Err}
 use Rattle.xt_base.specs.Calls.{Outcome, alone_with, commit, first_of, get, gives, log, log_refusals, get_refusals, with_trans}
 use Rattle.xt_base.specs.Jobs.{begin, is_ckpt, is_waiting}
 use Rattle.xt_base.specs.Maps.{at}
@@ -7,10 +7,8 @@ use Rattle.xt_base.specs.Sound.{IsSound}
 use Rattle.xt_base.specs.State.{State, Transaction}
 use Rattle.xt_base.specs.declared.names.JobName.{JobName}
 use Rattle.xt_base.specs.declared.steps.Answer.{Answer}
-use Rattle.xt_base.specs.declared.steps.Answer.TheVariants as Answer
 use Rattle.xt_base.specs.declared.steps.Reply.{Reply}
 use Rattle.xt_base.specs.declared.steps.Request.{Request}
-use Rattle.xt_base.specs.declared.steps.Request.TheVariants as Request
 use Rattle.xt_base.proofs.SoundSteps.{sound_alloc, sound_begin, sound_commit, sound_force, sound_get, sound_log, sound_unless}
 use Rattle.std.specs.declared.alloc.AllocError.{AllocError}
 use Rattle.xt_mount.specs.Come.{has_come}

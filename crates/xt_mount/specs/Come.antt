@@ -1,5 +1,5 @@
 -- The requests that have come so far, and what a mount owes of the jobs that have come.
-use Rattle.std.specs.Prelude.{ℕ, ◌+◌, ◌*◌, ◌==◌, ◌||◌, List, [], ◌∷◌, Option, None, Some, Bool, true, false, nat_lt, if◌then◌else◌}
+use Rattle.std.specs.Prelude.{ℕ, ◌+◌, ◌==◌, ◌||◌, List, [], ◌∷◌, Option, None, Some, Bool, true, false, nat_lt, if◌then◌else◌}
 use Rattle.xt_base.specs.Jobs.{is_ckpt, is_owed}
 use Rattle.xt_base.specs.State.{State}
 use Rattle.xt_base.specs.declared.names.JobKind.{JobKind}
@@ -7,7 +7,6 @@ use Rattle.xt_base.specs.declared.names.JobName.{JobName}
 use Rattle.xt_base.specs.declared.steps.Errno.{Errno}
 use Rattle.xt_base.specs.declared.steps.Errno.TheVariants.{Invalid, NoSpace}
 use Rattle.xt_base.specs.declared.steps.Request.{Request}
-use Rattle.xt_base.specs.declared.steps.Request.TheVariants as Request
 
 -- alloc, get, log, commit and force have come
 abbrev pub has_come : Request → Bool

@@ -25,7 +25,9 @@ impl Machine {
         if self.is_shut() {
             return Some(Errno::Io);
         }
-        if is_at_end(self.locks.own_count(trans, block)) || (self.is_own(trans, block) && self.frames.is_fresh(block)) {
+        if is_at_end(self.locks.own_count(trans, block))
+            || (self.is_own(trans, block) && self.frames.is_fresh(block))
+        {
             return Some(Errno::Invalid);
         }
         if self.is_elsewhere(trans, block) {

@@ -1,6 +1,5 @@
 use Rattle.std.proofs.Common.{◌≡◌, ◌≤◌, ◌+◌, length, map}
 use Rattle.xt_base.specs.Legs.{with_edits, with_marks}
-use Rattle.xt_base.specs.State.{Frames, Items}
 use Rattle.xt_mount.specs.Changes.{change_entry}
 use Rattle.xt_mount.proofs.commit.keep_changes.Given as goal
 

@@ -1,5 +1,5 @@
-use Rattle.std.proofs.Common.{◌≡◌, ◌≤◌, ◌-◌, ◌++◌, length, take, drop, filter, reverse, if◌then◌else◌}
-use Rattle.xt_mount.specs.Settling.{is_busy_in, leaving_contents}
+use Rattle.std.proofs.Common.{◌-◌, length}
+use Rattle.xt_mount.specs.Settling.{is_busy_in}
 use Rattle.xt_mount.proofs.SettleLemmas.{Settles}
 use Rattle.xt_mount.proofs.settle.settle_contents.Given as goal
 

@@ -1,4 +1,4 @@
-use Rattle.std.proofs.Common.{◌≡◌, ◌∙◌, ◌++◌, ◌∷◌, [], List, ℕ, Some, sym, ap, subst, is_ok, IfSome, if◌then◌else◌}
+use Rattle.std.proofs.Common.{◌≡◌, ◌∙◌, ◌++◌, ◌∷◌, [], Some, sym, ap, subst, is_ok, IfSome, if◌then◌else◌}
 use Rattle.xt_base.specs.Jobs.{activated, landed_items}
 use Rattle.xt_base.specs.Space.{cost}
 use Rattle.xt_base.specs.Sound.{AllBelow, IsRising}

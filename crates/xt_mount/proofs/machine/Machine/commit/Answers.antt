@@ -1,7 +1,6 @@
-use Rattle.std.proofs.Common.{◌≡◌, ◌∙◌, [], Some, ap, sym, length, arith, map, if◌then◌else◌}
+use Rattle.std.proofs.Common.{◌≡◌, ◌∙◌, [], Some, ap, sym, length, arith, if◌then◌else◌}
 use Rattle.std.specs.Prelude.{◌&&◌, is_some}
 use Rattle.std.proofs.lemmas.List.{length-map}
-use Rattle.xt_base.specs.Legs.{is_dirty}
 use Rattle.xt_base.specs.Settle.{settled}
 use Rattle.xt_base.specs.Maps.{at}
 use Rattle.xt_base.specs.State.{State}

@@ -1,4 +1,3 @@
-use Rattle.std.proofs.Common.{sym}
 use Rattle.xt_mount.specs.Machines.{state_of}
 use Rattle.xt_mount.proofs.KeepLemmas.{rising_changes, few_edits}
 use Rattle.xt_mount.proofs.machine.Machine.log.Goals as goal

@@ -1,4 +1,4 @@
-use Rattle.std.proofs.Common.{◌≡◌, ◌∙◌, ap, sym, length, arith, map, subst}
+use Rattle.std.proofs.Common.{◌∙◌, ap, sym, length, arith, subst}
 use Rattle.xt_base.proofs.BusyLemmas.{few_committed}
 use Rattle.xt_base.specs.State.{State}
 use Rattle.xt_ckpt.specs.Items.{BlocksRise}

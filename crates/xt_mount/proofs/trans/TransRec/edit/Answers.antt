@@ -1,4 +1,4 @@
-use Rattle.std.proofs.Common.{◌∙◌, ap, refl, map}
+use Rattle.std.proofs.Common.{◌∙◌, ap, refl}
 use Rattle.xt_base.specs.Calls.{edited}
 use Rattle.xt_base.specs.Chunks.{union}
 use Rattle.xt_base.specs.State.{Transaction, Leg}
