@@ -1,16 +1,14 @@
 -- The steps of lines are steps that have come.
-use Rattle.std.proofs.Common.{true≢false, ◌≡◌, ◌∙◌, ℕ, Bool, true, false, List, [], ◌∷◌, Option, Some, None, sym, ap, ap₂, subst, refl, filter, ◌&&◌, cond}
+use Rattle.std.proofs.Common.{true≢false, ◌≡◌, ℕ, Bool, true, false, List, [], ◌∷◌, Option, Some, None, sym, ap₂, refl, filter, ◌&&◌, cond}
 use Rattle.std.specs.Prelude.{◌==◌}
 use Rattle.std.specs.List.{list_all}
 use Rattle.xt_base.specs.Jobs.{is_ckpt}
 use Rattle.xt_base.specs.Sound.{Each}
-use Rattle.xt_base.specs.Steps.{slot_of, strike}
+use Rattle.xt_base.specs.Steps.{slot_of}
 use Rattle.xt_base.specs.declared.names.JobKind.{JobKind}
 use Rattle.xt_base.specs.declared.names.JobKind.TheVariants.{Ckpt, Flush}
 use Rattle.xt_base.specs.declared.steps.Step.{Step}
-use Rattle.xt_base.specs.declared.steps.Step.TheVariants as Step
 use Rattle.xt_base.specs.declared.steps.Request.{Request}
-use Rattle.xt_base.specs.declared.steps.Request.TheVariants as Request
 use Rattle.xt_cli.specs.Script.{picked}
 use Rattle.xt_mount.specs.Come.{has_come}
 use Rattle.xt_mount.specs.Solo.{step_has_come}
@@ -62,7 +60,7 @@ all_come (x ∷ steps) valid = ap₂ (λ a b. a && b) (step_come x valid.0) (all
 
 -- both sides of what holds
 pub both : (a b : Bool) → (a && b) ≡ true → (a ≡ true) × (b ≡ true)
-both true true holds = (refl , refl)
+both true true holds = (refl, refl)
 both true false holds = absurd (true≢false (sym holds))
 both false b holds = absurd (true≢false (sym holds))
 

@@ -1,5 +1,5 @@
 -- Lines of a text, one after another.
-use Rattle.std.proofs.Common.{add-one, le_of_suc-le-suc, suc-le-suc, not-suc-le-zero, inl, inr, suc, zero, ◌-◌, ◌≡◌, ◌∙◌, ◌+◌, ◌≤◌, ◌<◌, ◌≢◌, ◌⊎◌, ℕ, List, [], ◌∷◌, ◌++◌, Option, Some, None, sym, ap, subst, refl, length, take, drop, arith, append_assoc, append-nil, flat_map}
+use Rattle.std.proofs.Common.{add-one, le_of_suc-le-suc, suc-le-suc, not-suc-le-zero, inl, inr, suc, zero, ◌-◌, ◌≡◌, ◌∙◌, ◌+◌, ◌≤◌, ◌<◌, ◌≢◌, ◌⊎◌, ℕ, List, [], ◌∷◌, ◌++◌, Option, Some, None, sym, ap, subst, refl, length, take, drop, append_assoc, append-nil}
 use Rattle.std.proofs.lemmas.List.{flat_map_more, take_rest}
 use Rattle.std.specs.List.{slice_get}
 use Rattle.std.specs.Prelude.{Err, IfSome, Result, option_map, unwrap_or}
@@ -29,8 +29,8 @@ text_more steps x = flat_map_more (λ y. ended (line_of y)) [] steps x
 
 -- each of some, and one more
 pub each_more : (P : Step → Type 0) (steps : List Step) (x : Step) → Each P steps → P x → Each P (steps ++ x ∷ [])
-each_more P [] x all holds = (holds , tt)
-each_more P (y ∷ steps) x all holds = (all.0 , each_more P steps x all.1 holds)
+each_more P [] x all holds = (holds, tt)
+each_more P (y ∷ steps) x all holds = (all.0, each_more P steps x all.1 holds)
 
 -- the same before what comes after
 pub text_before : (steps : List Step) (x : Step) (after : List ℕ) → script_text steps ++ (ended (line_of x) ++ after) ≡ script_text (steps ++ x ∷ []) ++ after
@@ -42,15 +42,17 @@ line_before line after = sym (append_assoc line (10 ∷ []) after)
 
 -- a step's line was read, and its newline
 pub parsed_line : (script : List ℕ) (steps : List Step) (x : Step) (after : List ℕ) → IsStep x → script ≡ script_text steps ++ (ended (line_of x) ++ after) → Each IsStep steps → IsParsed script (steps ++ x ∷ []) after
-parsed_line script steps x after valid text all = record
-  { valid = each_more IsStep steps x all valid
-  ; text = inl (text ∙ text_before steps x after) }
+parsed_line script steps x after valid text all = record {
+  valid = each_more IsStep steps x all valid;
+  text = inl (text ∙ text_before steps x after);
+}
 
 -- the last line was read, which had no newline
 pub parsed_last : (script : List ℕ) (steps : List Step) (x : Step) → IsStep x → (script ≡ script_text steps ++ line_of x) → Each IsStep steps → IsParsed script (steps ++ x ∷ []) []
-parsed_last script steps x valid text all = record
-  { valid = each_more IsStep steps x all valid
-  ; text = inr (refl , ap (λ t. t ++ 10 ∷ []) text ∙ append_assoc (script_text steps) (line_of x) (10 ∷ []) ∙ text_more steps x) }
+parsed_last script steps x valid text all = record {
+  valid = each_more IsStep steps x all valid;
+  text = inr (refl, ap (λ t. t ++ 10 ∷ []) text ∙ append_assoc (script_text steps) (line_of x) (10 ∷ []) ∙ text_more steps x);
+}
 
 -- one more line was read
 pub parsed_more : (script : List ℕ) (steps : List Step) (rest line after : List ℕ) (x : Step) → IsParsed script steps rest → IsCut rest line after → rest ≢ [] → line ≡ line_of x → IsStep x → IsParsed script (steps ++ x ∷ []) after
@@ -76,7 +78,7 @@ read_whole (Some bytes) got read short = read ∙ taken_whole bytes 16777217 (su
 -- what was read after nothing up to a limit
 pub read_limited : (left inner : Option (List ℕ)) (limit : ℕ) (before got : List ℕ) → inner ≡ left → limit ≡ 16777217 → before ≡ [] → IfSome (option_map (take limit) inner) (λ xs. got ≡ before ++ xs) → IfSome left (λ bytes. got ≡ take 16777217 bytes)
 read_limited left inner limit before got same whole none read =
-  known left (subst (λ i. IfSome (option_map (take 16777217) i) (λ xs. got ≡ xs)) same (subst (λ n. IfSome (option_map (take n) inner) (λ xs. got ≡ xs)) whole (subst (λ b. IfSome (option_map (take limit) inner) (λ xs. got ≡ b ++ xs)) none read)))
+    known left (subst (λ i. IfSome (option_map (take 16777217) i) (λ xs. got ≡ xs)) same (subst (λ n. IfSome (option_map (take n) inner) (λ xs. got ≡ xs)) whole (subst (λ b. IfSome (option_map (take limit) inner) (λ xs. got ≡ b ++ xs)) none read)))
   where
     known : (l : Option (List ℕ)) → IfSome (option_map (take 16777217) l) (λ xs. got ≡ xs) → IfSome l (λ bytes. got ≡ take 16777217 bytes)
     known None k = tt
@@ -84,10 +86,11 @@ read_limited left inner limit before got same whole none read =
 
 -- a line that is no step's follows the lines of steps
 pub bad_here : (script : List ℕ) (steps : List Step) (rest line after : List ℕ) → IsParsed script steps rest → IsCut rest line after → rest ≢ [] → IsBadLine line → IsBadScript script (length steps + 1)
-bad_here script steps rest line after parsed cut left bad = (steps , (line , (after , here parsed.text cut)))
+bad_here script steps rest line after parsed cut left bad = (steps, (line, (after, here parsed.text cut)))
   where
     at : (script ≡ script_text steps ++ line) ⊎ (script ≡ script_text steps ++ (ended line ++ after)) → IsBadAt script (length steps + 1) steps line after
     at text = record { valid = parsed.valid; text = text; bad = bad; place = refl }
+
     here : (script ≡ script_text steps ++ rest) ⊎ ((rest ≡ []) × (script ++ 10 ∷ [] ≡ script_text steps)) → IsCut rest line after → IsBadAt script (length steps + 1) steps line after
     here (inr none) c = absurd (left none.0)
     here (inl text) (inl c) = at (inr (text ∙ ap (λ t. script_text steps ++ t) (c ∙ line_before line after)))

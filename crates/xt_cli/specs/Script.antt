@@ -1,5 +1,5 @@
 -- What a script says, and what is printed of its run.
-use Rattle.std.specs.Prelude.{Bool, List, Option, None, Some, [], false, flat_map, length, true, ℕ, ◌+◌, ◌++◌, ◌<◌, ◌≡◌, ◌≢◌, ◌∷◌, ◌⊎◌}
+use Rattle.std.specs.Prelude.{Bool, List, Option, None, Some, [], false, flat_map, length, true, ℕ, ◌+◌, ◌++◌, ◌≡◌, ◌≢◌, ◌∷◌, ◌⊎◌}
 use Rattle.std.specs.Io.KnownBytes.{Appends, Keeps}
 use Rattle.xt_base.specs.Isolation.{BreaksOne, TellsOne, Told}
 use Rattle.xt_base.specs.Sound.{Each}

@@ -5,6 +5,8 @@ mod fault;
 mod lines;
 mod printing;
 mod script;
+#[cfg(test)]
+mod tests;
 
 use clap::Command;
 use clap::error::ErrorKind;
@@ -16,8 +18,9 @@ use std::process::ExitCode;
 
 /// The command line.
 fn command<'a>(alloc: Global) -> Result<Command<'a>, AllocError> {
-    let script = Command::new(alloc, "script")
-        .about("Runs the steps on standard input, one on a line, and prints each reply with its offers");
+    let script = Command::new(alloc, "script").about(
+        "Runs the steps on standard input, one on a line, and prints each reply with its offers",
+    );
     Command::new(alloc, "xth")
         .about("Transactions over the blocks of a volume, step by step")
         .subcommand_required(true)
@@ -28,13 +31,7 @@ fn command<'a>(alloc: Global) -> Result<Command<'a>, AllocError> {
 fn script_on_streams(rt: &HostRuntime) -> Result<u8, ScriptFault> {
     let alloc = rt.alloc();
     let mut writer = BufWriter::new(alloc, rt.stdout())?;
-    Ok(run_script(
-        alloc,
-        &mut rt.reader(),
-        &mut writer,
-        &mut rt.stderr(),
-        None,
-    ))
+    Ok(run_script(alloc, &mut rt.reader(), &mut writer, &mut rt.stderr(), None))
 }
 
 /// What a command line that is none prints, and its status.

@@ -35,7 +35,12 @@ fn print_turn<W: Write>(writer: &mut W, text: &mut Text, turn: &Turn) -> io::Res
 }
 
 /// Prints the offers to a log device.
-fn print_log<W: Write>(writer: &mut W, text: &mut Text, slot: Slot, offers: &[LogOffer]) -> io::Result<()>
+fn print_log<W: Write>(
+    writer: &mut W,
+    text: &mut Text,
+    slot: Slot,
+    offers: &[LogOffer],
+) -> io::Result<()>
     ensures { OnOk result (Appends (W.contents writer.old) (W.contents writer.new) (log_lines slot offers.now)) }
 {
     for offer in offers {
@@ -47,7 +52,12 @@ fn print_log<W: Write>(writer: &mut W, text: &mut Text, slot: Slot, offers: &[Lo
 }
 
 /// Prints the offers to a home device.
-fn print_home<W: Write>(writer: &mut W, text: &mut Text, slot: Slot, offers: &[HomeOffer]) -> io::Result<()>
+fn print_home<W: Write>(
+    writer: &mut W,
+    text: &mut Text,
+    slot: Slot,
+    offers: &[HomeOffer],
+) -> io::Result<()>
     ensures { OnOk result (Appends (W.contents writer.old) (W.contents writer.new) (home_lines slot offers.now)) }
 {
     for offer in offers {
@@ -68,7 +78,12 @@ fn print_line<W: Write>(writer: &mut W, text: &mut Text) -> io::Result<()>
 }
 
 /// Prints what the steps before one that breaks order said, and its place, counted from 1.
-pub fn print_broken<W: Write>(alloc: Global, writer: &mut W, turns: &[Turn], at: usize) -> io::Result<()>
+pub fn print_broken<W: Write>(
+    alloc: Global,
+    writer: &mut W,
+    turns: &[Turn],
+    at: usize,
+) -> io::Result<()>
     requires { at < 18446744073709551615 }
     ensures { OnOk result (Appends (W.contents writer.old) (W.contents writer.new) (turns_text turns.now ++ disorder_text at)) }
 {

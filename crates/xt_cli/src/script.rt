@@ -47,7 +47,12 @@ fn play_steps<W: Write>(alloc: Global, writer: &mut W, steps: &[Step]) -> Result
 
 /// Reads, parses, runs and prints: the status is 0, or 3 where a step breaks order.
 #[tactic(auto, using(crate::proofs::ComeLemmas::picked_come, crate::proofs::PlayLemmas::played))]
-fn play<R: Read, W: Write>(alloc: Global, reader: &mut R, writer: &mut W, only: Option<Slot>) -> Result<u8, ScriptFault>
+fn play<R: Read, W: Write>(
+    alloc: Global,
+    reader: &mut R,
+    writer: &mut W,
+    only: Option<Slot>,
+) -> Result<u8, ScriptFault>
     ensures played { IfOk result (λ status. IfSome (R.remaining reader.old) (λ script. IsPlayed only script (W.contents writer.old) (W.contents writer.new) status)) }
     ensures fault { IfErr result (λ fault. IfSome (R.remaining reader.old) (λ script. IsFault script (W.contents writer.old) (W.contents writer.new) fault)) }
 {
@@ -62,7 +67,13 @@ fn play<R: Read, W: Write>(alloc: Global, reader: &mut R, writer: &mut W, only: 
 /// the slot and the reply, followed by a line for each offer that the step made. It answers the exit status:
 /// 0; 1 after a fault, which is printed on `err`; 2 after `bad line N` on `err`, with nothing on `writer`; 3 after
 /// the lines before the first step that breaks order and `disorder N`.
-pub fn run_script<R: Read, W: Write, E: Write>(alloc: Global, reader: &mut R, writer: &mut W, err: &mut E, only: Option<Slot>) -> u8
+pub fn run_script<R: Read, W: Write, E: Write>(
+    alloc: Global,
+    reader: &mut R,
+    writer: &mut W,
+    err: &mut E,
+    only: Option<Slot>,
+) -> u8
     ensures { IfSome (R.remaining reader.old) (λ script. IsRun only script (W.contents writer.old) (W.contents writer.new) result) }
 {
     match play(alloc, reader, writer, only) {

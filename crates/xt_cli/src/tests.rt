@@ -1,0 +1,199 @@
+//! Worked scripts: what they print, and how they end.
+
+mod rows;
+
+use crate::script::run_script;
+use rows::*;
+use std::alloc::Global;
+use std::io::{self, Read, Write};
+use std::process::Abort;
+use std::test::Fail;
+use xt_base::names::Slot;
+
+/// Steps of two slots, among each other.
+const TWO_SLOTS: &str = "\
+    mount 0 65536 1024\n\
+    mount 1 65536 1024\n\
+    0.1 alloc 5000 1 plain\n\
+    1.1 alloc 5000 1 plain\n\
+    0.1 get t1 7\n";
+
+/// A disk that is full.
+#[derive(Drop)]
+struct Full;
+
+impl Write for Full {
+    fn write(&mut self, _: &[u8]) -> io::Result<usize> {
+        Err(io::Error::from(io::ErrorKind::StorageFull))
+    }
+
+    fn flush(&mut self) -> io::Result<()> {
+        Ok(())
+    }
+}
+
+/// Takes all bytes, and cannot flush them.
+#[derive(Drop)]
+struct Stuck(Vec<u8>);
+
+impl Write for Stuck {
+    fn write(&mut self, buf: &[u8]) -> io::Result<usize> {
+        self.0.write(buf)
+    }
+
+    fn flush(&mut self) -> io::Result<()> {
+        Err(io::Error::from(io::ErrorKind::StorageFull))
+    }
+}
+
+/// Asserts what the steps of a script print, or those of one slot, and its status.
+fn says_of(
+    rt: &impl Abort,
+    alloc: Global,
+    input: &str,
+    only: Option<Slot>,
+    want: &str,
+    status: u8,
+) {
+    let (mut out, mut err) = (Vec::new(alloc), Vec::new(alloc));
+    let got = run_script(alloc, &mut input.as_bytes(), &mut out, &mut err, only);
+    assert_eq!(rt; got, status);
+    assert_eq!(rt; out.as_slice(), want.as_bytes());
+    assert!(rt; err.is_empty());
+}
+
+/// Asserts what a script prints, and its status.
+fn says(rt: &impl Abort, alloc: Global, input: &str, want: &str, status: u8) {
+    says_of(rt, alloc, input, None, want, status);
+}
+
+/// Asserts what a script that is not run prints as its fault, and its status.
+fn refuses<R: Read>(rt: &impl Abort, alloc: Global, reader: &mut R, want: &str, status: u8) {
+    let (mut out, mut err) = (Vec::new(alloc), Vec::new(alloc));
+    let got = run_script(alloc, reader, &mut out, &mut err, None);
+    assert_eq!(rt; got, status);
+    assert!(rt; out.is_empty());
+    assert_eq!(rt; err.as_slice(), want.as_bytes());
+}
+
+/// Asserts that a writer's failure is printed as a fault.
+fn fails<W: Write>(rt: &impl Abort, alloc: Global, writer: &mut W) {
+    let mut err = Vec::new(alloc);
+    let got = run_script(alloc, &mut ROW01_IN.as_bytes(), writer, &mut err, None);
+    assert_eq!(rt; got, 1);
+    assert!(rt; err.starts_with(b"fault: "));
+    assert!(rt; err.ends_with(b"\n"));
+}
+
+#[test]
+fn one_force_one_checkpoint(rt: HostRuntime) {
+    says(&rt, rt.alloc(), ROW01_IN, ROW01_OUT, 0);
+}
+
+#[test]
+fn a_failed_offer_fails_the_force(rt: HostRuntime) {
+    says(&rt, rt.alloc(), ROW13_R1_IN, ROW13_R1_OUT, 0);
+}
+
+#[test]
+fn an_empty_script_says_nothing(rt: HostRuntime) {
+    says(&rt, rt.alloc(), "", "", 0);
+}
+
+#[test]
+fn data_has_one_spelling(rt: HostRuntime) {
+    refuses(
+        &rt,
+        rt.alloc(),
+        &mut ROW21B_IN.as_bytes(),
+        "bad line 1\n",
+        2,
+    );
+}
+
+#[test]
+fn a_chunk_is_logged_again(rt: HostRuntime) {
+    says(&rt, rt.alloc(), RELOGGED_IN, RELOGGED_OUT, 0);
+}
+
+#[test]
+fn a_commit_of_an_eighth_is_pushed(rt: HostRuntime) {
+    says(&rt, rt.alloc(), EIGHTH_IN, EIGHTH_OUT, 0);
+}
+
+#[test]
+fn a_commit_of_less_than_an_eighth_is_not(rt: HostRuntime) {
+    says(&rt, rt.alloc(), EIGHTH_LESS_IN, EIGHTH_LESS_OUT, 3);
+}
+
+#[test]
+fn a_bad_line_is_counted_and_nothing_is_run(rt: HostRuntime) {
+    let alloc = rt.alloc();
+    for script in [
+        "mount 0 65536 1024\n0.1 frob\n",
+        "mount 0 65536 1024\n0.1 frob",
+        "mount 0 65536 1024\n\n",
+        "take 0 0.1.ckpt.1\n\nmount\n",
+    ] {
+        refuses(&rt, alloc, &mut script.as_bytes(), "bad line 2\n", 2);
+    }
+}
+
+#[test]
+fn a_long_script_is_refused(rt: HostRuntime) {
+    let alloc = rt.alloc();
+    let want = "fault: script too long\n";
+    refuses(&rt, alloc, &mut io::repeat(b'\n').take(16_777_217), want, 1);
+    refuses(&rt, alloc, &mut io::repeat(b' '), want, 1);
+}
+
+#[test]
+fn the_longest_script_is_read(rt: HostRuntime) {
+    let mut reader = io::repeat(b'\n').take(16_777_216);
+    refuses(&rt, rt.alloc(), &mut reader, "bad line 1\n", 2);
+}
+
+#[test]
+fn the_last_newline_may_be_wanting(rt: HostRuntime) {
+    says(&rt, rt.alloc(), "mount 0 65536 1024", "0 life 1\n", 0);
+    says(&rt, rt.alloc(), ROW01_IN.trim_end(), ROW01_OUT, 0);
+}
+
+#[test]
+fn a_failing_writer_is_a_fault(rt: HostRuntime) {
+    let alloc = rt.alloc();
+    fails(&rt, alloc, &mut Full);
+    fails(&rt, alloc, &mut Stuck(Vec::new(alloc)));
+    fails(&rt, alloc, &mut [0u8; 20].as_mut_slice());
+}
+
+#[test]
+fn a_broken_order_is_printed_after_what_came_before(rt: HostRuntime) {
+    let alloc = rt.alloc();
+    let script = "mount 0 65536 1024\ntake 0 0.1.ckpt.1\n0.1 force\n";
+    says(&rt, alloc, script, "0 life 1\ndisorder 2\n", 3);
+    says(&rt, alloc, "post 0.1.ckpt.1\n", "disorder 1\n", 3);
+}
+
+#[test]
+fn a_step_of_another_slot_breaks_order(rt: HostRuntime) {
+    says(&rt, rt.alloc(), TWO_SLOTS, "0 life 1\ndisorder 2\n", 3);
+}
+
+#[test]
+fn steps_of_other_slots_are_left_out(rt: HostRuntime) -> Result<(), Fail> {
+    let alloc = rt.alloc();
+    let slot = |index| Slot::new(index).ok_or("a slot");
+    let (first, second, third) = (slot(0)?, slot(1)?, slot(2)?);
+    says_of(
+        &rt,
+        alloc,
+        TWO_SLOTS,
+        Some(first),
+        "0 life 1\n0 t1\n0 ok\n",
+        0,
+    );
+    says_of(&rt, alloc, TWO_SLOTS, Some(second), "1 life 1\n1 t1\n", 0);
+    says_of(&rt, alloc, TWO_SLOTS, Some(third), "", 0);
+    Ok(())
+}
