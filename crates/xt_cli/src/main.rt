@@ -23,6 +23,7 @@ fn command<'a>(alloc: Global) -> Result<Command<'a>, AllocError> {
     );
     Command::new(alloc, "xth")
         .about("Transactions over the blocks of a volume, step by step")
+        .bin_name("xth")?
         .subcommand_required(true)
         .subcommand(script)
 }
