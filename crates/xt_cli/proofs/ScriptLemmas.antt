@@ -1,13 +1,14 @@
 -- Lines of a text, one after another.
-use Rattle.std.proofs.Common.{add-one, le_of_suc-le-suc, suc-le-suc, not-suc-le-zero, inl, inr, suc, zero, ◌-◌, ◌≡◌, ◌∙◌, ◌+◌, ◌≤◌, ◌<◌, ◌≢◌, ◌⊎◌, ℕ, List, [], ◌∷◌, ◌++◌, Option, Some, None, sym, ap, subst, refl, length, take, drop, append_assoc, append-nil}
-use Rattle.std.proofs.lemmas.List.{flat_map_more, take_rest}
-use Rattle.std.specs.List.{slice_get}
-use Rattle.std.specs.Prelude.{Err, IfSome, Result, option_map, unwrap_or}
+use Rattle.std.proofs.Common.{Bool, ap₂, cond, false, true, true≢false, ◌&&◌, add-one, one-add, le_of_suc-le-suc, suc-le-suc, not-suc-le-zero, inl, inr, suc, zero, ◌-◌, ◌≡◌, ◌∙◌, ◌+◌, ◌≤◌, ◌<◌, ◌≢◌, ◌⊎◌, ℕ, List, [], ◌∷◌, ◌++◌, Option, Some, None, sym, ap, subst, refl, length, take, drop, append_assoc, append-nil}
+use Rattle.std.proofs.lemmas.Bool.{eqb-true}
+use Rattle.std.proofs.lemmas.List.{flat_map_more, take_all, take_rest}
+use Rattle.std.specs.List.{prefix_len, slice_get}
+use Rattle.std.specs.Prelude.{Err, IfSome, Result, not, option_map, unwrap_or, ◌==◌}
 use Rattle.xt_base.proofs.MapLemmas.{some_none}
 use Rattle.xt_base.specs.Sound.{Each}
 use Rattle.xt_base.specs.declared.steps.Step.{Step}
 use Rattle.xt_cli.specs.Printing.{ended}
-use Rattle.xt_cli.specs.Script.{IsBadAt, IsBadLine, IsBadScript, IsCut, IsParsed, IsScript, script_text}
+use Rattle.xt_cli.specs.Script.{IsBadAt, IsBadLine, IsBadScript, IsCut, IsParsed, IsScript, is_one_line, script_text}
 use Rattle.xt_text.specs.Lines.{IsStep, line_of}
 use Rattle.xt_text.specs.Reading.{Gives}
 use Rattle.xt_text.specs.declared.bad_line.BadLine.{BadLine}
@@ -19,9 +20,54 @@ cut_at [] i x at = some_none x _ (sym at)
 cut_at (y ∷ xs) zero x at = ap (λ z. z ∷ xs) (ap (λ o. unwrap_or o y) at)
 cut_at (y ∷ xs) (suc i) x at = ap (λ zs. y ∷ zs) (cut_at xs i x at)
 
+-- how many bytes stand before the first newline
+abbrev pub line_end : List ℕ → ℕ
+line_end text = prefix_len (λ b. not (b == 10)) text
+
+-- a byte that is no other than a newline
+pub newline_is : (b : ℕ) → not (b == 10) ≡ false → b ≡ 10
+newline_is b is = eqb-true b 10 (not_false (b == 10) is)
+  where
+    not_false : (t : Bool) → not t ≡ false → t ≡ true
+    not_false true i = refl
+    not_false false i = absurd (true≢false i)
+
+-- a newline stands after the first line
+pub at_newline : (text : List ℕ) → line_end text < length text → slice_get text (line_end text) ≡ Some 10
+at_newline [] less = absurd (not-suc-le-zero less)
+at_newline (x ∷ xs) less = found (not (x == 10)) refl (1 + line_end xs) (one-add (line_end xs)) less (at_newline xs)
+  where
+    found : (b : Bool) → not (x == 10) ≡ b → (m : ℕ) → m ≡ suc (line_end xs) → cond b m 0 < suc (length xs) → (line_end xs < length xs → slice_get xs (line_end xs) ≡ Some 10) → slice_get (x ∷ xs) (cond b m 0) ≡ Some 10
+    found true is m one l rest = subst (λ k. slice_get (x ∷ xs) k ≡ Some 10) (sym one) (rest (le_of_suc-le-suc (subst (λ k. k < suc (length xs)) one l)))
+    found false is m one l rest = ap Some (newline_is x is)
+
+-- no newline stands in the first line
+pub line_clear : (text : List ℕ) → is_one_line (take (line_end text) text) ≡ true
+line_clear [] = refl
+line_clear (x ∷ xs) = clear (not (x == 10)) refl (1 + line_end xs) (one-add (line_end xs)) (line_clear xs)
+  where
+    clear : (b : Bool) → not (x == 10) ≡ b → (m : ℕ) → m ≡ suc (line_end xs) → is_one_line (take (line_end xs) xs) ≡ true → is_one_line (take (cond b m 0) (x ∷ xs)) ≡ true
+    clear true is m one rest = subst (λ k. is_one_line (take k (x ∷ xs)) ≡ true) (sym one) (ap₂ (λ p q. p && q) is rest)
+    clear false is m one rest = refl
+
 -- a text is its first line, a newline, and the rest
-pub cut_line : (text : List ℕ) (len : ℕ) → slice_get text len ≡ Some 10 → IsCut text (take len text) (take (length text - (len + 1)) (drop (len + 1) text))
-cut_line text len at = inl (cut_at text len 10 at ∙ (ap (λ n. take len text ++ 10 ∷ drop n text) (sym (add-one len)) ∙ ap (λ t. take len text ++ 10 ∷ t) (sym (take_rest text (len + 1)))))
+pub cut_line : (text : List ℕ) (len : ℕ) → len ≡ line_end text → len < length text → IsCut text (take len text) (take (length text - (len + 1)) (drop (len + 1) text))
+cut_line text len is less = inl (cut_at text len 10 at ∙ (ap (λ n. take len text ++ 10 ∷ drop n text) (sym (add-one len)) ∙ ap (λ t. take len text ++ 10 ∷ t) (sym (take_rest text (len + 1)))))
+  where
+    at : slice_get text len ≡ Some 10
+    at = subst (λ n. slice_get text n ≡ Some 10) (sym is) (at_newline text (subst (λ n. n < length text) is less))
+
+-- a text with no newline is its first line
+pub cut_whole : (text : List ℕ) → IsCut text text []
+cut_whole text = inr (refl, refl)
+
+-- the first line is one line
+pub one_line : (text : List ℕ) (len : ℕ) → len ≡ line_end text → is_one_line (take len text) ≡ true
+one_line text len is = subst (λ n. is_one_line (take n text) ≡ true) (sym is) (line_clear text)
+
+-- so is a text with no newline
+pub one_whole : (text : List ℕ) (len : ℕ) → len ≡ line_end text → length text ≤ len → is_one_line text ≡ true
+one_whole text len is long = subst (λ t. is_one_line t ≡ true) (take_all len text long) (one_line text len is)
 
 -- the lines of steps, with one more
 pub text_more : (steps : List Step) (x : Step) → script_text steps ++ ended (line_of x) ≡ script_text (steps ++ x ∷ [])
@@ -85,11 +131,11 @@ read_limited left inner limit before got same whole none read =
     known (Some bytes) k = k
 
 -- a line that is no step's follows the lines of steps
-pub bad_here : (script : List ℕ) (steps : List Step) (rest line after : List ℕ) → IsParsed script steps rest → IsCut rest line after → rest ≢ [] → IsBadLine line → IsBadScript script (length steps + 1)
-bad_here script steps rest line after parsed cut left bad = (steps, (line, (after, here parsed.text cut)))
+pub bad_here : (script : List ℕ) (steps : List Step) (rest line after : List ℕ) → IsParsed script steps rest → IsCut rest line after → rest ≢ [] → is_one_line line ≡ true → IsBadLine line → IsBadScript script (length steps + 1)
+bad_here script steps rest line after parsed cut left one bad = (steps, (line, (after, here parsed.text cut)))
   where
     at : (script ≡ script_text steps ++ line) ⊎ (script ≡ script_text steps ++ (ended line ++ after)) → IsBadAt script (length steps + 1) steps line after
-    at text = record { valid = parsed.valid; text = text; bad = bad; place = refl }
+    at text = record { valid = parsed.valid; text = text; one = one; bad = bad; place = refl }
 
     here : (script ≡ script_text steps ++ rest) ⊎ ((rest ≡ []) × (script ++ 10 ∷ [] ≡ script_text steps)) → IsCut rest line after → IsBadAt script (length steps + 1) steps line after
     here (inr none) c = absurd (left none.0)

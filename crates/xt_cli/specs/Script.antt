@@ -1,5 +1,6 @@
 -- What a script says, and what is printed of its run.
-use Rattle.std.specs.Prelude.{Bool, List, Option, None, Some, [], false, flat_map, length, true, ℕ, ◌+◌, ◌++◌, ◌≡◌, ◌≢◌, ◌∷◌, ◌⊎◌}
+use Rattle.std.specs.Prelude.{Bool, List, Option, None, Some, [], false, flat_map, length, not, true, ℕ, ◌+◌, ◌++◌, ◌≡◌, ◌≢◌, ◌∷◌, ◌==◌, ◌⊎◌}
+use Rattle.std.specs.List.{list_all}
 use Rattle.std.specs.Io.KnownBytes.{Appends, Keeps}
 use Rattle.xt_base.specs.Isolation.{BreaksOne, TellsOne, Told}
 use Rattle.xt_base.specs.Sound.{Each}
@@ -28,6 +29,10 @@ pub record IsParsed (script : List ℕ) (steps : List Step) (rest : List ℕ) : 
   pub valid : Each IsStep steps
   pub text : (script ≡ script_text steps ++ rest) ⊎ ((rest ≡ []) × (script ++ 10 ∷ [] ≡ script_text steps))
 
+-- a line has no newline
+abbrev pub is_one_line : List ℕ → Bool
+is_one_line line = list_all (λ b. not (b == 10)) line
+
 -- no step's line
 abbrev pub IsBadLine : List ℕ → Type 0
 IsBadLine line = (x : Step) → IsStep x → line ≢ line_of x
@@ -36,6 +41,7 @@ IsBadLine line = (x : Step) → IsStep x → line ≢ line_of x
 pub record IsBadAt (script : List ℕ) (number : ℕ) (steps : List Step) (line rest : List ℕ) : Type 0 where
   pub valid : Each IsStep steps
   pub text : (script ≡ script_text steps ++ line) ⊎ (script ≡ script_text steps ++ (ended line ++ rest))
+  pub one : is_one_line line ≡ true
   pub bad : IsBadLine line
   pub place : number ≡ length steps + 1
 

@@ -1,8 +1,9 @@
 //! The lines of a script, read and parsed.
 
-ghost use Rattle.std.specs.Prelude.{◌≡◌, ◌<◌, IfErr, IfOk, IfSome, length, false, Some, slice_get, take};
+ghost use Rattle.std.specs.Prelude.{◌≡◌, ◌≤◌, ◌==◌, IfErr, IfOk, IfSome, length, false, not, true, take};
+ghost use Rattle.std.specs.List.{prefix_len};
 ghost use Rattle.xt_base.specs.declared.steps.Step.{Step as AnyStep};
-ghost use Rattle.xt_cli.specs.Script.{is_bad, IsBadIn, IsCut, IsScript};
+ghost use Rattle.xt_cli.specs.Script.{is_bad, is_one_line, IsBadIn, IsCut, IsScript};
 
 use crate::fault::ScriptFault;
 use std::alloc::{AllocError, Global};
@@ -36,22 +37,25 @@ pub fn read_script<R: Read>(alloc: Global, reader: &mut R) -> Result<Vec<u8>, Sc
     Ok(script)
 }
 
-/// The place of the first newline of a text, if it has one.
-fn newline_at(text: &[u8]) -> Option<usize>
-    ensures bound { IfSome result (λ at. at < length text.now) }
-    ensures newline { IfSome result (λ at. slice_get text.now at ≡ Some 10) }
+/// How many bytes of a text stand before its first newline; all, where it has none.
+fn line_len(text: &[u8]) -> usize
+    ensures value { result ≡ prefix_len (λ b. not (b == 10)) text.now }
+    ensures bound { result ≤ length text.now }
 {
-    text.iter().position(|byte| *byte == b'\n')
+    text.iter().take_while(|byte| **byte != b'\n').count()
 }
 
 /// The first line of a text, without its newline, and what comes after it.
-#[tactic(auto, using(crate::proofs::ScriptLemmas::cut_line))]
+#[tactic(auto, using(crate::proofs::ScriptLemmas::cut_line, crate::proofs::ScriptLemmas::cut_whole, crate::proofs::ScriptLemmas::one_line, crate::proofs::ScriptLemmas::one_whole))]
 fn first_line(text: &[u8]) -> (&[u8], &[u8])
-    ensures { IsCut text.now result.0.now result.1.now }
+    ensures cut { IsCut text.now result.0.now result.1.now }
+    ensures line { is_one_line result.0.now ≡ true }
 {
-    match newline_at(text) {
-        Some(len) => (&text[..len], &text[len + 1..]),
-        None => (text, &[]),
+    let len = line_len(text);
+    if len < text.len() {
+        (&text[..len], &text[len + 1..])
+    } else {
+        (text, &[])
     }
 }
 
