@@ -1,7 +1,9 @@
 -- What stands at the place of a key.
-use Rattle.std.proofs.Common.{◌≡◌, ◌≢◌, ◌∙◌, ℕ, suc, ◌<◌, ◌≤◌, List, [], ◌∷◌, None, Some, sym, ap, refl, length, arith, inl, inr, subst, get_or}
-use Rattle.std.specs.Prelude.{insert, remove}
+use Rattle.std.proofs.Common.{◌≡◌, ◌≢◌, ◌∙◌, ℕ, suc, ◌+◌, ◌++◌, ◌<◌, ◌≤◌, List, [], ◌∷◌, None, Some, sym, ap, refl, length, arith, drop, inl, inr, subst, get_or, slice_get, take}
+use Rattle.std.specs.Prelude.{IfSome, insert, remove}
 use Rattle.std.proofs.Math.ListN.{set}
+use Rattle.std.proofs.lemmas.List.{drop-set, take-append-drop, take-set}
+use Rattle.std.proofs.lemmas.Option.{slice_get-get_or}
 use Rattle.std.proofs.lemmas.Bool.Decides.{nat_tests}
 use Rattle.std.proofs.lemmas.Bool.{cases_eq, cases_order}
 use Rattle.xt_base.specs.Maps.{at, put, without}
@@ -134,3 +136,13 @@ module _ {V : Type 0} where
 
   pub put_last : (k : ℕ) (v : V) (m n : List (ℕ × V)) (p : ℕ) → p ≡ place k m → n ≡ insert {X = ℕ × V} m p (k, v) → length m ≤ p → n ≡ put k v m
   put_last k v m n p is left le = left ∙ insert_is k v m (k, v) p is (λ h. absurd (omega arith))
+
+  -- an element that was put in place of one with its key
+  pub replaced : (v : V) (m : List (ℕ × V)) (i : ℕ) (e : ℕ × V) → i < length m → e ≡ get_or m i e
+      → IfSome (slice_get m i) (λ x. set {A = ℕ × V} m i (e.0, v) ≡ take i m ++ ((x.0, v) ∷ drop (i + 1) m))
+  replaced v m i e lt here =
+      let whole : List (ℕ × V) = set {A = ℕ × V} m i (e.0, v) in
+      let split : whole ≡ take i m ++ ((e.0, v) ∷ drop (i + 1) m) =
+          sym (take-append-drop i whole) ∙ ap (λ xs. xs ++ drop i whole) (take-set m i (e.0, v)) ∙ ap (λ xs. take i m ++ xs) (drop-set m i (e.0, v) lt) in
+      subst (λ o. IfSome o (λ x. whole ≡ take i m ++ ((x.0, v) ∷ drop (i + 1) m))) (sym (slice_get-get_or m i e lt))
+      (split ∙ ap (λ (x : ℕ × V). take i m ++ ((x.0, v) ∷ drop (i + 1) m)) here)

@@ -121,6 +121,17 @@ impl<V> NumberMap<V> {
         }
     }
 
+    /// Puts another value into the entry at a place among the entries. It takes no memory.
+    pub fn replace_at(&mut self, index: usize, value: V)
+    where
+        V: Drop,
+        requires { index < length self.old }
+        ensures { IfSome (slice_get self.old index) (λ e. self.new ≡ take index self.old ++ ((e.0, value) ∷ drop (index + 1) self.old)) }
+    {
+        let key = self.entries[index].0;
+        self.entries[index] = (key, value);
+    }
+
     /// Takes the entry at a place among the entries.
     pub fn remove_at(&mut self, index: usize) -> (u64, V)
         requires { index < length self.old }
