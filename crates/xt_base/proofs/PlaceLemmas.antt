@@ -1,11 +1,13 @@
 -- What stands at the place of a key.
-use Rattle.std.proofs.Common.{◌≡◌, ◌≢◌, ◌∙◌, ℕ, suc, ◌<◌, ◌≤◌, List, [], ◌∷◌, None, Some, sym, ap, refl, length, arith, inl, inr, subst, get_or}
-use Rattle.std.specs.Prelude.{insert, remove}
+use Rattle.std.proofs.Common.{◌≡◌, ◌≢◌, ◌∙◌, ℕ, suc, ◌<◌, ◌≤◌, List, [], ◌∷◌, None, Some, sym, ap, refl, length, arith, inl, inr, subst, get_or, false, zero}
+use Rattle.std.specs.Prelude.{insert, is_some, remove}
 use Rattle.std.proofs.Math.ListN.{set}
 use Rattle.std.proofs.lemmas.Bool.Decides.{nat_tests}
 use Rattle.std.proofs.lemmas.Bool.{cases_eq, cases_order}
-use Rattle.xt_base.specs.Maps.{at, put, without}
+use Rattle.xt_base.proofs.RisingLemmas.{none_below, rises_weaker}
+use Rattle.xt_base.specs.Maps.{at, is_in, put, without}
 use Rattle.xt_base.specs.Places.{place, spot}
+use Rattle.xt_base.specs.Sound.{IsRising, RisesFrom}
 
 differ : (a b : ℕ) → a ≡ b → b < a → ⊥
 differ a b e h = omega arith
@@ -134,3 +136,31 @@ module _ {V : Type 0} where
 
   pub put_last : (k : ℕ) (v : V) (m n : List (ℕ × V)) (p : ℕ) → p ≡ place k m → n ≡ insert {X = ℕ × V} m p (k, v) → length m ≤ p → n ≡ put k v m
   put_last k v m n p is left le = left ∙ insert_is k v m (k, v) p is (λ h. absurd (omega arith))
+
+  -- a key that does not stand at its place in a rising map is not there
+  absent_is : (n k : ℕ) (m : List (ℕ × V)) (d : ℕ × V) (p : ℕ) → RisesFrom n m → p ≡ place k m → (p < length m → (get_or m p d).0 ≢ k) → at k m ≡ None
+  absent_is n k [] d p r is other = refl
+  absent_is n k (e ∷ es) d p r is other =
+      elim (cases_order k e.0) [
+        | inl same ↦ absurd (subst (λ n. n < length (e ∷ es) → (get_or (e ∷ es) n d).0 ≢ k) (is ∙ place_here k e es (omega arith)) other (omega arith) (sym same))
+        | inr (inl lt) ↦ none_below k (suc k) (e ∷ es) (omega arith) (omega (arith, lt), r.1)
+        | inr (inr gt) ↦
+            at_later k e es (λ s. omega (arith, s, gt))
+            ∙ absent_is (suc e.0) k es d (place k es) r.1 refl (λ h. subst (λ n. n < length (e ∷ es) → (get_or (e ∷ es) n d).0 ≢ k) (is ∙ place_low k e es gt) other (omega arith))
+      ]
+
+  -- another entry stands at its place
+  pub absent_there : (k : ℕ) (m : List (ℕ × V)) (p : ℕ) (e : ℕ × V) → IsRising m → p ≡ place k m → e ≡ get_or m p e → e.0 ≢ k → is_in k m ≡ false
+  absent_there k m p e r is here other = ap is_some (absent_is 0 k m e p r is (λ h same. other (ap (λ (x : ℕ × V). x.0) here ∙ same)))
+
+  -- its place is behind the last entry
+  pub absent_last : (k : ℕ) (m : List (ℕ × V)) (p : ℕ) → IsRising m → p ≡ place k m → length m ≤ p → is_in k m ≡ false
+  absent_last k [] p r is le = refl
+  absent_last k (e ∷ es) p r is le = ap is_some (absent_is 0 k (e ∷ es) e p r is (λ h. absurd (omega arith)))
+
+  -- what is left of a rising map rises
+  pub rises_remove : (n : ℕ) (m : List (ℕ × V)) (p : ℕ) → RisesFrom n m → RisesFrom n (remove m p)
+  rises_remove n [] zero r = tt
+  rises_remove n [] (suc p) r = tt
+  rises_remove n (e ∷ es) zero r = rises_weaker n (suc e.0) es (omega (arith, r.0)) r.1
+  rises_remove n (e ∷ es) (suc p) r = (r.0, rises_remove (suc e.0) es p r.1)
