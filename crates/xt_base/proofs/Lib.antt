@@ -4,6 +4,8 @@ pub mod RankLemmas
 pub mod MapLemmas
 pub mod RisingLemmas
 pub mod KeyLemmas
+pub mod ViewLemmas
+pub mod MarkLemmas
 pub mod ChunkCounts
 pub mod CostLemmas
 pub mod BusyLemmas

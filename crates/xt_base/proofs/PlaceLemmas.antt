@@ -1,13 +1,15 @@
 -- What stands at the place of a key.
-use Rattle.std.proofs.Common.{◌≡◌, ◌≢◌, ◌∙◌, ℕ, suc, ◌+◌, ◌++◌, ◌<◌, ◌≤◌, List, [], ◌∷◌, None, Some, sym, ap, refl, length, arith, drop, inl, inr, subst, get_or, slice_get, take}
-use Rattle.std.specs.Prelude.{IfSome, insert, remove}
+use Rattle.std.proofs.Common.{◌≡◌, ◌≢◌, ◌∙◌, ℕ, suc, ◌+◌, ◌++◌, ◌<◌, ◌≤◌, List, [], ◌∷◌, None, Some, sym, ap, refl, length, arith, drop, inl, inr, subst, get_or, slice_get, take, false, zero}
+use Rattle.std.specs.Prelude.{IfSome, insert, is_some, remove}
 use Rattle.std.proofs.Math.ListN.{set}
 use Rattle.std.proofs.lemmas.List.{drop-set, take-append-drop, take-set}
 use Rattle.std.proofs.lemmas.Option.{slice_get-get_or}
 use Rattle.std.proofs.lemmas.Bool.Decides.{nat_tests}
 use Rattle.std.proofs.lemmas.Bool.{cases_eq, cases_order}
-use Rattle.xt_base.specs.Maps.{at, put, without}
+use Rattle.xt_base.proofs.RisingLemmas.{none_below, rises_weaker}
+use Rattle.xt_base.specs.Maps.{at, is_in, put, without}
 use Rattle.xt_base.specs.Places.{place, spot}
+use Rattle.xt_base.specs.Sound.{IsRising, RisesFrom}
 
 differ : (a b : ℕ) → a ≡ b → b < a → ⊥
 differ a b e h = omega arith
@@ -146,3 +148,38 @@ module _ {V : Type 0} where
           sym (take-append-drop i whole) ∙ ap (λ xs. xs ++ drop i whole) (take-set m i (e.0, v)) ∙ ap (λ xs. take i m ++ xs) (drop-set m i (e.0, v) lt) in
       subst (λ o. IfSome o (λ x. whole ≡ take i m ++ ((x.0, v) ∷ drop (i + 1) m))) (sym (slice_get-get_or m i e lt))
       (split ∙ ap (λ (x : ℕ × V). take i m ++ ((x.0, v) ∷ drop (i + 1) m)) here)
+
+  -- a key that does not stand at its place in a rising map is not there
+  absent_is : (n k : ℕ) (m : List (ℕ × V)) (d : ℕ × V) (p : ℕ) → RisesFrom n m → p ≡ place k m → (p < length m → (get_or m p d).0 ≢ k) → at k m ≡ None
+  absent_is n k [] d p r is other = refl
+  absent_is n k (e ∷ es) d p r is other =
+      elim (cases_order k e.0) [
+        | inl same ↦ absurd (subst (λ n. n < length (e ∷ es) → (get_or (e ∷ es) n d).0 ≢ k) (is ∙ place_here k e es (omega arith)) other (omega arith) (sym same))
+        | inr (inl lt) ↦ none_below k (suc k) (e ∷ es) (omega arith) (omega (arith, lt), r.1)
+        | inr (inr gt) ↦
+            at_later k e es (λ s. omega (arith, s, gt))
+            ∙ absent_is (suc e.0) k es d (place k es) r.1 refl (λ h. subst (λ n. n < length (e ∷ es) → (get_or (e ∷ es) n d).0 ≢ k) (is ∙ place_low k e es gt) other (omega arith))
+      ]
+
+  -- another entry stands at its place
+  pub absent_there : (k : ℕ) (m : List (ℕ × V)) (p : ℕ) (e : ℕ × V) → IsRising m → p ≡ place k m → e ≡ get_or m p e → e.0 ≢ k → is_in k m ≡ false
+  absent_there k m p e r is here other = ap is_some (absent_is 0 k m e p r is (λ h same. other (ap (λ (x : ℕ × V). x.0) here ∙ same)))
+
+  -- its place is behind the last entry
+  pub absent_last : (k : ℕ) (m : List (ℕ × V)) (p : ℕ) → IsRising m → p ≡ place k m → length m ≤ p → is_in k m ≡ false
+  absent_last k [] p r is le = refl
+  absent_last k (e ∷ es) p r is le = ap is_some (absent_is 0 k (e ∷ es) e p r is (λ h. absurd (omega arith)))
+
+  -- what is left of a rising map rises
+  pub rises_remove : (n : ℕ) (m : List (ℕ × V)) (p : ℕ) → RisesFrom n m → RisesFrom n (remove m p)
+  rises_remove n [] zero r = tt
+  rises_remove n [] (suc p) r = tt
+  rises_remove n (e ∷ es) zero r = rises_weaker n (suc e.0) es (omega (arith, r.0)) r.1
+  rises_remove n (e ∷ es) (suc p) r = (r.0, rises_remove (suc e.0) es p r.1)
+
+  -- a map rises with another value at a place
+  pub rises_replaced : (n : ℕ) (v : V) (m : List (ℕ × V)) (i : ℕ) (e : ℕ × V) → RisesFrom n m → e ≡ get_or m i e → RisesFrom n (set {A = ℕ × V} m i (e.0, v))
+  rises_replaced n v [] zero e r here = tt
+  rises_replaced n v [] (suc i) e r here = tt
+  rises_replaced n v (x ∷ xs) zero e r here = subst (λ (k : ℕ). (n ≤ k) × RisesFrom (suc k) xs) (ap (λ (y : ℕ × V). y.0) (sym here)) r
+  rises_replaced n v (x ∷ xs) (suc i) e r here = (r.0, rises_replaced (suc x.0) v xs i e r.1 here)

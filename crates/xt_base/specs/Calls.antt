@@ -65,9 +65,13 @@ abbrev pub is_held : Option Owner → Bool
 is_held (Some Held) = true
 is_held other = false
 
--- what a transaction sees of a block that it owns: its edit, or zeros, or the committed content
+-- what a leg sees of a block that is fresh or not, and has a committed content: its edit, or zeros, or that content
+abbrev pub seen_with : ℕ → Leg → Bool → List ℕ → List ℕ
+seen_with b leg fresh committed = unwrap_or (change_of b leg).edit (if fresh || is_stale b leg then zeros else committed)
+
+-- what a transaction sees of a block that it owns
 abbrev pub seen : ℕ → Leg → Frames → List ℕ
-seen b leg frames = unwrap_or (change_of b leg).edit (if has frames.fresh b || is_stale b leg then zeros else content_at b frames.committed)
+seen b leg frames = seen_with b leg (has frames.fresh b) (content_at b frames.committed)
 
 -- ---- small changes of a state
 -- a block with another owner

@@ -1,5 +1,6 @@
 pub mod Maps
 pub mod Places
+pub mod Views
 pub mod Chunks
 pub mod ChunkWords
 pub mod State
@@ -14,5 +15,6 @@ pub mod Alone
 pub mod Order
 pub mod Sound
 pub mod Own
+pub mod Marks
 pub mod Turns
 pub mod Isolation

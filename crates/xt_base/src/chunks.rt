@@ -83,6 +83,15 @@ impl Chunks {
         }
     }
 
+    /// How many chunks of another set it lacks, 0 to 32.
+    pub fn lacks(self, other: Chunks) -> u32
+        ensures value { length (either self other) ≡ length self + result }
+        ensures range { result ≤ 32 }
+    {
+        let before = self.bits.count_ones();
+        self.union(other).count() - before
+    }
+
     /// How many chunks it has, 0 to 32.
     pub fn count(self) -> u32
         ensures value { result ≡ length self }

@@ -5,7 +5,9 @@
 pub mod chunks;
 pub mod content;
 pub mod map;
+pub mod marks;
 pub mod names;
+pub mod newly;
 pub mod outcomes;
 pub mod set;
 pub mod steps;

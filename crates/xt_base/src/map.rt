@@ -1,8 +1,9 @@
 //! A finite map from numbers, for a mount's small tables.
 
-ghost use Rattle.std.specs.Prelude.{◌≡◌, ◌+◌, ◌≤◌, ◌<◌, ◌==◌, ◌∷◌, ◌++◌, [], length, take, drop, slice_get, IfOk, IfSome, IfNone, MatchOption, option_copied};
+ghost use Rattle.std.specs.Prelude.{◌≡◌, ◌+◌, ◌≤◌, ◌<◌, ◌==◌, ◌∷◌, ◌++◌, [], false, length, take, drop, slice_get, IfOk, IfSome, IfNone, MatchOption, option_copied};
 ghost use Rattle.xt_base.specs.Maps.{at, is_in, put as with_entry, without};
 ghost use Rattle.xt_base.specs.Places.{place, spot};
+ghost use Rattle.xt_base.specs.Sound.{IsRising};
 
 use std::alloc::{AllocError, Global};
 use std::marker::Model;
@@ -20,12 +21,13 @@ pub struct NumberMap<V> {
 
 impl<V> Model for NumberMap<V> {
     ghost use Rattle.std.specs.Prelude.{List, ℕ, ◌≤◌, length, vec_capacity};
+    ghost use Rattle.xt_base.specs.Sound.{IsRising};
 
     ghost Value = { List (ℕ × V) };
 
     ghost view = { λ m. m.entries.items };
 
-    ghost invariant = { λ m. (length m.entries.items ≤ 128) × (128 ≤ vec_capacity m.entries) };
+    ghost invariant = { λ m. (length m.entries.items ≤ 128) × (128 ≤ vec_capacity m.entries) × IsRising m.entries.items };
 }
 
 impl<V> NumberMap<V> {
@@ -41,6 +43,7 @@ impl<V> NumberMap<V> {
     pub fn entries(&self) -> &[(u64, V)]
         ensures value { result.now ≡ self.now }
         ensures small { length result.now ≤ 128 }
+        ensures rising { IsRising result.now }
     {
         &self.entries
     }
@@ -79,11 +82,11 @@ impl<V> NumberMap<V> {
         self.get(key).is_some()
     }
 
-    /// Puts a value at a key, which may be new. It takes no memory.
+    /// Puts a value at a key. A new key needs room. It takes no memory.
     pub fn put(&mut self, key: u64, value: V)
     where
         V: Drop,
-        requires { length self.old < 128 }
+        requires { is_in key self.old ≡ false → length self.old < 128 }
         ensures { self.new ≡ with_entry key value self.old }
     {
         let at = place_of(&self.entries, key);
@@ -108,6 +111,15 @@ impl<V> NumberMap<V> {
         } else {
             None
         }
+    }
+
+    /// Takes all entries away, and keeps the room.
+    pub fn clear(&mut self)
+    where
+        V: Drop,
+        ensures { self.new ≡ [] }
+    {
+        self.entries.clear();
     }
 
     /// Takes the entry of the least key.

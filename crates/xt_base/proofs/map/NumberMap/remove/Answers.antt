@@ -1,7 +1,8 @@
-use Rattle.std.proofs.Common.{◌∙◌, ◌<◌, ◌≤◌, ap, sym, length, arith}
+use Rattle.std.proofs.Common.{◌∙◌, ◌<◌, ◌≤◌, ap, subst, sym, length, arith}
 use Rattle.xt_base.specs.Maps.{at, without}
 use Rattle.xt_base.specs.Places.{spot}
-use Rattle.xt_base.proofs.PlaceLemmas.{value_found, rest_found, value_missing, rest_missing}
+use Rattle.xt_base.specs.Sound.{IsRising}
+use Rattle.xt_base.proofs.PlaceLemmas.{rises_remove, value_found, rest_found, value_missing, rest_missing}
 use Rattle.xt_base.proofs.map.NumberMap.remove.Goals as goal
 
 pub returns-then-found-len-clause-value : goal.returns-then-found-len-clause-value
@@ -23,3 +24,10 @@ pub returns-else-found-len-clause-rest : goal.returns-else-found-len-clause-rest
 returns-else-found-len-clause-rest g c =
     let le : length c.self.inside.entries.items ≤ c.spot_of-found.result = omega arith in
     sym c.self.view_is ∙ rest_missing c.args.key c.self.inside.entries.items c.spot_of-found.result (c.spot_of-found.ensures.value ∙ ap (spot c.args.key) c.deref.ensures.value) le ∙ ap (without c.args.key) c.self.view_is
+
+pub invariant_of-self : goal.invariant_of-self
+invariant_of-self g c = (
+  omega (arith, c.remove-value.ensures.len, c.self.invariant.0),
+  omega (arith, c.remove-value.ensures.capacity, c.self.invariant.1),
+  subst IsRising (sym c.remove-value.ensures.items) (rises_remove 0 c.self.inside.entries.items c.spot_of-found.result c.self.invariant.2),
+)

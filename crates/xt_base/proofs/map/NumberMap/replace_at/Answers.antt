@@ -3,6 +3,9 @@ use Rattle.std.specs.Prelude.{IfSome, slice_set}
 use Rattle.xt_base.proofs.PlaceLemmas.{replaced}
 use Rattle.xt_base.proofs.map.NumberMap.replace_at.Goals as goal
 
+pub invariant_of-self : goal.invariant_of-self
+invariant_of-self g c = ?
+
 pub returns : goal.returns
 returns g c =
     let there : c.args.index < length c.args.self.now = omega arith in
