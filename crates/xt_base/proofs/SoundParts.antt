@@ -69,6 +69,8 @@ fair_with os ns e still fair = record {
   rising = fair.rising;
   covered = fair.covered;
   owned = each_map (λ c. Owns os e.0 c.0) (λ c. Owns ns e.0 c.0) e.1.leg.changes (λ c h. still c.0 h) fair.owned;
+  holds_rise = fair.holds_rise;
+  holds_owned = each_map (λ b. Owns os e.0 b) (λ b. Owns ns e.0 b) e.1.leg.holds still fair.holds_owned;
 }
 
 -- ---- the flight between the landed and the open checkpoints

@@ -209,7 +209,7 @@ sound_settled dropped s h =
 pub sound_allocated : (unit count : ℕ) (perm : Bool) (s : State) → IsSound s → 1 ≤ count → used s + unit * count ≤ s.log_bytes → IsSound (allocated unit count perm s).state
 sound_allocated unit count perm s h some room = record {
   log_small = h.log_small;
-  parts = parts_opened s.log_bytes s.owners s.transactions s.items h.parts (s.last_trans + 1) (new_trans unit count perm) (record { unit = omega arith; rising = tt; covered = tt; owned = tt }) room;
+  parts = parts_opened s.log_bytes s.owners s.transactions s.items h.parts (s.last_trans + 1) (new_trans unit count perm) (record { unit = omega arith; rising = tt; covered = tt; owned = tt; holds_rise = tt; holds_owned = tt }) room;
   kept = h.kept;
   ready = h.ready;
   legs_left = λ live. each_put (λ e. 1 ≤ e.1.legs) (s.last_trans + 1) (new_trans unit count perm) s.transactions some (h.legs_left live);
@@ -474,6 +474,8 @@ edit_fair t b content marked owners trans fair own room =
       rising = rises_put 0 b c trans.leg.changes (omega arith) fair.rising;
       covered = each_put IsCovered b c trans.leg.changes (covered_edit b content marked trans.leg fair.covered) fair.covered;
       owned = each_put (λ e. Owns owners t e.0) b c trans.leg.changes own fair.owned;
+      holds_rise = fair.holds_rise;
+      holds_owned = fair.holds_owned;
     }
 
 -- a block that a transaction has is edited, within its unit
