@@ -8,7 +8,7 @@ use Rattle.xt_base.proofs.KeyLemmas.{each_with_member, each_without_member, is_i
 use Rattle.xt_base.proofs.LegLemmas.{charge_alike, covered_edit, is_in_with_marks, length_with_marks_ge, owned_there, rises_with_edits, rises_with_lost}
 use Rattle.xt_base.proofs.MapLemmas.{at_put_same}
 use Rattle.xt_base.proofs.RisingLemmas.{each_at, each_both, each_filter, each_in, each_map, each_passes, each_put, each_set_at, each_without, rises_filter, rises_put}
-use Rattle.xt_base.proofs.SoundParts.{busy_active, busy_by, busy_committed, busy_flying, busy_owned, is_in_activated, parts_aborted, parts_empty, parts_ended, parts_failed, parts_flown, parts_landed, parts_leg, parts_locked, parts_opened}
+use Rattle.xt_base.proofs.SoundParts.{busy_active, busy_by, busy_committed, busy_flying, busy_owned, is_in_activated, none_else, parts_aborted, parts_empty, parts_ended, parts_failed, parts_flown, parts_landed, parts_leg, parts_locked, parts_opened}
 use Rattle.xt_base.specs.declared.steps.Reply.TheVariants.{Committed, Failed, Landed, Nothing, Okay, Refused, Wait}
 use Rattle.xt_base.specs.Calls.{Outcome, commit_number, gives, held_of, io_of, alloc, alloc_refusals, allocated, asks_ckpt, asks_flush, at_end, brought, busied, closed, commit, edited, first_of, force, get_refusals, is_elsewhere, is_fresh, is_own, locked, log_refusals, logged_leg, made_fresh, new_trans, not_fresh, overwritten, push, seen, shut_down, shut_for, shutdown, unless, waits_for, with_leg, with_owner}
 use Rattle.xt_base.specs.Chunks.{marks, union}
@@ -373,8 +373,8 @@ module _ (s : State) (h : IsSound s) where
   sound_end dropped answers = end_sound dropped answers s.items.flight refl
 
 -- ---- get
--- a block that somebody has as it is, or nobody
-module _ (t b count : ℕ) (s : State) (h : IsSound s) (free : is_elsewhere s t b ≡ false) where
+-- a block that no other transaction has
+module _ (t b count : ℕ) (s : State) (h : IsSound s) (free : (u : ℕ) → Owns s.owners u b → t ≡ u) where
   owned_more : (q : ℕ) → is_busy s q ≡ true → is_busy (with_owner b (Trans t count) s) q ≡ true
   owned_more q busy =
       let ns : List (ℕ × Owner) = put b (Trans t count) s.owners in
@@ -405,12 +405,12 @@ module _ (t b count : ℕ) (s : State) (h : IsSound s) (free : is_elsewhere s t 
       sound_owner s.frames (inl busy) (kept_on s h (with_owner b (Trans t count) s) owned_more)
       (λ live. each_map (IsUnwritten s.owners s.transactions s.items) (IsUnwritten (put b (Trans t count) s.owners) s.transactions s.items) s.frames.fresh unwritten_more (h.fresh_owned live))
 
-  -- an idle block
-  pub sound_owner_idle : (content : List ℕ) → busy_count s < 64 → IsSound (with_owner b (Trans t count) (busied b content s))
-  sound_owner_idle content room =
+  -- a block with a content
+  pub sound_owner_content : (content : List ℕ) → (is_busy s b ≡ true) ⊎ (busy_count s < 64) → IsSound (with_owner b (Trans t count) (busied b content s))
+  sound_owner_content content room =
       let n : State = with_owner b (Trans t count) s in
       let kept = kept_on s h n owned_more in
-      sound_owner (busied b content s).frames (inr room)
+      sound_owner (busied b content s).frames room
       (record {
         committed_rises = rises_put 0 b content s.frames.committed (omega arith) kept.committed_rises;
         committed_busy = each_put (λ e. is_busy n e.0 ≡ true) b content s.frames.committed owned_now kept.committed_busy;
@@ -442,7 +442,7 @@ module _ (t b count : ℕ) (s : State) (h : IsSound s) (free : is_elsewhere s t 
 
   brought_sound : (idle : Option (List ℕ)) → is_busy s b ≡ false → busy_count s < 64 → IsSound (with_owner b (Trans t count) (brought b idle s))
   brought_sound None other room = sound_owner_fresh other room
-  brought_sound (Some content) other room = sound_owner_idle content room
+  brought_sound (Some content) other room = sound_owner_content content (inr room)
 
   first_sound : (busy : Bool) → is_busy s b ≡ busy → (not busy && nat_le 64 (busy_count s)) ≡ false → IsSound (with_owner b (Trans t count) (if busy then s else brought b (at b s.frames.idle) s))
   first_sound true is room = sound_owner_busy is
@@ -450,8 +450,8 @@ module _ (t b count : ℕ) (s : State) (h : IsSound s) (free : is_elsewhere s t 
 
 -- a block that a transaction has is locked once more, another is locked first
 pub sound_locked : (t b : ℕ) (own : Option ℕ) (s : State) → IsSound s → own_count t (at b s.owners) ≡ own → is_elsewhere s t b ≡ false → (not (is_busy s b) && nat_le 64 (busy_count s)) ≡ false → IsSound (locked t b own s)
-sound_locked t b (Some count) s h is free room = sound_owner_busy t b (count + 1) s h free (busy_owned s.owners s.items b (owned_there t b s.owners (ap is_some is)))
-sound_locked t b None s h is free room = first_sound t b 0 s h free (is_busy s b) refl room
+sound_locked t b (Some count) s h is free room = sound_owner_busy t b (count + 1) s h (none_else t b s.owners free) (busy_owned s.owners s.items b (owned_there t b s.owners (ap is_some is)))
+sound_locked t b None s h is free room = first_sound t b 0 s h (none_else t b s.owners free) (is_busy s b) refl room
 
 -- a get that nothing refuses
 pub sound_get : (t b : ℕ) (s : State) → IsSound s → None ≡ first_of (get_refusals t b s) → IsSound (locked t b (own_count t (at b s.owners)) s)
