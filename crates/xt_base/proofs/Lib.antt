@@ -10,6 +10,7 @@ pub mod BusyLemmas
 pub mod LegLemmas
 pub mod SoundParts
 pub mod SoundSteps
+pub mod SoundBuffers
 pub mod SoundBounds
 mod RowsBuffers
 mod RowsJobs

@@ -45,30 +45,35 @@ pub passes_first : (t : Bool) (e : Errno) (rest : List (Bool × Errno)) → None
 passes_first true e rest h = absurd (cc)
 passes_first false e rest h = (refl, h)
 
-is_none_some : {A : Type 0} (o : Option A) → is_none o ≡ true → is_some o ≡ true → ⊥
+-- nothing is none and some
+pub is_none_some : {A : Type 0} (o : Option A) → is_none o ≡ true → is_some o ≡ true → ⊥
 is_none_some None n s = absurd (cc)
 is_none_some (Some x) n s = absurd (cc)
 
-is_none_not : {A : Type 0} (o : Option A) → is_some o ≡ false → is_none o ≡ true
+-- what is not some is none
+pub is_none_not : {A : Type 0} (o : Option A) → is_some o ≡ false → is_none o ≡ true
 is_none_not None h = refl
 is_none_not (Some x) h = absurd (cc)
 
-second_false : (x y : Bool) → x ≡ true → (x && y) ≡ false → y ≡ false
+-- two do not hold both, and the first does
+pub second_false : (x y : Bool) → x ≡ true → (x && y) ≡ false → y ≡ false
 second_false true y is h = h
 second_false false y is h = absurd (cc)
 
-left_true : (x y : Bool) → y ≡ false → (x || y) ≡ true → x ≡ true
+-- what holds of the first or the second, and not of the second
+pub left_true : (x y : Bool) → y ≡ false → (x || y) ≡ true → x ≡ true
 left_true true y off h = refl
 left_true false y off h = absurd (cc)
 
 -- on no list
-listed_parts : (c f a : Bool) → (c || f || a) ≡ false → (c ≡ false) × (f ≡ false) × (a ≡ false)
+pub listed_parts : (c f a : Bool) → (c || f || a) ≡ false → (c ≡ false) × (f ≡ false) × (a ≡ false)
 listed_parts false false false h = (refl, refl, refl)
 listed_parts true f a h = absurd (cc)
 listed_parts false true a h = absurd (cc)
 listed_parts false false true h = absurd (cc)
 
-unlisted_by : (c f a : Bool) → c ≡ false → f ≡ false → a ≡ false → (c || f || a) ≡ false
+-- on no list, as each of the three says
+pub unlisted_by : (c f a : Bool) → c ≡ false → f ≡ false → a ≡ false → (c || f || a) ≡ false
 unlisted_by c f a hc hf ha = ap (λ x. x || f || a) hc ∙ ap (λ x. x || a) hf ∙ ha
 
 none_flying : (o : Option Flight) (b : ℕ) → is_none o ≡ true → is_in b (flight_items o) ≡ true → ⊥
@@ -82,7 +87,7 @@ not_active number es ail b flew old =
     (λ there. elim (is_in_activated b number es ail there) [ inl now ↦ false≢true (sym flew ∙ now) | inr was ↦ false≢true (sym old ∙ was) ])
 
 -- what no leg changed and no item was of is no item after a commit
-not_marked : (cs : List (ℕ × Change)) (m : List (ℕ × List ℕ)) (b : ℕ) → is_in b cs ≡ false → is_in b m ≡ false → is_in b (with_marks cs m) ≡ false
+pub not_marked : (cs : List (ℕ × Change)) (m : List (ℕ × List ℕ)) (b : ℕ) → is_in b cs ≡ false → is_in b m ≡ false → is_in b (with_marks cs m) ≡ false
 not_marked cs m b changed old =
     false_from_ne_true (is_in b (with_marks cs m))
     (λ there. elim (is_in_with_marks b cs m there) [ inl now ↦ false≢true (sym changed ∙ now) | inr was ↦ false≢true (sym old ∙ was) ])
@@ -92,11 +97,9 @@ unchanged_by : (owners : List (ℕ × Owner)) (e : ℕ × Transaction) (b : ℕ)
 unchanged_by owners e b other fair =
     false_from_ne_true (is_in b e.1.leg.changes) (λ there. false≢true (sym other ∙ owned_there e.0 b owners (each_in (λ q. Owns owners e.0 q) b e.1.leg.changes there fair.owned)))
 
--- an edit changes no other block
-apart_edit : (k b : ℕ) (content marked : List ℕ) (leg : Leg) → k ≢ b → is_in k leg.changes ≡ false → is_in k (edited b content marked leg).changes ≡ false
-apart_edit k b content marked leg other old =
-    is_in_put k b (record { edit = Some content; marks = union (change_of b leg).marks marked; charged = union (change_of b leg).charged marked }) leg.changes
-    ∙ ap (λ x. x || is_in k leg.changes) (ne_eqb k b other) ∙ old
+-- a change of a block changes no other
+apart_put : (k b : ℕ) (c : Change) (changes : List (ℕ × Change)) → k ≢ b → is_in k changes ≡ false → is_in k (put b c changes) ≡ false
+apart_put k b c changes other old = is_in_put k b c changes ∙ ap (λ x. x || is_in k changes) (ne_eqb k b other) ∙ old
 
 ready_ended : (l : Items) (cs : List (ℕ × Change)) (j : Jobs) → IsReady l j → IsReady (record l { cil = with_marks cs l.cil }) j
 ready_ended l cs j r = record {
@@ -107,7 +110,8 @@ ready_ended l cs j r = record {
 }
 
 -- ---- steps that change no part
-shut_for_some : (reason : Reason) (o : Option Reason) → is_none (shut_for reason o) ≡ true → ⊥
+-- what was shut for a reason is not live
+pub shut_for_some : (reason : Reason) (o : Option Reason) → is_none (shut_for reason o) ≡ true → ⊥
 shut_for_some reason None h = absurd (cc)
 shut_for_some reason (Some first) h = absurd (cc)
 
@@ -478,16 +482,15 @@ edit_fair t b content marked owners trans fair own room =
       holds_owned = fair.holds_owned;
     }
 
--- a block that a transaction has is edited, within its unit
-pub sound_edited : (t b : ℕ) (content marked : List ℕ) (s : State) (trans : Transaction) → IsSound s → at t s.transactions ≡ Some trans → is_own s t b ≡ true
-    → charge (edited b [] marked trans.leg).changes ≤ trans.unit → IsSound (not_fresh b (with_leg t trans (edited b content marked trans.leg) s))
-sound_edited t b content marked s trans h is own room =
-    let leg : Leg = edited b content marked trans.leg in
-    let fair : IsFair s.owners (t, trans) = each_at (IsFair s.owners) t trans s.transactions is h.parts.fair in
+-- a transaction's leg changes one more block, which is fresh no more
+pub sound_changed : (t b : ℕ) (c : Change) (holds : List ℕ) (s : State) (trans : Transaction) → IsSound s → at t s.transactions ≡ Some trans
+    → IsFair s.owners (t, record trans { leg = record { changes = put b c trans.leg.changes; holds = holds } }) → IsSound (not_fresh b (with_leg t trans (record { changes = put b c trans.leg.changes; holds = holds }) s))
+sound_changed t b c holds s trans h is fair =
+    let leg : Leg = record { changes = put b c trans.leg.changes; holds = holds } in
     let ts : List (ℕ × Transaction) = set_at t (record trans { leg = leg }) s.transactions in
     record {
       log_small = h.log_small;
-      parts = parts_leg s.log_bytes s.owners s.transactions s.items h.parts t trans leg is (edit_fair t b content marked s.owners trans fair own room);
+      parts = parts_leg s.log_bytes s.owners s.transactions s.items h.parts t trans leg is fair;
       kept = record {
         committed_rises = h.kept.committed_rises;
         committed_busy = h.kept.committed_busy;
@@ -503,10 +506,18 @@ sound_edited t b content marked s trans h is own room =
             unlisted = both.0.unlisted;
             unchanged =
                 each_set_at (λ e. is_in k e.1.leg.changes ≡ false) t (record trans { leg = leg }) s.transactions
-                (apart_edit k b content marked trans.leg both.1 (each_at (λ e. is_in k e.1.leg.changes ≡ false) t trans s.transactions is both.0.unchanged)) both.0.unchanged;
+                (apart_put k b c trans.leg.changes both.1 (each_at (λ e. is_in k e.1.leg.changes ≡ false) t trans s.transactions is both.0.unchanged)) both.0.unchanged;
           })
           (each_without_member (IsUnwritten s.owners s.transactions s.items) b s.frames.fresh (h.fresh_owned live));
     }
+
+-- a block that a transaction has is edited, within its unit
+pub sound_edited : (t b : ℕ) (content marked : List ℕ) (s : State) (trans : Transaction) → IsSound s → at t s.transactions ≡ Some trans → is_own s t b ≡ true
+    → charge (edited b [] marked trans.leg).changes ≤ trans.unit → IsSound (not_fresh b (with_leg t trans (edited b content marked trans.leg) s))
+sound_edited t b content marked s trans h is own room =
+    let fair : IsFair s.owners (t, trans) = each_at (IsFair s.owners) t trans s.transactions is h.parts.fair in
+    sound_changed t b (record { edit = Some content; marks = union (change_of b trans.leg).marks marked; charged = union (change_of b trans.leg).charged marked }) trans.leg.holds s trans h is
+    (edit_fair t b content marked s.owners trans fair own room)
 
 -- a log request that nothing refuses
 pub sound_log : (t b first : ℕ) (bytes : List ℕ) (s : State) (trans : Transaction) → IsSound s → at t s.transactions ≡ Some trans → None ≡ first_of (log_refusals t b first bytes trans s)
