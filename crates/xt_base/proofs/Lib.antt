@@ -11,6 +11,9 @@ pub mod LegLemmas
 pub mod SoundParts
 pub mod SoundSteps
 pub mod SoundBuffers
+pub mod SoundLegs
+pub mod SoundJobs
+pub mod SoundCalls
 pub mod SoundBounds
 mod RowsBuffers
 mod RowsJobs

@@ -259,7 +259,8 @@ module _ (log_bytes : ℕ) (owners : List (ℕ × Owner)) (ts : List (ℕ × Tra
 
   -- ---- a transaction ends
   module _ (t : ℕ) (trans : Transaction) (is : at t ts ≡ Some trans) where
-    granted_less : granted (without t ts) + trans.unit * trans.legs ≡ granted ts
+    -- what a transaction was granted is in the sum
+    pub granted_less : granted (without t ts) + trans.unit * trans.legs ≡ granted ts
     granted_less = omega (arith, sum_without (λ e. e.1.unit * e.1.legs) t ts, ap (weight_at (λ e. e.1.unit * e.1.legs) t) is)
 
     fair_others : (ns : List (ℕ × Owner)) → ((u b : ℕ) → u ≢ t → Owns owners u b → Owns ns u b) → Each (IsFair ns) (without t ts)

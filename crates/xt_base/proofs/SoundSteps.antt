@@ -101,7 +101,8 @@ unchanged_by owners e b other fair =
 apart_put : (k b : ℕ) (c : Change) (changes : List (ℕ × Change)) → k ≢ b → is_in k changes ≡ false → is_in k (put b c changes) ≡ false
 apart_put k b c changes other old = is_in_put k b c changes ∙ ap (λ x. x || is_in k changes) (ne_eqb k b other) ∙ old
 
-ready_ended : (l : Items) (cs : List (ℕ × Change)) (j : Jobs) → IsReady l j → IsReady (record l { cil = with_marks cs l.cil }) j
+-- a commit leaves a checkpoint that is outstanding something to write
+pub ready_ended : (l : Items) (cs : List (ℕ × Change)) (j : Jobs) → IsReady l j → IsReady (record l { cil = with_marks cs l.cil }) j
 ready_ended l cs j r = record {
   numbered = r.numbered;
   bounded = r.bounded;
