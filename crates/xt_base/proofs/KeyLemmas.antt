@@ -1,6 +1,6 @@
 -- Which keys a map has after a change, and rising sets of numbers.
-use Rattle.std.proofs.Common.{◌≡◌, ◌≢◌, ◌∙◌, ◌⊎◌, ◌<◌, ◌≤◌, ◌∷◌, Bool, List, None, Option, Some, [], ap, arith, inl, inr, refl, subst, suc, sym, true, ℕ}
-use Rattle.std.proofs.lemmas.Bool.{cases_Bool, cases_eq, cases_order, eq-eqb, ne_eqb}
+use Rattle.std.proofs.Common.{◌≡◌, ◌≢◌, ◌∙◌, ◌⊎◌, ◌+◌, ◌<◌, ◌≤◌, ◌∷◌, Bool, List, None, Option, Some, [], ap, arith, false, inl, inr, length, refl, subst, suc, sym, true, ℕ}
+use Rattle.std.proofs.lemmas.Bool.{cases_Bool, cases_eq, cases_order, eq-eqb, false≢true, ne_eqb, or_parts}
 use Rattle.std.proofs.lemmas.Bool.Decides.{nat_tests}
 use Rattle.std.specs.List.{cons_option}
 use Rattle.std.specs.Prelude.{IfSome, filter, filter_map, is_some, not, ◌==◌, ◌||◌}
@@ -209,4 +209,15 @@ each_without_member P n (k ∷ ks) all =
     elim (cases_eq k n) [
       | inl same ↦ subst (Each (λ x. P x × (x ≢ n))) (sym (filter_drop (λ x. not (x == n)) k ks (ap not (eq-eqb k n same)))) (each_without_member P n ks all.1)
       | inr other ↦ subst (Each (λ x. P x × (x ≢ n))) (sym (filter_pass (λ x. not (x == n)) k ks (ap not (ne_eqb k n other)))) ((all.0, other), each_without_member P n ks all.1)
+    ]
+
+-- a set with a new number has one more
+pub length_with_member : (n : ℕ) (ks : List ℕ) → has ks n ≡ false → length (with_member n ks) ≡ length ks + 1
+length_with_member n [] h = omega arith
+length_with_member n (k ∷ ks) h =
+    let apart : ((n == k) ≡ false) × (has ks n ≡ false) = or_parts (n == k) (has ks n) h in
+    elim (cases_order n k) [
+      | inl same ↦ absurd (false≢true (sym apart.0 ∙ eq-eqb n k same))
+      | inr (inl lt) ↦ omega (arith, ap length (with_less n k ks lt))
+      | inr (inr lt) ↦ omega (arith, ap length (with_more n k ks lt), length_with_member n ks apart.1)
     ]

@@ -12,6 +12,10 @@ pub mod BusyLemmas
 pub mod LegLemmas
 pub mod SoundParts
 pub mod SoundSteps
+pub mod SoundBuffers
+pub mod SoundLegs
+pub mod SoundJobs
+pub mod SoundCalls
 pub mod SoundBounds
 mod RowsBuffers
 mod RowsJobs

@@ -169,6 +169,18 @@ module _ {V : Type 0} where
         | inr other ↦ subst (Each (λ x. P x × (x.0 ≢ k))) (sym (without_later k e es other)) ((all.0, λ s. other (sym s)), each_other P (suc e.0) k es r.1 all.1)
       ]
 
+  -- a fact of each entry but the one at a key, and of its new value, holds of each after it is set
+  pub each_set_other : (P : ℕ × V → Type 0) (n k : ℕ) (v : V) (es : List (ℕ × V)) → RisesFrom n es → P (k, v) → Each (λ e. e.0 ≢ k → P e) es → Each P (set_at k v es)
+  each_set_other P n k v [] r h all = tt
+  each_set_other P n k v (e ∷ es) r h all =
+      elim (cases_eq k e.0) [
+        | inl same ↦
+            let past : Each (λ x. suc e.0 ≤ x.0) es = rises_above (suc e.0) es r.1 in
+            subst (Each P) (sym (set_first k v e es same))
+            (subst (λ (x : ℕ). P (x, v)) same h, each_map (λ x. (x.0 ≢ k → P x) × (suc e.0 ≤ x.0)) P es (λ x both. both.0 (λ s. omega (arith, s, same, both.1))) (each_both (λ x. x.0 ≢ k → P x) (λ x. suc e.0 ≤ x.0) es all.1 past))
+        | inr other ↦ subst (Each P) (sym (set_later k v e es other)) (all.0 (λ s. other (sym s)), each_set_other P (suc e.0) k v es r.1 h all.1)
+      ]
+
   some_false : (v : V) → is_some (Some v) ≡ false → ⊥
   some_false v h = cc
 
@@ -260,6 +272,20 @@ module _ {V : Type 0} where
             omega (arith, ap (sum_by f) (set_first k v e es same), sum_by-cons f e es, sum_by-cons f (e.0, v) es, old, new, w)
         | inr other ↦
             omega (arith, ap (sum_by f) (set_later k v e es other), sum_by-cons f e es, sum_by-cons f e (set_at k v es), sum_set_at f k u v es (sym (at_later k e es other) ∙ h) w)
+      ]
+
+  -- a set value exchanges the old weight for the new
+  pub sum_set : (f : ℕ × V → ℕ) (k : ℕ) (u v : V) (es : List (ℕ × V)) → at k es ≡ Some u → sum_by f (set_at k v es) + f (k, u) ≡ sum_by f es + f (k, v)
+  sum_set f k u v [] h = absurd (cc)
+  sum_set f k u v (e ∷ es) h =
+      elim (cases_eq k e.0) [
+        | inl same ↦
+            let value : e.1 ≡ u = some_same e.1 u (sym (at_first k e es same) ∙ h) in
+            let old : f e ≡ f (k, u) = ap (λ (x : V). f (e.0, x)) value ∙ ap (λ (x : ℕ). f (x, u)) (sym same) in
+            let new : f (e.0, v) ≡ f (k, v) = ap (λ (x : ℕ). f (x, v)) (sym same) in
+            omega (arith, ap (sum_by f) (set_first k v e es same), sum_by-cons f e es, sum_by-cons f (e.0, v) es, old, new)
+        | inr other ↦
+            omega (arith, ap (sum_by f) (set_later k v e es other), sum_by-cons f e es, sum_by-cons f e (set_at k v es), sum_set f k u v es (sym (at_later k e es other) ∙ h))
       ]
 
   -- a filter adds nothing

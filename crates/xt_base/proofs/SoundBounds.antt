@@ -1,19 +1,19 @@
 -- How long the maps of a sound mount get: at most 64 entries, also in the midst of a step.
-use Rattle.std.proofs.Common.{◌≡◌, ◌+◌, ◌≤◌, ◌∷◌, List, None, Option, Some, [], arith, length, true, ℕ}
-use Rattle.xt_base.proofs.BusyLemmas.{few_active, few_busy, few_busy_keys}
-use Rattle.xt_base.proofs.LegLemmas.{owned_there, rises_with_edits, rises_with_marks}
-use Rattle.xt_base.proofs.RisingLemmas.{each_at, each_map, each_put, each_without}
-use Rattle.xt_base.proofs.BusyLemmas.{each_own}
+use Rattle.std.proofs.Common.{◌≡◌, ◌+◌, ◌<◌, ◌≤◌, ◌∷◌, Bool, List, None, Option, Some, [], arith, false, length, true, ℕ}
+use Rattle.xt_base.proofs.BusyLemmas.{each_own, few_active, few_busy, few_busy_keys}
+use Rattle.xt_base.proofs.KeyLemmas.{each_with_member, length_with_member, rises_keys_with}
+use Rattle.xt_base.proofs.LegLemmas.{owned_there, rises_with_edits, rises_with_lost, rises_with_marks}
+use Rattle.xt_base.proofs.RisingLemmas.{each_at, each_map, each_put, each_without, length_put_new, rises_put}
 use Rattle.xt_base.proofs.SoundParts.{busy_committed, busy_owned, parts_landed}
 use Rattle.xt_base.proofs.SoundSteps.{edit_fair}
 use Rattle.xt_base.specs.Calls.{edited, is_own}
-use Rattle.std.specs.Prelude.{filter, not, sum_by}
+use Rattle.std.specs.Prelude.{filter, if◌then◌else◌, not, sum_by}
 use Rattle.xt_base.specs.Jobs.{activated, landed_items, waits_on}
-use Rattle.xt_base.specs.Legs.{joined_marks, with_edit, with_edits, with_marks}
-use Rattle.xt_base.specs.Maps.{at, is_in, put}
+use Rattle.xt_base.specs.Legs.{joined_marks, with_edit, with_edits, with_lost, with_marks}
+use Rattle.xt_base.specs.Maps.{at, has, is_in, put, with_member}
 use Rattle.xt_base.specs.Sound.{Each, IsFair, IsSound, Owns}
 use Rattle.xt_base.specs.Space.{charge, cost, flight_items, is_busy}
-use Rattle.xt_base.specs.State.{Change, Flight, State, Transaction}
+use Rattle.xt_base.specs.State.{Change, Flight, Leg, State, Transaction}
 
 each_with_edit : (P : ℕ → Type 0) (b : ℕ) (edit : Option (List ℕ)) (m : List (ℕ × List ℕ)) → P b → Each (λ e. P e.0) m → Each (λ e. P e.0) (with_edit b edit m)
 each_with_edit P b None m h all = each_without (λ e. P e.0) b m all
@@ -29,6 +29,16 @@ pub each_with_marks : (P : ℕ → Type 0) (cs : List (ℕ × Change)) (m : List
 each_with_marks P [] m changed all = all
 each_with_marks P (c ∷ cs) m changed all =
     each_with_marks P cs (put c.0 (joined_marks (at c.0 m) c.1) m) changed.1 (each_put (λ e. P e.0) c.0 (joined_marks (at c.0 m) c.1) m changed.0 all)
+
+each_if : (P : ℕ → Type 0) (held : Bool) (b : ℕ) (fresh : List ℕ) → P b → Each P fresh → Each P (if held then with_member b fresh else fresh)
+each_if P true b fresh h all = each_with_member P b fresh h all
+each_if P false b fresh h all = all
+
+-- what holds of each changed block and of each fresh one holds of each fresh one with the lost ones
+pub each_with_lost : (P : ℕ → Type 0) (cs : List (ℕ × Change)) (leg : Leg) (fresh : List ℕ) → Each (λ c. P c.0) cs → Each P fresh → Each P (with_lost cs leg fresh)
+each_with_lost P [] leg fresh changed all = all
+each_with_lost P (c ∷ cs) leg fresh changed all =
+    each_with_lost P cs leg (if has leg.holds c.0 then with_member c.0 fresh else fresh) changed.1 (each_if P (has leg.holds c.0) c.0 fresh changed.0 all)
 
 module _ (s : State) (h : IsSound s) where
   -- contents of busy blocks
@@ -56,6 +66,10 @@ module _ (s : State) (h : IsSound s) where
     changed_busy =
         each_map (λ c. Owns s.owners t c.0) (λ c. is_busy s c.0 ≡ true) trans.leg.changes (λ c own. busy_owned s.owners s.items c.0 (owned_there t c.0 s.owners own)) leg_fair.owned
 
+    held_busy : Each (λ q. is_busy s q ≡ true) trans.leg.holds
+    held_busy =
+        each_map (λ q. Owns s.owners t q) (λ q. is_busy s q ≡ true) trans.leg.holds (λ q own. busy_owned s.owners s.items q (owned_there t q s.owners own)) leg_fair.holds_owned
+
     -- changes of a leg
     pub few_changes : length trans.leg.changes ≤ 64
     few_changes = few_busy s.log_bytes s.owners s.transactions s.items h.parts trans.leg.changes leg_fair.rising changed_busy
@@ -66,6 +80,33 @@ module _ (s : State) (h : IsSound s) where
         let fair : IsFair s.owners (t, record trans { leg = edited b content marked trans.leg }) = edit_fair t b content marked s.owners trans leg_fair own room in
         few_busy s.log_bytes s.owners s.transactions s.items h.parts (edited b content marked trans.leg).changes fair.rising
         (each_map (λ c. Owns s.owners t c.0) (λ c. is_busy s c.0 ≡ true) (edited b content marked trans.leg).changes (λ c own. busy_owned s.owners s.items c.0 (owned_there t c.0 s.owners own)) fair.owned)
+
+    -- changes of a leg, and one of a block that the transaction has and did not change
+    pub fewer_changes : (b : ℕ) → is_own s t b ≡ true → is_in b trans.leg.changes ≡ false → length trans.leg.changes < 64
+    fewer_changes b own unchanged =
+        let c : Change = record { edit = None; marks = []; charged = [] } in
+        let more =
+        few_busy s.log_bytes s.owners s.transactions s.items h.parts (put b c trans.leg.changes) (rises_put 0 b c trans.leg.changes (omega arith) leg_fair.rising)
+        (each_put (λ e. is_busy s e.0 ≡ true) b c trans.leg.changes (busy_owned s.owners s.items b (owned_there t b s.owners own)) changed_busy) in
+        omega (arith, more, length_put_new b c trans.leg.changes unchanged)
+
+    -- hold marks of a leg
+    pub few_holds : length trans.leg.holds ≤ 64
+    few_holds = few_busy_keys s.log_bytes s.owners s.transactions s.items h.parts trans.leg.holds leg_fair.holds_rise held_busy
+
+    -- hold marks of a leg, and one of a block that the transaction has without the mark
+    pub fewer_holds : (b : ℕ) → is_own s t b ≡ true → has trans.leg.holds b ≡ false → length trans.leg.holds < 64
+    fewer_holds b own unheld =
+        let more =
+        few_busy_keys s.log_bytes s.owners s.transactions s.items h.parts (with_member b trans.leg.holds) (rises_keys_with 0 b trans.leg.holds (omega arith) leg_fair.holds_rise)
+        (each_with_member (λ q. is_busy s q ≡ true) b trans.leg.holds (busy_owned s.owners s.items b (owned_there t b s.owners own)) held_busy) in
+        omega (arith, more, length_with_member b trans.leg.holds unheld)
+
+    -- fresh blocks with those that a leg lost
+    pub few_with_lost : length (with_lost trans.leg.changes trans.leg s.frames.fresh) ≤ 64
+    few_with_lost =
+        few_busy_keys s.log_bytes s.owners s.transactions s.items h.parts (with_lost trans.leg.changes trans.leg s.frames.fresh) (rises_with_lost trans.leg.changes trans.leg s.frames.fresh h.kept.fresh_rises)
+        (each_with_lost (λ q. is_busy s q ≡ true) trans.leg.changes trans.leg s.frames.fresh changed_busy h.kept.fresh_busy)
 
     -- contents after the edits of a leg, before they settle
     pub few_with_edits : length (with_edits trans.leg.changes s.frames.committed) ≤ 64

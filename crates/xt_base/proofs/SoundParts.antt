@@ -6,10 +6,10 @@ use Rattle.xt_base.proofs.BusyLemmas.{fewer_busy, is_busy_in, one_more_busy}
 use Rattle.xt_base.proofs.CostLemmas.{cost-with_marks}
 use Rattle.xt_base.proofs.KeyLemmas.{at_filter, is_in_filter, is_in_filter_map, is_in_first, is_in_later, is_in_put_cases, is_in_without}
 use Rattle.xt_base.proofs.LegLemmas.{is_in_with_marks, keeps_owner_aborted, keeps_owner_after, own_itself, own_one, own_trans, owned_there, owns_aborted, owns_after, rises_with_marks}
-use Rattle.xt_base.proofs.MapLemmas.{at_put_other, at_put_same}
-use Rattle.xt_base.proofs.RisingLemmas.{each_at, each_filter, each_in, each_map, each_other, each_put, each_set_at, rises_filter, rises_filter_map, rises_put, rises_set_at, rises_without, sum_filter_le, sum_put_le, sum_set_at, sum_without, weight_at}
+use Rattle.xt_base.proofs.MapLemmas.{at_put_other, at_put_same, at_without_other}
+use Rattle.xt_base.proofs.RisingLemmas.{each_at, each_both, each_filter, each_in, each_map, each_other, each_put, each_set_at, each_set_other, rises_filter, rises_filter_map, rises_put, rises_set_at, rises_without, sum_filter_le, sum_put_le, sum_set, sum_set_at, sum_without, weight_at}
 use Rattle.xt_base.specs.Jobs.{activated, landed_items, waits_on}
-use Rattle.xt_base.specs.Legs.{own_count, owner_aborted, owner_after, with_marks}
+use Rattle.xt_base.specs.Legs.{clean_leg, own_count, owner_aborted, owner_after, with_marks}
 use Rattle.xt_base.specs.Maps.{at, is_in, put, set_at, without}
 use Rattle.xt_base.specs.Sound.{AllBelow, AreSound, Each, IsBetween, IsFair, IsRising, Owns}
 use Rattle.xt_base.specs.Space.{charge, cost, count_beside, flight_items, granted, is_listed, is_needed}
@@ -61,6 +61,10 @@ mine_if there true h free = refl
 mine_if true false h free = absurd (cc)
 mine_if false false h free = absurd (cc)
 
+-- a block that is free or a transaction's own is no other's
+pub none_else : (t b : ℕ) (owners : List (ℕ × Owner)) → (is_in b owners && not (is_some (own_count t (at b owners)))) ≡ false → (u : ℕ) → Owns owners u b → t ≡ u
+none_else t b owners free u here = own_one t u (at b owners) (mine_if (is_in b owners) (is_some (own_count t (at b owners))) (owned_there u b owners here) free) here
+
 -- ---- fairness under other owners
 -- a transaction stays fair where it keeps its blocks
 pub fair_with : (os ns : List (ℕ × Owner)) (e : ℕ × Transaction) → ((b : ℕ) → Owns os e.0 b → Owns ns e.0 b) → IsFair os e → IsFair ns e
@@ -69,12 +73,45 @@ fair_with os ns e still fair = record {
   rising = fair.rising;
   covered = fair.covered;
   owned = each_map (λ c. Owns os e.0 c.0) (λ c. Owns ns e.0 c.0) e.1.leg.changes (λ c h. still c.0 h) fair.owned;
+  holds_rise = fair.holds_rise;
+  holds_owned = each_map (λ b. Owns os e.0 b) (λ b. Owns ns e.0 b) e.1.leg.holds still fair.holds_owned;
 }
+
+-- a leg neither changed a block nor has its hold mark
+abbrev pub IsApart : ℕ → ℕ × Transaction → Type 0
+IsApart b e = Each (λ c. c.0 ≢ b) e.1.leg.changes × Each (λ k. k ≢ b) e.1.leg.holds
+
+-- a transaction stays fair where it loses a block that its leg is apart from
+pub fair_without : (b : ℕ) (owners : List (ℕ × Owner)) (e : ℕ × Transaction) → IsFair owners e → IsApart b e → IsFair (without b owners) e
+fair_without b owners e fair apart =
+    let still : (q : ℕ) → Owns owners e.0 q → q ≢ b → Owns (without b owners) e.0 q = λ q own other. ap (λ o. is_some (own_count e.0 o)) (at_without_other b q owners other) ∙ own in
+    record {
+      unit = fair.unit;
+      rising = fair.rising;
+      covered = fair.covered;
+      owned =
+          each_map (λ c. Owns owners e.0 c.0 × (c.0 ≢ b)) (λ c. Owns (without b owners) e.0 c.0) e.1.leg.changes (λ c both. still c.0 both.0 both.1)
+          (each_both (λ c. Owns owners e.0 c.0) (λ c. c.0 ≢ b) e.1.leg.changes fair.owned apart.0);
+      holds_rise = fair.holds_rise;
+      holds_owned =
+          each_map (λ q. Owns owners e.0 q × (q ≢ b)) (λ q. Owns (without b owners) e.0 q) e.1.leg.holds (λ q both. still q both.0 both.1)
+          (each_both (λ q. Owns owners e.0 q) (λ q. q ≢ b) e.1.leg.holds fair.holds_owned apart.1);
+    }
+
+-- a leg is apart from what its transaction does not have
+pub apart_from : (b : ℕ) (owners : List (ℕ × Owner)) (e : ℕ × Transaction) → IsFair owners e → (Owns owners e.0 b → ⊥) → IsApart b e
+apart_from b owners e fair none =
+    (each_map (λ c. Owns owners e.0 c.0) (λ c. c.0 ≢ b) e.1.leg.changes (λ c own same. none (subst (λ (x : ℕ). Owns owners e.0 x) same own)) fair.owned,
+    each_map (λ q. Owns owners e.0 q) (λ q. q ≢ b) e.1.leg.holds (λ q own same. none (subst (λ (x : ℕ). Owns owners e.0 x) same own)) fair.holds_owned)
 
 -- ---- the flight between the landed and the open checkpoints
 between_committed : (o : Option Flight) (l : Items) (cil : List (ℕ × List ℕ)) → IsBetween o l → IsBetween o (record l { cil = cil })
 between_committed None l cil h = tt
 between_committed (Some f) l cil h = h
+
+between_cleaned : (o : Option Flight) (l : Items) (ail : List (ℕ × ℕ)) (q : ℕ × ℕ → Bool) → IsBetween o l → IsBetween o (record l { ail = ail; landed = filter q l.landed })
+between_cleaned None l ail q h = tt
+between_cleaned (Some f) l ail q h = (h.0, each_filter (λ e. e.0 < f.number) q l.landed h.1)
 
 no_flight : (o : Option Flight) → is_none o ≡ true → cost (flight_items o) ≡ 0
 no_flight None h = refl
@@ -174,16 +211,15 @@ module _ (log_bytes : ℕ) (owners : List (ℕ × Owner)) (ts : List (ℕ × Tra
         fair = each_set_at (IsFair owners) t (record trans { leg = leg }) ts fair h.fair;
       }
 
-  -- ---- a transaction locks a block that is free or its own
-  module _ (t b count : ℕ) (free : (is_in b owners && not (is_some (own_count t (at b owners)))) ≡ false) where
+  -- ---- a transaction locks a block that no other has
+  module _ (t b count : ℕ) (free : (u : ℕ) → Owns owners u b → t ≡ u) where
     -- each keeps its own
     owns_locked : (u q : ℕ) → Owns owners u q → Owns (put b (Trans t count) owners) u q
     owns_locked u q own =
         elim (cases_eq q b) [
           | inl same ↦
               let here : Owns owners u b = subst (λ (x : ℕ). Owns owners u x) same own in
-              let mine : Owns owners t b = mine_if (is_in b owners) (is_some (own_count t (at b owners))) (owned_there u b owners here) free in
-              let one : t ≡ u = own_one t u (at b owners) mine here in
+              let one : t ≡ u = free u here in
               let now : own_count t (at q (put b (Trans t count) owners)) ≡ Some count = ap (λ (x : ℕ). own_count t (at x (put b (Trans t count) owners))) same ∙ ap (own_count t) (at_put_same b (Trans t count) owners) ∙ own_itself t count in
               subst (λ (x : ℕ). Owns (put b (Trans t count) owners) x q) one (ap is_some now)
           | inr other ↦ ap (λ o. is_some (own_count u o)) (at_put_other b q (Trans t count) owners other) ∙ own
@@ -198,7 +234,7 @@ module _ (log_bytes : ℕ) (owners : List (ℕ × Owner)) (ts : List (ℕ × Tra
               ∙ sym (ap (λ o. is_some o || is_listed l q) (at_put_other b q (Trans t count) owners other)) ∙ busy
         ]
 
-    -- a transaction locks a block that is free or its own, where it is busy or one more may be
+    -- a transaction locks a block that no other has, where it is busy or one more may be
     pub parts_locked : (is_busy_in owners l b ≡ true) ⊎ (length owners + count_beside owners l < 64) → AreSound log_bytes (put b (Trans t count) owners) ts l
     parts_locked room =
         let rises : IsRising (put b (Trans t count) owners) = rises_put 0 b (Trans t count) owners (omega arith) h.owners_rise in
@@ -223,22 +259,35 @@ module _ (log_bytes : ℕ) (owners : List (ℕ × Owner)) (ts : List (ℕ × Tra
 
   -- ---- a transaction ends
   module _ (t : ℕ) (trans : Transaction) (is : at t ts ≡ Some trans) where
-    granted_less : granted (without t ts) + trans.unit * trans.legs ≡ granted ts
+    -- what a transaction was granted is in the sum
+    pub granted_less : granted (without t ts) + trans.unit * trans.legs ≡ granted ts
     granted_less = omega (arith, sum_without (λ e. e.1.unit * e.1.legs) t ts, ap (weight_at (λ e. e.1.unit * e.1.legs) t) is)
 
     fair_others : (ns : List (ℕ × Owner)) → ((u b : ℕ) → u ≢ t → Owns owners u b → Owns ns u b) → Each (IsFair ns) (without t ts)
     fair_others ns still =
         each_map (λ e. IsFair owners e × (e.0 ≢ t)) (IsFair ns) (without t ts) (λ e both. fair_with owners ns e (λ b own. still e.0 b both.1 own) both.0) (each_other (IsFair owners) 0 t ts h.transactions_rise h.fair)
 
-    -- a leg is given up and its transaction ends
-    pub parts_aborted : AreSound log_bytes (filter_map (owner_aborted t trans.leg) owners) (without t ts) l
-    parts_aborted =
+    -- the transaction with a clean leg, and so many legs left
+    abbrev pub rolled : ℕ → List (ℕ × Transaction)
+    rolled legs = set_at t (record trans { legs = legs; leg = clean_leg }) ts
+
+    -- what is granted then
+    pub granted_rolled : (legs : ℕ) → granted (rolled legs) ≡ granted (without t ts) + trans.unit * legs
+    granted_rolled legs = omega (arith, granted_less, sum_set (λ e. e.1.unit * e.1.legs) t trans (record trans { legs = legs; leg = clean_leg }) ts is)
+
+    fair_rolled : (ns : List (ℕ × Owner)) (legs : ℕ) → ((u b : ℕ) → u ≢ t → Owns owners u b → Owns ns u b) → Each (IsFair ns) (rolled legs)
+    fair_rolled ns legs still =
+        each_set_other (IsFair ns) 0 t (record trans { legs = legs; leg = clean_leg }) ts h.transactions_rise (record { unit = omega arith; rising = tt; covered = tt; owned = tt; holds_rise = tt; holds_owned = tt })
+        (each_map (IsFair owners) (λ e. e.0 ≢ t → IsFair ns e) ts (λ e fair other. fair_with owners ns e (λ b own. still e.0 b other own) fair) h.fair)
+
+    aborted_with : (us : List (ℕ × Transaction)) → granted us ≤ granted ts → IsRising us → Each (IsFair (filter_map (owner_aborted t trans.leg) owners)) us → AreSound log_bytes (filter_map (owner_aborted t trans.leg) owners) us l
+    aborted_with us less rising fair =
         let ns : List (ℕ × Owner) = filter_map (owner_aborted t trans.leg) owners in
         let rises : IsRising ns = rises_filter_map 0 (owner_aborted t trans.leg) owners (keeps_owner_aborted t trans.leg) h.owners_rise in
         let space = h.space in
         let few = h.busy in
         record {
-          space = omega (arith, space, granted_less);
+          space = omega (arith, space, less);
           busy =
               omega (
                 arith,
@@ -248,35 +297,46 @@ module _ (log_bytes : ℕ) (owners : List (ℕ × Owner)) (ts : List (ℕ × Tra
                     (busy_committed owners l q) (busy_flying owners l q) (busy_active owners l q) busy),
               );
           owners_rise = rises;
-          transactions_rise = rises_without 0 t ts h.transactions_rise;
+          transactions_rise = rising;
           cil_rises = h.cil_rises;
           flight_rises = h.flight_rises;
           ail_rises = h.ail_rises;
           landed_rises = h.landed_rises;
           landed_below = h.landed_below;
           flying = h.flying;
-          fair = fair_others ns (λ u b other own. owns_aborted t u b trans.leg owners other own);
+          fair = fair;
         }
 
-    -- the marks that reach the list were charged, and the grant goes
-    pub parts_ended : charge trans.leg.changes ≤ trans.unit * trans.legs
-        → AreSound log_bytes (filter_map (owner_after t trans.leg l.open_number) owners) (without t ts) (record l { cil = with_marks trans.leg.changes l.cil })
-    parts_ended within =
+    -- a leg is given up and its transaction ends
+    pub parts_aborted : AreSound log_bytes (filter_map (owner_aborted t trans.leg) owners) (without t ts) l
+    parts_aborted =
+        aborted_with (without t ts) (omega (arith, granted_less)) (rises_without 0 t ts h.transactions_rise)
+        (fair_others (filter_map (owner_aborted t trans.leg) owners) (λ u b other own. owns_aborted t u b trans.leg owners other own))
+
+    -- a leg is given up and its transaction stays, with no leg left
+    pub parts_given_up : AreSound log_bytes (filter_map (owner_aborted t trans.leg) owners) (rolled 0) l
+    parts_given_up =
+        aborted_with (rolled 0) (omega (arith, granted_less, granted_rolled 0)) (rises_set_at 0 t (record trans { legs = 0; leg = clean_leg }) ts h.transactions_rise)
+        (fair_rolled (filter_map (owner_aborted t trans.leg) owners) 0 (λ u b other own. owns_aborted t u b trans.leg owners other own))
+
+    ended_with : (us : List (ℕ × Transaction)) → granted us + cost (with_marks trans.leg.changes l.cil) + cost (flight_items l.flight) + sum_by (λ e. e.1) l.landed ≤ log_bytes → IsRising us
+        → Each (IsFair (filter_map (owner_after t trans.leg l.open_number) owners)) us
+        → AreSound log_bytes (filter_map (owner_after t trans.leg l.open_number) owners) us (record l { cil = with_marks trans.leg.changes l.cil })
+    ended_with us space rising fair =
         let ns : List (ℕ × Owner) = filter_map (owner_after t trans.leg l.open_number) owners in
         let n : Items = record l { cil = with_marks trans.leg.changes l.cil } in
-        let fair : IsFair owners (t, trans) = each_at (IsFair owners) t trans ts is h.fair in
+        let old : IsFair owners (t, trans) = each_at (IsFair owners) t trans ts is h.fair in
         let rises : IsRising ns = rises_filter_map 0 (owner_after t trans.leg l.open_number) owners (keeps_owner_after t trans.leg l.open_number) h.owners_rise in
         let marked : IsRising n.cil = rises_with_marks trans.leg.changes l.cil h.cil_rises in
-        let space = h.space in
         let few = h.busy in
         let listed : (q : ℕ) → is_in q n.cil ≡ true → is_busy_in owners l q ≡ true =
         λ q there.
         elim (is_in_with_marks q trans.leg.changes l.cil there) [
-          | inl changed ↦ busy_owned owners l q (owned_there t q owners (each_in (λ b. Owns owners t b) q trans.leg.changes changed fair.owned))
-          | inr old ↦ busy_committed owners l q old
+          | inl changed ↦ busy_owned owners l q (owned_there t q owners (each_in (λ b. Owns owners t b) q trans.leg.changes changed old.owned))
+          | inr before ↦ busy_committed owners l q before
         ] in
         record {
-          space = omega (arith, space, within, granted_less, cost-with_marks trans.leg.changes l.cil h.cil_rises fair.covered);
+          space = space;
           busy =
               omega (
                 arith,
@@ -286,15 +346,91 @@ module _ (log_bytes : ℕ) (owners : List (ℕ × Owner)) (ts : List (ℕ × Tra
                     (listed q) (busy_flying owners l q) (busy_active owners l q) busy),
               );
           owners_rise = rises;
-          transactions_rise = rises_without 0 t ts h.transactions_rise;
+          transactions_rise = rising;
           cil_rises = marked;
           flight_rises = h.flight_rises;
           ail_rises = h.ail_rises;
           landed_rises = h.landed_rises;
           landed_below = h.landed_below;
           flying = between_committed l.flight l (with_marks trans.leg.changes l.cil) h.flying;
-          fair = fair_others ns (λ u b other own. owns_after t u b trans.leg l.open_number owners other own);
+          fair = fair;
         }
+
+    -- what a commit adds to the items was charged
+    pub cost_added : cost (with_marks trans.leg.changes l.cil) ≤ cost l.cil + charge trans.leg.changes
+    cost_added =
+        let old : IsFair owners (t, trans) = each_at (IsFair owners) t trans ts is h.fair in
+        cost-with_marks trans.leg.changes l.cil h.cil_rises old.covered
+
+    -- the marks that reach the list were charged, and the grant goes
+    pub parts_ended : charge trans.leg.changes ≤ trans.unit * trans.legs
+        → AreSound log_bytes (filter_map (owner_after t trans.leg l.open_number) owners) (without t ts) (record l { cil = with_marks trans.leg.changes l.cil })
+    parts_ended within =
+        let space = h.space in
+        ended_with (without t ts) (omega (arith, space, within, granted_less, cost_added)) (rises_without 0 t ts h.transactions_rise)
+        (fair_others (filter_map (owner_after t trans.leg l.open_number) owners) (λ u b other own. owns_after t u b trans.leg l.open_number owners other own))
+
+    -- a leg is committed and its transaction goes on, with so many legs left for which there is room
+    pub parts_rolled : (legs : ℕ) → granted (without t ts) + trans.unit * legs + cost (with_marks trans.leg.changes l.cil) + cost (flight_items l.flight) + sum_by (λ e. e.1) l.landed ≤ log_bytes
+        → AreSound log_bytes (filter_map (owner_after t trans.leg l.open_number) owners) (rolled legs) (record l { cil = with_marks trans.leg.changes l.cil })
+    parts_rolled legs room =
+        ended_with (rolled legs) (omega (arith, room, granted_rolled legs)) (rises_set_at 0 t (record trans { legs = legs; leg = clean_leg }) ts h.transactions_rise)
+        (fair_rolled (filter_map (owner_after t trans.leg l.open_number) owners) legs (λ u b other own. owns_after t u b trans.leg l.open_number owners other own))
+
+  -- ---- a block loses its owner
+  -- a block loses its owner, where the open transactions are fair without it
+  pub parts_unowned : (b : ℕ) → Each (IsApart b) ts → AreSound log_bytes (without b owners) ts l
+  parts_unowned b apart =
+      let ns : List (ℕ × Owner) = without b owners in
+      let rises : IsRising ns = rises_without 0 b owners h.owners_rise in
+      let few = h.busy in
+      record {
+        space = h.space;
+        busy =
+            omega (
+              arith,
+              few,
+              fewer_busy ns owners l l rises h.cil_rises h.flight_rises h.ail_rises
+                  (λ q busy. busy_by ns l q (is_busy_in owners l q) (λ o. busy_owned owners l q (is_in_without q b owners o)) (busy_committed owners l q) (busy_flying owners l q) (busy_active owners l q) busy),
+            );
+        owners_rise = rises;
+        transactions_rise = h.transactions_rise;
+        cil_rises = h.cil_rises;
+        flight_rises = h.flight_rises;
+        ail_rises = h.ail_rises;
+        landed_rises = h.landed_rises;
+        landed_below = h.landed_below;
+        flying = h.flying;
+        fair = each_map (λ e. IsFair owners e × IsApart b e) (IsFair ns) ts (λ e both. fair_without b owners e both.0 both.1) (each_both (IsFair owners) (IsApart b) ts h.fair apart);
+      }
+
+  -- ---- blocks leave the active list
+  -- blocks leave the active list, and landed checkpoints count no more
+  pub parts_cleaned : (p q : ℕ × ℕ → Bool) → AreSound log_bytes owners ts (record l { ail = filter p l.ail; landed = filter q l.landed })
+  parts_cleaned p q =
+      let n : Items = record l { ail = filter p l.ail; landed = filter q l.landed } in
+      let active : IsRising n.ail = rises_filter 0 p l.ail h.ail_rises in
+      let space = h.space in
+      let few = h.busy in
+      record {
+        space = omega (arith, space, sum_filter_le (λ e. e.1) q l.landed);
+        busy =
+            omega (
+              arith,
+              few,
+              fewer_busy owners owners n l h.owners_rise h.cil_rises h.flight_rises active
+                  (λ k busy. busy_by owners n k (is_busy_in owners l k) (busy_owned owners l k) (busy_committed owners l k) (busy_flying owners l k) (λ there. busy_active owners l k (is_in_filter k p l.ail there)) busy),
+            );
+        owners_rise = h.owners_rise;
+        transactions_rise = h.transactions_rise;
+        cil_rises = h.cil_rises;
+        flight_rises = h.flight_rises;
+        ail_rises = active;
+        landed_rises = rises_filter 0 q l.landed h.landed_rises;
+        landed_below = each_filter (λ e. e.0 < l.open_number) q l.landed h.landed_below;
+        flying = between_cleaned l.flight l (filter p l.ail) q h.flying;
+        fair = h.fair;
+      }
 
   -- ---- a checkpoint begins
   -- a checkpoint begins

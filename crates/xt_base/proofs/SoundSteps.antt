@@ -8,7 +8,7 @@ use Rattle.xt_base.proofs.KeyLemmas.{each_with_member, each_without_member, is_i
 use Rattle.xt_base.proofs.LegLemmas.{charge_alike, covered_edit, is_in_with_marks, length_with_marks_ge, owned_there, rises_with_edits, rises_with_lost}
 use Rattle.xt_base.proofs.MapLemmas.{at_put_same}
 use Rattle.xt_base.proofs.RisingLemmas.{each_at, each_both, each_filter, each_in, each_map, each_passes, each_put, each_set_at, each_without, rises_filter, rises_put}
-use Rattle.xt_base.proofs.SoundParts.{busy_active, busy_by, busy_committed, busy_flying, busy_owned, is_in_activated, parts_aborted, parts_empty, parts_ended, parts_failed, parts_flown, parts_landed, parts_leg, parts_locked, parts_opened}
+use Rattle.xt_base.proofs.SoundParts.{busy_active, busy_by, busy_committed, busy_flying, busy_owned, is_in_activated, none_else, parts_aborted, parts_empty, parts_ended, parts_failed, parts_flown, parts_landed, parts_leg, parts_locked, parts_opened}
 use Rattle.xt_base.specs.declared.steps.Reply.TheVariants.{Committed, Failed, Landed, Nothing, Okay, Refused, Wait}
 use Rattle.xt_base.specs.Calls.{Outcome, commit_number, gives, held_of, io_of, alloc, alloc_refusals, allocated, asks_ckpt, asks_flush, at_end, brought, busied, closed, commit, edited, first_of, force, get_refusals, is_elsewhere, is_fresh, is_own, locked, log_refusals, logged_leg, made_fresh, new_trans, not_fresh, overwritten, push, seen, shut_down, shut_for, shutdown, unless, waits_for, with_leg, with_owner}
 use Rattle.xt_base.specs.Chunks.{marks, union}
@@ -45,30 +45,35 @@ pub passes_first : (t : Bool) (e : Errno) (rest : List (Bool × Errno)) → None
 passes_first true e rest h = absurd (cc)
 passes_first false e rest h = (refl, h)
 
-is_none_some : {A : Type 0} (o : Option A) → is_none o ≡ true → is_some o ≡ true → ⊥
+-- nothing is none and some
+pub is_none_some : {A : Type 0} (o : Option A) → is_none o ≡ true → is_some o ≡ true → ⊥
 is_none_some None n s = absurd (cc)
 is_none_some (Some x) n s = absurd (cc)
 
-is_none_not : {A : Type 0} (o : Option A) → is_some o ≡ false → is_none o ≡ true
+-- what is not some is none
+pub is_none_not : {A : Type 0} (o : Option A) → is_some o ≡ false → is_none o ≡ true
 is_none_not None h = refl
 is_none_not (Some x) h = absurd (cc)
 
-second_false : (x y : Bool) → x ≡ true → (x && y) ≡ false → y ≡ false
+-- two do not hold both, and the first does
+pub second_false : (x y : Bool) → x ≡ true → (x && y) ≡ false → y ≡ false
 second_false true y is h = h
 second_false false y is h = absurd (cc)
 
-left_true : (x y : Bool) → y ≡ false → (x || y) ≡ true → x ≡ true
+-- what holds of the first or the second, and not of the second
+pub left_true : (x y : Bool) → y ≡ false → (x || y) ≡ true → x ≡ true
 left_true true y off h = refl
 left_true false y off h = absurd (cc)
 
 -- on no list
-listed_parts : (c f a : Bool) → (c || f || a) ≡ false → (c ≡ false) × (f ≡ false) × (a ≡ false)
+pub listed_parts : (c f a : Bool) → (c || f || a) ≡ false → (c ≡ false) × (f ≡ false) × (a ≡ false)
 listed_parts false false false h = (refl, refl, refl)
 listed_parts true f a h = absurd (cc)
 listed_parts false true a h = absurd (cc)
 listed_parts false false true h = absurd (cc)
 
-unlisted_by : (c f a : Bool) → c ≡ false → f ≡ false → a ≡ false → (c || f || a) ≡ false
+-- on no list, as each of the three says
+pub unlisted_by : (c f a : Bool) → c ≡ false → f ≡ false → a ≡ false → (c || f || a) ≡ false
 unlisted_by c f a hc hf ha = ap (λ x. x || f || a) hc ∙ ap (λ x. x || a) hf ∙ ha
 
 none_flying : (o : Option Flight) (b : ℕ) → is_none o ≡ true → is_in b (flight_items o) ≡ true → ⊥
@@ -82,7 +87,7 @@ not_active number es ail b flew old =
     (λ there. elim (is_in_activated b number es ail there) [ inl now ↦ false≢true (sym flew ∙ now) | inr was ↦ false≢true (sym old ∙ was) ])
 
 -- what no leg changed and no item was of is no item after a commit
-not_marked : (cs : List (ℕ × Change)) (m : List (ℕ × List ℕ)) (b : ℕ) → is_in b cs ≡ false → is_in b m ≡ false → is_in b (with_marks cs m) ≡ false
+pub not_marked : (cs : List (ℕ × Change)) (m : List (ℕ × List ℕ)) (b : ℕ) → is_in b cs ≡ false → is_in b m ≡ false → is_in b (with_marks cs m) ≡ false
 not_marked cs m b changed old =
     false_from_ne_true (is_in b (with_marks cs m))
     (λ there. elim (is_in_with_marks b cs m there) [ inl now ↦ false≢true (sym changed ∙ now) | inr was ↦ false≢true (sym old ∙ was) ])
@@ -92,13 +97,12 @@ unchanged_by : (owners : List (ℕ × Owner)) (e : ℕ × Transaction) (b : ℕ)
 unchanged_by owners e b other fair =
     false_from_ne_true (is_in b e.1.leg.changes) (λ there. false≢true (sym other ∙ owned_there e.0 b owners (each_in (λ q. Owns owners e.0 q) b e.1.leg.changes there fair.owned)))
 
--- an edit changes no other block
-apart_edit : (k b : ℕ) (content marked : List ℕ) (leg : Leg) → k ≢ b → is_in k leg.changes ≡ false → is_in k (edited b content marked leg).changes ≡ false
-apart_edit k b content marked leg other old =
-    is_in_put k b (record { edit = Some content; marks = union (change_of b leg).marks marked; charged = union (change_of b leg).charged marked }) leg.changes
-    ∙ ap (λ x. x || is_in k leg.changes) (ne_eqb k b other) ∙ old
+-- a change of a block changes no other
+apart_put : (k b : ℕ) (c : Change) (changes : List (ℕ × Change)) → k ≢ b → is_in k changes ≡ false → is_in k (put b c changes) ≡ false
+apart_put k b c changes other old = is_in_put k b c changes ∙ ap (λ x. x || is_in k changes) (ne_eqb k b other) ∙ old
 
-ready_ended : (l : Items) (cs : List (ℕ × Change)) (j : Jobs) → IsReady l j → IsReady (record l { cil = with_marks cs l.cil }) j
+-- a commit leaves a checkpoint that is outstanding something to write
+pub ready_ended : (l : Items) (cs : List (ℕ × Change)) (j : Jobs) → IsReady l j → IsReady (record l { cil = with_marks cs l.cil }) j
 ready_ended l cs j r = record {
   numbered = r.numbered;
   bounded = r.bounded;
@@ -107,7 +111,8 @@ ready_ended l cs j r = record {
 }
 
 -- ---- steps that change no part
-shut_for_some : (reason : Reason) (o : Option Reason) → is_none (shut_for reason o) ≡ true → ⊥
+-- what was shut for a reason is not live
+pub shut_for_some : (reason : Reason) (o : Option Reason) → is_none (shut_for reason o) ≡ true → ⊥
 shut_for_some reason None h = absurd (cc)
 shut_for_some reason (Some first) h = absurd (cc)
 
@@ -209,7 +214,7 @@ sound_settled dropped s h =
 pub sound_allocated : (unit count : ℕ) (perm : Bool) (s : State) → IsSound s → 1 ≤ count → used s + unit * count ≤ s.log_bytes → IsSound (allocated unit count perm s).state
 sound_allocated unit count perm s h some room = record {
   log_small = h.log_small;
-  parts = parts_opened s.log_bytes s.owners s.transactions s.items h.parts (s.last_trans + 1) (new_trans unit count perm) (record { unit = omega arith; rising = tt; covered = tt; owned = tt }) room;
+  parts = parts_opened s.log_bytes s.owners s.transactions s.items h.parts (s.last_trans + 1) (new_trans unit count perm) (record { unit = omega arith; rising = tt; covered = tt; owned = tt; holds_rise = tt; holds_owned = tt }) room;
   kept = h.kept;
   ready = h.ready;
   legs_left = λ live. each_put (λ e. 1 ≤ e.1.legs) (s.last_trans + 1) (new_trans unit count perm) s.transactions some (h.legs_left live);
@@ -373,8 +378,8 @@ module _ (s : State) (h : IsSound s) where
   sound_end dropped answers = end_sound dropped answers s.items.flight refl
 
 -- ---- get
--- a block that somebody has as it is, or nobody
-module _ (t b count : ℕ) (s : State) (h : IsSound s) (free : is_elsewhere s t b ≡ false) where
+-- a block that no other transaction has
+module _ (t b count : ℕ) (s : State) (h : IsSound s) (free : (u : ℕ) → Owns s.owners u b → t ≡ u) where
   owned_more : (q : ℕ) → is_busy s q ≡ true → is_busy (with_owner b (Trans t count) s) q ≡ true
   owned_more q busy =
       let ns : List (ℕ × Owner) = put b (Trans t count) s.owners in
@@ -405,12 +410,12 @@ module _ (t b count : ℕ) (s : State) (h : IsSound s) (free : is_elsewhere s t 
       sound_owner s.frames (inl busy) (kept_on s h (with_owner b (Trans t count) s) owned_more)
       (λ live. each_map (IsUnwritten s.owners s.transactions s.items) (IsUnwritten (put b (Trans t count) s.owners) s.transactions s.items) s.frames.fresh unwritten_more (h.fresh_owned live))
 
-  -- an idle block
-  pub sound_owner_idle : (content : List ℕ) → busy_count s < 64 → IsSound (with_owner b (Trans t count) (busied b content s))
-  sound_owner_idle content room =
+  -- a block with a content
+  pub sound_owner_content : (content : List ℕ) → (is_busy s b ≡ true) ⊎ (busy_count s < 64) → IsSound (with_owner b (Trans t count) (busied b content s))
+  sound_owner_content content room =
       let n : State = with_owner b (Trans t count) s in
       let kept = kept_on s h n owned_more in
-      sound_owner (busied b content s).frames (inr room)
+      sound_owner (busied b content s).frames room
       (record {
         committed_rises = rises_put 0 b content s.frames.committed (omega arith) kept.committed_rises;
         committed_busy = each_put (λ e. is_busy n e.0 ≡ true) b content s.frames.committed owned_now kept.committed_busy;
@@ -442,7 +447,7 @@ module _ (t b count : ℕ) (s : State) (h : IsSound s) (free : is_elsewhere s t 
 
   brought_sound : (idle : Option (List ℕ)) → is_busy s b ≡ false → busy_count s < 64 → IsSound (with_owner b (Trans t count) (brought b idle s))
   brought_sound None other room = sound_owner_fresh other room
-  brought_sound (Some content) other room = sound_owner_idle content room
+  brought_sound (Some content) other room = sound_owner_content content (inr room)
 
   first_sound : (busy : Bool) → is_busy s b ≡ busy → (not busy && nat_le 64 (busy_count s)) ≡ false → IsSound (with_owner b (Trans t count) (if busy then s else brought b (at b s.frames.idle) s))
   first_sound true is room = sound_owner_busy is
@@ -450,8 +455,8 @@ module _ (t b count : ℕ) (s : State) (h : IsSound s) (free : is_elsewhere s t 
 
 -- a block that a transaction has is locked once more, another is locked first
 pub sound_locked : (t b : ℕ) (own : Option ℕ) (s : State) → IsSound s → own_count t (at b s.owners) ≡ own → is_elsewhere s t b ≡ false → (not (is_busy s b) && nat_le 64 (busy_count s)) ≡ false → IsSound (locked t b own s)
-sound_locked t b (Some count) s h is free room = sound_owner_busy t b (count + 1) s h free (busy_owned s.owners s.items b (owned_there t b s.owners (ap is_some is)))
-sound_locked t b None s h is free room = first_sound t b 0 s h free (is_busy s b) refl room
+sound_locked t b (Some count) s h is free room = sound_owner_busy t b (count + 1) s h (none_else t b s.owners free) (busy_owned s.owners s.items b (owned_there t b s.owners (ap is_some is)))
+sound_locked t b None s h is free room = first_sound t b 0 s h (none_else t b s.owners free) (is_busy s b) refl room
 
 -- a get that nothing refuses
 pub sound_get : (t b : ℕ) (s : State) → IsSound s → None ≡ first_of (get_refusals t b s) → IsSound (locked t b (own_count t (at b s.owners)) s)
@@ -474,18 +479,19 @@ edit_fair t b content marked owners trans fair own room =
       rising = rises_put 0 b c trans.leg.changes (omega arith) fair.rising;
       covered = each_put IsCovered b c trans.leg.changes (covered_edit b content marked trans.leg fair.covered) fair.covered;
       owned = each_put (λ e. Owns owners t e.0) b c trans.leg.changes own fair.owned;
+      holds_rise = fair.holds_rise;
+      holds_owned = fair.holds_owned;
     }
 
--- a block that a transaction has is edited, within its unit
-pub sound_edited : (t b : ℕ) (content marked : List ℕ) (s : State) (trans : Transaction) → IsSound s → at t s.transactions ≡ Some trans → is_own s t b ≡ true
-    → charge (edited b [] marked trans.leg).changes ≤ trans.unit → IsSound (not_fresh b (with_leg t trans (edited b content marked trans.leg) s))
-sound_edited t b content marked s trans h is own room =
-    let leg : Leg = edited b content marked trans.leg in
-    let fair : IsFair s.owners (t, trans) = each_at (IsFair s.owners) t trans s.transactions is h.parts.fair in
+-- a transaction's leg changes one more block, which is fresh no more
+pub sound_changed : (t b : ℕ) (c : Change) (holds : List ℕ) (s : State) (trans : Transaction) → IsSound s → at t s.transactions ≡ Some trans
+    → IsFair s.owners (t, record trans { leg = record { changes = put b c trans.leg.changes; holds = holds } }) → IsSound (not_fresh b (with_leg t trans (record { changes = put b c trans.leg.changes; holds = holds }) s))
+sound_changed t b c holds s trans h is fair =
+    let leg : Leg = record { changes = put b c trans.leg.changes; holds = holds } in
     let ts : List (ℕ × Transaction) = set_at t (record trans { leg = leg }) s.transactions in
     record {
       log_small = h.log_small;
-      parts = parts_leg s.log_bytes s.owners s.transactions s.items h.parts t trans leg is (edit_fair t b content marked s.owners trans fair own room);
+      parts = parts_leg s.log_bytes s.owners s.transactions s.items h.parts t trans leg is fair;
       kept = record {
         committed_rises = h.kept.committed_rises;
         committed_busy = h.kept.committed_busy;
@@ -501,10 +507,18 @@ sound_edited t b content marked s trans h is own room =
             unlisted = both.0.unlisted;
             unchanged =
                 each_set_at (λ e. is_in k e.1.leg.changes ≡ false) t (record trans { leg = leg }) s.transactions
-                (apart_edit k b content marked trans.leg both.1 (each_at (λ e. is_in k e.1.leg.changes ≡ false) t trans s.transactions is both.0.unchanged)) both.0.unchanged;
+                (apart_put k b c trans.leg.changes both.1 (each_at (λ e. is_in k e.1.leg.changes ≡ false) t trans s.transactions is both.0.unchanged)) both.0.unchanged;
           })
           (each_without_member (IsUnwritten s.owners s.transactions s.items) b s.frames.fresh (h.fresh_owned live));
     }
+
+-- a block that a transaction has is edited, within its unit
+pub sound_edited : (t b : ℕ) (content marked : List ℕ) (s : State) (trans : Transaction) → IsSound s → at t s.transactions ≡ Some trans → is_own s t b ≡ true
+    → charge (edited b [] marked trans.leg).changes ≤ trans.unit → IsSound (not_fresh b (with_leg t trans (edited b content marked trans.leg) s))
+sound_edited t b content marked s trans h is own room =
+    let fair : IsFair s.owners (t, trans) = each_at (IsFair s.owners) t trans s.transactions is h.parts.fair in
+    sound_changed t b (record { edit = Some content; marks = union (change_of b trans.leg).marks marked; charged = union (change_of b trans.leg).charged marked }) trans.leg.holds s trans h is
+    (edit_fair t b content marked s.owners trans fair own room)
 
 -- a log request that nothing refuses
 pub sound_log : (t b first : ℕ) (bytes : List ℕ) (s : State) (trans : Transaction) → IsSound s → at t s.transactions ≡ Some trans → None ≡ first_of (log_refusals t b first bytes trans s)

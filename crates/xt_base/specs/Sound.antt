@@ -34,12 +34,14 @@ IsCovered e = (k : ℕ) → has e.1.marks k ≡ true → has e.1.charged k ≡ t
 abbrev pub Owns : List (ℕ × Owner) → ℕ → ℕ → Type 0
 Owns owners t b = is_some (own_count t (at b owners)) ≡ true
 
--- a leg of an open transaction is charged within its unit, what it marked was charged, and it owns what it changed
+-- a leg of an open transaction is charged within its unit, what it marked was charged, and it owns what it changed and what has its hold mark
 pub record IsFair (owners : List (ℕ × Owner)) (e : ℕ × Transaction) : Type 0 where
   pub unit : charge e.1.leg.changes ≤ e.1.unit
   pub rising : IsRising e.1.leg.changes
   pub covered : Each IsCovered e.1.leg.changes
   pub owned : Each (λ c. Owns owners e.0 c.0) e.1.leg.changes
+  pub holds_rise : RisesFromKeys 0 e.1.leg.holds
+  pub holds_owned : Each (λ b. Owns owners e.0 b) e.1.leg.holds
 
 -- each landed checkpoint has a number below n
 abbrev pub AllBelow : ℕ → List (ℕ × ℕ) → Type 0
