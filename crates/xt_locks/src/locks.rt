@@ -1,6 +1,7 @@
 //! The owners of blocks.
 
 ghost use Rattle.std.specs.Prelude.{ℕ, ◌≡◌, ◌+◌, ◌<◌, if◌then◌else◌, ◌≤◌, ◌==◌, ◌∷◌, ◌++◌, Option, [], Some, None, false, true, filter, filter_map, is_none, is_some, length, not, slice_get, take, drop, IfOk, IfErr, IfSome, IsOk, ◌↔◌};
+ghost use Rattle.std.specs.List.{list_any};
 ghost use Rattle.xt_base.specs.Calls.{at_end, is_held};
 ghost use Rattle.xt_base.specs.Jobs.{waits_on};
 ghost use Rattle.xt_base.specs.Legs.{own_count, owned_by};
@@ -67,6 +68,16 @@ impl Locks {
         ensures { result ≡ is_held (at block self.now) }
     {
         matches!(self.owners.get(block.0), Some(Owner::Held))
+    }
+
+    /// Whether some block is held.
+    pub fn has_held(&self) -> bool
+        ensures { result ≡ list_any (λ e. is_held (Some e.1)) self.now }
+    {
+        self.owners
+            .entries()
+            .iter()
+            .any(|e| matches!(e.1, Owner::Held))
     }
 
     /// The recursion count of a block that a transaction owns: 0 after its first lock.
@@ -216,6 +227,13 @@ impl Locks {
     pub fn free_stale(&mut self, number: CkptNo)
         ensures { self.new ≡ filter (λ e. not (waits_on number e.1)) self.old }
     {
+        self.free_waiting(number.0);
+    }
+
+    /// The same by the checkpoint's number.
+    fn free_waiting(&mut self, number: u64)
+        ensures { self.new ≡ filter (λ e. not (waits_on number e.1)) self.old }
+    {
         let mut index = 0;
         while index < self.owners.len() {
             if is_waiting_for(self.owners.entries()[index].1, number) {
@@ -248,11 +266,11 @@ fn is_owned_by(owner: Owner, trans: TransNo) -> bool
 }
 
 /// Whether an owner waits for a checkpoint.
-fn is_waiting_for(owner: Owner, number: CkptNo) -> bool
+fn is_waiting_for(owner: Owner, number: u64) -> bool
     ensures { result ≡ waits_on number owner }
 {
     match owner {
-        Owner::Stale(ckpt) => ckpt == number,
+        Owner::Stale(ckpt) => ckpt.0 == number,
         _ => false,
     }
 }

@@ -8,14 +8,19 @@ use Rattle.xt_base.specs.declared.steps.Errno.{Errno}
 use Rattle.xt_base.specs.declared.steps.Errno.TheVariants.{Invalid, NoSpace}
 use Rattle.xt_base.specs.declared.steps.Request.{Request}
 
--- alloc, get, log, commit and force have come
+-- whether a request names the mount as a whole
+abbrev pub is_of_mount : Request → Bool
+is_of_mount Request.Force = true
+is_of_mount (Request.ForceTo number) = true
+is_of_mount Request.Push = true
+is_of_mount Request.Shutdown = true
+is_of_mount Request.Unmount = true
+is_of_mount other = false
+
+-- all have come but roll
 abbrev pub has_come : Request → Bool
-has_come (Request.Alloc unit count perm) = true
-has_come (Request.Get trans block) = true
-has_come (Request.Log trans block first bytes) = true
-has_come (Request.Commit trans) = true
-has_come Request.Force = true
-has_come other = false
+has_come (Request.Roll trans) = false
+has_come other = true
 
 -- what refuses a new mount, after a last life
 abbrev pub new_refusals : ℕ → ℕ → ℕ → List (Bool × Errno)

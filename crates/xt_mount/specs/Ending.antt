@@ -1,16 +1,35 @@
--- The end of a leg none of whose blocks is invalidated or held.
-use Rattle.std.specs.Prelude.{ℕ, List, filter, not}
-use Rattle.xt_base.specs.Legs.{owned_by, with_edits, with_marks}
-use Rattle.xt_base.specs.State.{Change, State}
+-- The end of a leg, part by part.
+use Rattle.std.specs.Prelude.{Bool, List, None, Option, Some, filter, if◌then◌else◌, not, ℕ}
+use Rattle.xt_base.specs.Legs.{is_lost, is_stale, with_edit, with_edits, with_lost, with_marks}
+use Rattle.xt_base.specs.Maps.{has}
+use Rattle.xt_base.specs.State.{Change, Frames, Items, Leg}
+use Rattle.xt_base.specs.declared.steps.Owner.{Owner}
+use Rattle.xt_base.specs.declared.steps.Owner.TheVariants.{Held, Stale}
 
--- the transaction owns nothing any more
-abbrev pub let_go : ℕ → State → State
-let_go t s = record s { owners = filter (λ e. not (owned_by t e.1)) s.owners }
+-- who has a block of a leg that was committed
+abbrev pub owner_left : Leg → ℕ → ℕ → Option Owner
+owner_left leg number b = if is_stale b leg then Some (Stale number) else (if has leg.holds b then Some Held else None)
 
--- and its changes are committed
-abbrev pub leg_ended : ℕ → List (ℕ × Change) → State → State
-leg_ended t cs s = record s {
-  frames = record s.frames { committed = with_edits cs s.frames.committed };
-  items = record s.items { cil = with_marks cs s.items.cil };
-  owners = filter (λ e. not (owned_by t e.1)) s.owners;
-}
+-- who has a block of a leg that was given up
+abbrev pub owner_kept : Leg → ℕ → Option Owner
+owner_kept leg b = if has leg.holds b then Some Held else None
+
+-- the frames with the edits of a leg
+abbrev pub edits_kept : List (ℕ × Change) → Frames → Frames
+edits_kept cs f = record f { committed = with_edits cs f.committed }
+
+-- the commit list with the marks of a leg
+abbrev pub marks_kept : List (ℕ × Change) → Items → Items
+marks_kept cs l = record l { cil = with_marks cs l.cil }
+
+-- whether a block keeps its content where a leg is given up
+abbrev pub is_saved : Leg → ℕ → Bool
+is_saved leg b = not (is_lost leg b)
+
+-- the frames without the contents that a leg lost
+abbrev pub contents_lost : Leg → Frames → Frames
+contents_lost leg f = record f { committed = filter (λ e. is_saved leg e.0) f.committed }
+
+-- the frames with the blocks fresh that a leg lost
+abbrev pub fresh_lost : List (ℕ × Change) → Leg → Frames → Frames
+fresh_lost cs leg f = record f { fresh = with_lost cs leg f.fresh }

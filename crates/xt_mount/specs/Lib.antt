@@ -1,9 +1,9 @@
 pub mod Layers
-pub mod Changes
 pub mod Lists
 pub mod Machines
 pub mod Settling
 pub mod Ending
+pub mod Reads
 pub mod Texts
 pub mod Come
 pub mod Stages

@@ -5,8 +5,8 @@ use Rattle.xt_mount.specs.declared.machine.Machine.{Machine}
 -- its parts, side by side
 abbrev pub state_of : Machine → State
 state_of m = record {
-  slot = m.slot;
-  life = m.life;
+  slot = m.jobs.slot;
+  life = m.jobs.life;
   log_bytes = m.log_bytes;
   blocks = m.blocks;
   frames = m.frames;
@@ -14,6 +14,6 @@ state_of m = record {
   transactions = m.transactions;
   last_trans = m.last_trans;
   items = m.items;
-  jobs = m.jobs;
+  jobs = m.jobs.jobs;
   shut = m.shut;
 }

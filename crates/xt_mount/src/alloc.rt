@@ -1,14 +1,14 @@
-//! Opening a transaction, and what a force waits for.
+//! Opening a transaction.
 
 ghost use Rattle.std.specs.Prelude.{◌≡◌, IfOk, OnErr};
-ghost use Rattle.xt_base.specs.Calls.{alloc as alloc_step, alloc_refusals, first_of, force as force_step, gives};
+ghost use Rattle.xt_base.specs.Calls.{alloc as alloc_step, alloc_refusals, first_of, gives};
 ghost use Rattle.xt_base.specs.Sound.{IsSound};
 ghost use Rattle.xt_mount.specs.Machines.{state_of};
 
 use crate::machine::Machine;
-use crate::trans::TransRec;
+use crate::open_trans::OpenTrans;
 use std::alloc::AllocError;
-use xt_base::names::{CkptNo, TransNo};
+use xt_base::names::TransNo;
 use xt_base::steps::{Errno, Reply};
 
 /// How many transactions of a mount may be open.
@@ -54,26 +54,9 @@ impl Machine {
             self.ask_space();
             return Ok(Reply::Refused(Errno::Again));
         }
-        let trans = TransRec::new(self.alloc, unit, count, perm)?;
+        let trans = OpenTrans::new(self.alloc, unit, count, perm)?;
         self.last_trans += 1;
         self.transactions.put(self.last_trans, trans);
         Ok(Reply::Trans(TransNo(self.last_trans)))
-    }
-
-    /// What is to be waited for so that all that is committed is on the log.
-    pub fn force(&mut self) -> Reply
-        ensures { gives result (state_of self.new) ≡ force_step (state_of self.old) }
-    {
-        if self.is_shut() {
-            return Reply::Refused(Errno::Io);
-        }
-        if !self.items.cil().is_empty() {
-            self.ask_ckpt();
-            return Reply::Wait(CkptNo(self.items.open_number()));
-        }
-        match self.items.flight_number() {
-            Some(number) => Reply::Wait(CkptNo(number)),
-            None => Reply::Done,
-        }
     }
 }

@@ -2,7 +2,7 @@
 
 ghost use Rattle.std.specs.Prelude.{◌≡◌, ◌+◌, ◌*◌, ◌≤◌, ◌<◌, ◌++◌, true, All, length, map, flat_map, is_some, is_none, IfOk, OnOk, OnErr, option_copied, Some, [], IfSome, ◌==◌, if◌then◌else◌};
 ghost use Rattle.std.specs.Int.{bit_at};
-ghost use Rattle.xt_base.specs.Calls.{gives, shut_down as shut_down_step};
+ghost use Rattle.xt_base.specs.Calls.{gives};
 ghost use Rattle.xt_base.specs.Jobs.{begin as begin_step, end as end_step, failed as failed_step, is_ok, landed as landed_step, next_pieces};
 ghost use Rattle.xt_base.specs.Maps.{at};
 ghost use Rattle.xt_base.specs.Sound.{IsSound};
@@ -73,7 +73,7 @@ impl Machine {
         let number = CkptNo(self.items.open_number());
         let count = pieces.len() as u32;
         self.items.fly(self.alloc, pieces)?;
-        self.jobs.clear_ckpt();
+        self.jobs.clear(JobKind::Ckpt);
         Ok(Reply::Begun {
             number,
             pieces: count,
@@ -86,7 +86,7 @@ impl Machine {
         requires flying { flight_number self.old.items.flight ≡ Some number }
         ensures { IfSome self.old.items.flight (λ f. state_of self.new ≡ landed_step [] f (state_of self.old)) }
     {
-        self.locks.free_stale(number);
+        self.locks.free_stale(CkptNo(number));
         self.items.land();
         self.jobs.finish(JobKind::Ckpt);
         self.settle();
@@ -100,15 +100,6 @@ impl Machine {
         self.shut_down(Reason::LogIoError);
         self.jobs.finish(JobKind::Ckpt);
         self.settle();
-    }
-
-    /// Shuts the mount, for this reason if it was live.
-    fn shut_down(&mut self, reason: Reason)
-        ensures { state_of self.new ≡ shut_down_step reason (state_of self.old) }
-    {
-        if self.shut.is_none() {
-            self.shut = Some(reason);
-        }
     }
 
     /// Ends the checkpoint in flight: it has landed where its sync was answered Ok, else the mount is shut.

@@ -1,21 +1,17 @@
-//! The end of a transaction.
+//! Ending a transaction.
 
-ghost use Rattle.std.specs.Prelude.{◌≡◌, ◌+◌, ◌≤◌, ◌&&◌, [], is_some, length, map, if◌then◌else◌};
-ghost use Rattle.xt_base.specs.Calls.{commit as commit_step, gives, with_trans};
-ghost use Rattle.xt_base.specs.Legs.{with_edits, with_marks};
+ghost use Rattle.std.specs.Prelude.{◌≡◌, ◌&&◌, [], is_some, IfOk, OnErr, if◌then◌else◌};
+ghost use Rattle.xt_base.specs.Calls.{cancel as cancel_step, commit as commit_step, gives, io_of, okay_of, shut_if, with_trans};
 ghost use Rattle.xt_base.specs.Maps.{at};
 ghost use Rattle.xt_base.specs.Sound.{IsSound};
-ghost use Rattle.xt_mount.specs.Changes.{change_entry};
+ghost use Rattle.xt_base.specs.declared.steps.Reason.TheVariants.{CorruptIncore as IsCorrupt};
 ghost use Rattle.xt_mount.specs.Machines.{state_of};
-ghost use Rattle.xt_mount.specs.Ending.{leg_ended};
 
-use crate::frames::Frames;
-use crate::items::Items;
 use crate::machine::Machine;
-use crate::trans::Change;
-use xt_base::map::NumberMap;
+use std::alloc::AllocError;
+use xt_base::content::HeldBlocks;
 use xt_base::names::CkptNo;
-use xt_base::steps::{Errno, Reply};
+use xt_base::steps::{Errno, Reason, Reply};
 
 impl Machine {
     /// The number that a leg's commit answers: 0 for a clean leg.
@@ -36,54 +32,73 @@ impl Machine {
         is_dirty && self.is_shut()
     }
 
-    /// The changes of a leg are committed, and the transaction owns nothing any more. It takes no memory.
-    fn end_leg(&mut self, trans: u64, changes: NumberMap<Change>)
-        requires contents { length self.old.frames.committed + length changes ≤ 128 }
-        requires cil { length self.old.items.cil + length changes ≤ 128 }
-        ensures { state_of self.new ≡ leg_ended trans (map change_entry changes) (state_of self.old) }
-    {
-        keep_changes(&mut self.frames, &mut self.items, changes);
-        self.locks.release(trans);
-    }
-
     /// Ends a transaction. Its changes are committed under the open number; on a shut mount a dirty leg is
-    /// given up, which is EIO. It takes no memory.
-    pub fn commit(&mut self, trans: u64) -> Reply
+    /// given up, which is EIO. The one error is want of memory to name the held blocks, and then nothing changes.
+    pub fn commit(&mut self, trans: u64) -> Result<Reply, AllocError>
         requires { IsSound (state_of self.old) }
-        ensures { gives result (state_of self.new) ≡ with_trans (at trans self.old.transactions) (state_of self.old) (commit_step [] trans (state_of self.old)) }
+        ensures ok { IfOk result (λ reply. gives reply (state_of self.new) ≡ with_trans (at trans self.old.transactions) (state_of self.old) (commit_step [] trans (state_of self.old))) }
+        ensures err { OnErr result (state_of self.new ≡ state_of self.old) }
     {
-        let Some(record) = self.transactions.remove(trans) else {
-            return Reply::Refused(Errno::Invalid);
+        let Some(open) = self.transactions.get(trans) else {
+            return Ok(Reply::Refused(Errno::Invalid));
         };
-        let is_dirty = record.is_dirty();
-        let changes = record.into_changes();
+        let held = open.leg().held(self.alloc)?;
+        let is_dirty = open.leg().is_dirty();
         if self.gives_up(is_dirty) {
-            self.locks.release(trans);
+            self.close_aborted(trans);
             self.settle();
-            return Reply::Refused(Errno::Io);
+            return Ok(io_of(held));
         }
         let number = self.commit_number(is_dirty);
-        self.end_leg(trans, changes);
+        self.close(trans);
         self.settle();
-        Reply::Committed { number, held: None }
+        Ok(Reply::Committed { number, held })
+    }
+
+    /// Shuts the mount for this reason, where a leg was dirty.
+    fn shut_if(&mut self, is_dirty: bool, reason: Reason)
+        ensures { state_of self.new ≡ shut_if is_dirty reason (state_of self.old) }
+    {
+        if is_dirty {
+            self.shut_down(reason);
+        }
+    }
+
+    /// Gives a leg up and ends its transaction; a dirty one shuts the mount. The one error is want of memory to name the
+    /// held blocks, and then nothing changes.
+    pub fn cancel(&mut self, trans: u64) -> Result<Reply, AllocError>
+        requires { IsSound (state_of self.old) }
+        ensures ok { IfOk result (λ reply. gives reply (state_of self.new) ≡ with_trans (at trans self.old.transactions) (state_of self.old) (cancel_step [] trans (state_of self.old))) }
+        ensures err { OnErr result (state_of self.new ≡ state_of self.old) }
+    {
+        let Some(open) = self.transactions.get(trans) else {
+            return Ok(Reply::Refused(Errno::Invalid));
+        };
+        let held = open.leg().held(self.alloc)?;
+        let is_dirty = open.leg().is_dirty();
+        self.close_aborted(trans);
+        self.shut_if(is_dirty, Reason::CorruptIncore);
+        self.settle();
+        Ok(okay_of(held))
     }
 }
 
-/// Contents are committed, and their marks joined to the committed items. It takes no memory.
-fn keep_changes(frames: &mut Frames, items: &mut Items, changes: NumberMap<Change>)
-    requires contents { length frames.old.committed + length changes ≤ 128 }
-    requires cil { length items.old.cil + length changes ≤ 128 }
-    ensures contents { frames.new ≡ record frames.old { committed = with_edits (map change_entry changes) frames.old.committed } }
-    ensures cil { items.new ≡ record items.old { cil = with_marks (map change_entry changes) items.old.cil } }
+/// EIO, with the blocks that stay held.
+pub fn io_of(held: Option<HeldBlocks>) -> Reply
+    ensures { result ≡ io_of held }
 {
-    let mut left = changes;
-    while let Some((block, change)) = left.pop_first() {
-        let Change {
-            edit,
-            marks,
-            charged: _,
-        } = change;
-        frames.commit(block, edit);
-        items.mark(block, marks);
+    match held {
+        Some(held) => Reply::Aborted(held),
+        None => Reply::Refused(Errno::Io),
+    }
+}
+
+/// ok, with the blocks that stay held.
+fn okay_of(held: Option<HeldBlocks>) -> Reply
+    ensures { result ≡ okay_of held }
+{
+    match held {
+        Some(held) => Reply::OkayHeld(held),
+        None => Reply::Okay,
     }
 }

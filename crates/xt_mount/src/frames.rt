@@ -1,7 +1,7 @@
 //! Contents: the committed ones of busy blocks, fresh marks, and the idle list.
 
 ghost use Rattle.std.specs.Prelude.{◌≡◌, ◌+◌, Some, ◌<◌, ◌≤◌, ◌++◌, ◌∷◌, [], length, take, drop, slice_get, IfOk, IfSome, option_copied, if◌then◌else◌};
-ghost use Rattle.xt_base.specs.Maps.{at, has, is_in, put, with_member, without_member};
+ghost use Rattle.xt_base.specs.Maps.{at, has, is_in, put, with_member, without, without_member};
 ghost use Rattle.xt_mount.specs.Layers.{no_frames, brought_in};
 
 use std::alloc::{AllocError, Global};
@@ -98,6 +98,33 @@ impl Frames {
         } else {
             self.fresh.insert(block);
         }
+    }
+
+    /// A block becomes busy, with this content. It takes no memory.
+    pub fn bring_content(&mut self, block: u64, content: Content)
+        requires { length self.old.committed < 128 }
+        ensures { self.new ≡ record self.old { committed = put block content self.old.committed; idle = without block self.old.idle } }
+    {
+        let found = spot_of(&self.idle, block);
+        if found < self.idle.len() {
+            self.idle.remove(found);
+        }
+        self.committed.put(block, content);
+    }
+
+    /// A committed content goes. It takes no memory.
+    pub fn uncommit(&mut self, block: u64)
+        ensures { self.new ≡ record self.old { committed = without block self.old.committed } }
+    {
+        let _content = self.committed.remove(block);
+    }
+
+    /// A block is fresh. It takes no memory.
+    pub fn make_fresh(&mut self, block: u64)
+        requires { length self.old.fresh < 128 }
+        ensures { self.new ≡ record self.old { fresh = with_member block self.old.fresh } }
+    {
+        self.fresh.insert(block);
     }
 
     /// A content is committed. It takes no memory.

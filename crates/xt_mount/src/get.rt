@@ -1,15 +1,14 @@
-//! Locking a block, unread.
+//! Locking a block.
 
 ghost use Rattle.std.specs.Prelude.{◌≡◌, ◌<◌, None, false, length, if◌then◌else◌};
-ghost use Rattle.xt_base.specs.Calls.{at_end, brought, first_of, get as get_step, get_refusals, gives, locked, with_owner, with_trans};
+ghost use Rattle.xt_base.specs.Calls.{at_end, brought, first_of, get as get_step, get_refusals, gives, is_elsewhere, locked, with_trans};
 ghost use Rattle.xt_base.specs.Legs.{own_count};
 ghost use Rattle.xt_base.specs.Maps.{at};
-ghost use Rattle.xt_base.specs.Space.{is_busy};
 ghost use Rattle.xt_base.specs.Sound.{IsSound};
-ghost use Rattle.xt_base.specs.declared.steps.Owner.TheVariants.{Trans as OwnedBy};
 ghost use Rattle.xt_mount.specs.Machines.{state_of};
 
 use crate::machine::Machine;
+use xt_base::names::{Block, TransNo};
 use xt_base::steps::{Errno, Reply};
 
 /// How many blocks of a mount may be busy.
@@ -20,6 +19,7 @@ impl Machine {
     fn get_refusal(&self, trans: u64, block: u64) -> Option<Errno>
         ensures refusal { result ≡ first_of (get_refusals trans block (state_of self.now)) }
         ensures room { result ≡ None → at_end (own_count trans (at block self.now.locks)) ≡ false }
+        ensures free { result ≡ None → is_elsewhere (state_of self.now) trans block ≡ false }
     {
         if block >= self.blocks {
             return Some(Errno::Invalid);
@@ -27,7 +27,7 @@ impl Machine {
         if self.is_shut() {
             return Some(Errno::Io);
         }
-        if is_at_end(self.locks.own_count(trans, block)) {
+        if is_at_end(self.own_count(trans, block)) {
             return Some(Errno::Invalid);
         }
         if self.is_elsewhere(trans, block) {
@@ -41,13 +41,30 @@ impl Machine {
 
     /// A first lock of a block: an idle one keeps its content, and one that is not resident is fresh.
     fn lock_first(&mut self, trans: u64, block: u64)
-        requires { IsSound (state_of self.old) }
+        requires sound { IsSound (state_of self.old) }
+        requires strange { own_count trans (at block self.old.locks) ≡ None }
+        requires free { is_elsewhere (state_of self.old) trans block ≡ false }
         ensures { state_of self.new ≡ locked trans block None (state_of self.old) }
     {
         if !self.is_busy(block) {
             self.frames.bring(block);
         }
-        self.locks.lock(trans, block, 0);
+        let _locked = self.locks.try_lock(TransNo(trans), Block(block));
+    }
+
+    /// One lock more of a block that the transaction has, and a first one of another.
+    pub fn lock(&mut self, trans: u64, block: u64)
+        requires sound { IsSound (state_of self.old) }
+        requires room { at_end (own_count trans (at block self.old.locks)) ≡ false }
+        requires free { is_elsewhere (state_of self.old) trans block ≡ false }
+        ensures { state_of self.new ≡ locked trans block (own_count trans (at block self.old.locks)) (state_of self.old) }
+    {
+        match self.own_count(trans, block) {
+            Some(_) => {
+                let _again = self.locks.again(TransNo(trans), Block(block));
+            }
+            None => self.lock_first(trans, block),
+        }
     }
 
     /// Locks a block, unread. A block that the transaction has is locked once more. It takes no memory.
@@ -61,10 +78,7 @@ impl Machine {
         if let Some(errno) = self.get_refusal(trans, block) {
             return Reply::Refused(errno);
         }
-        match self.locks.own_count(trans, block) {
-            Some(count) => self.locks.lock(trans, block, count + 1),
-            None => self.lock_first(trans, block),
-        }
+        self.lock(trans, block);
         Reply::Okay
     }
 }

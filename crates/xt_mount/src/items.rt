@@ -167,6 +167,14 @@ impl Items {
         self.cil.put(block, before.union(marks));
     }
 
+    /// The block's item cancels it: it has no chunks. It takes no memory.
+    pub fn cancel(&mut self, block: u64)
+        requires { length self.old.cil < 128 }
+        ensures { self.new ≡ record self.old { cil = put block [] self.old.cil } }
+    {
+        self.cil.put(block, Chunks::none());
+    }
+
     /// The cost of the commit list: the length of its checkpoint text.
     pub fn cil_cost(&self) -> u64
         ensures value { result ≡ cost self.now.cil }

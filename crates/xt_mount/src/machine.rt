@@ -1,7 +1,9 @@
 //! The parts of a mount, and what several requests ask of them.
 
 ghost use Rattle.std.specs.Prelude.{◌≡◌, ◌+◌, ◌<◌, ◌≤◌, is_some, IfOk};
-ghost use Rattle.xt_base.specs.Calls.{asks_ckpt, asks_flush, is_elsewhere, is_own};
+ghost use Rattle.xt_base.specs.Calls.{asks_ckpt, asks_flush, is_elsewhere, is_own, shut_down};
+ghost use Rattle.xt_base.specs.Legs.{own_count};
+ghost use Rattle.xt_base.specs.Maps.{at};
 ghost use Rattle.xt_base.specs.Space.{busy_count, is_busy, used};
 ghost use Rattle.xt_base.specs.Sound.{IsSound};
 ghost use Rattle.xt_base.specs.State.{mount_of};
@@ -9,26 +11,24 @@ ghost use Rattle.xt_mount.specs.Machines.{state_of};
 
 use crate::frames::Frames;
 use crate::items::Items;
-use crate::jobs::JobTable;
-use crate::locks::Locks;
+use crate::open_trans::OpenTrans;
 use crate::space::{beside_ail, beside_cil, beside_flight, granted};
-use crate::trans::TransRec;
 use std::alloc::{AllocError, Global};
 use xt_base::map::NumberMap;
-use xt_base::names::{Life, Slot};
+use xt_base::names::{Block, JobKind, Life, Slot, TransNo};
 use xt_base::steps::Reason;
+use xt_jobs::table::JobTable;
+use xt_locks::locks::Locks;
 
 /// One life of a slot: the layers side by side.
 #[derive(Debug, Drop)]
 pub struct Machine {
     pub alloc: Global,
-    pub slot: Slot,
-    pub life: Life,
     pub log_bytes: u32,
     pub blocks: u64,
     pub frames: Frames,
     pub locks: Locks,
-    pub transactions: NumberMap<TransRec>,
+    pub transactions: NumberMap<OpenTrans>,
     pub last_trans: u64,
     pub items: Items,
     pub jobs: JobTable,
@@ -52,8 +52,6 @@ impl Machine {
         let items = Items::new(alloc)?;
         Ok(Machine {
             alloc,
-            slot,
-            life,
             log_bytes,
             blocks,
             frames,
@@ -61,7 +59,7 @@ impl Machine {
             transactions,
             last_trans: 0,
             items,
-            jobs: JobTable::new(),
+            jobs: JobTable::new(slot, life),
             shut: None,
         })
     }
@@ -77,14 +75,14 @@ impl Machine {
     pub fn is_busy(&self, block: u64) -> bool
         ensures { result ≡ is_busy (state_of self.now) block }
     {
-        self.locks.is_locked(block) || self.items.is_listed(block)
+        self.locks.is_locked(Block(block)) || self.items.is_listed(block)
     }
 
     /// How many blocks are busy.
     pub fn busy_count(&self) -> usize
         ensures { result ≡ busy_count (state_of self.now) }
     {
-        self.locks.len()
+        self.locks.owners().len()
             + beside_cil(&self.locks, &self.items)
             + beside_flight(&self.locks, &self.items)
             + beside_ail(&self.locks, &self.items)
@@ -101,18 +99,41 @@ impl Machine {
             + self.items.landed_cost()
     }
 
+    /// The recursion count of a block that a transaction has.
+    pub fn own_count(&self, trans: u64, block: u64) -> Option<u32>
+        ensures { result ≡ own_count trans (at block self.now.locks) }
+    {
+        self.locks.own_count(TransNo(trans), Block(block))
+    }
+
     /// Whether a transaction has a block.
     pub fn is_own(&self, trans: u64, block: u64) -> bool
         ensures { result ≡ is_own (state_of self.now) trans block }
     {
-        self.locks.own_count(trans, block).is_some()
+        self.own_count(trans, block).is_some()
     }
 
     /// Whether somebody else has a block.
     pub fn is_elsewhere(&self, trans: u64, block: u64) -> bool
         ensures { result ≡ is_elsewhere (state_of self.now) trans block }
     {
-        self.locks.is_locked(block) && !self.is_own(trans, block)
+        self.locks.is_locked(Block(block)) && !self.is_own(trans, block)
+    }
+
+    /// A flush is asked.
+    pub fn ask_flush(&mut self)
+        ensures { state_of self.new ≡ asks_flush (state_of self.old) }
+    {
+        self.jobs.ask(JobKind::Flush);
+    }
+
+    /// Shuts the mount, for this reason if it was live.
+    pub fn shut_down(&mut self, reason: Reason)
+        ensures { state_of self.new ≡ shut_down reason (state_of self.old) }
+    {
+        if self.shut.is_none() {
+            self.shut = Some(reason);
+        }
     }
 
     /// A checkpoint is asked, if there is something to write.
@@ -120,7 +141,7 @@ impl Machine {
         ensures { state_of self.new ≡ asks_ckpt (state_of self.old) }
     {
         if !self.items.cil().is_empty() {
-            self.jobs.ask_ckpt();
+            self.jobs.ask(JobKind::Ckpt);
         }
     }
 
@@ -129,6 +150,6 @@ impl Machine {
         ensures { state_of self.new ≡ asks_flush (asks_ckpt (state_of self.old)) }
     {
         self.ask_ckpt();
-        self.jobs.ask_flush();
+        self.ask_flush();
     }
 }

@@ -82,7 +82,7 @@ impl Mount {
     pub fn life(&self) -> Life
         ensures { result ≡ self.now.life }
     {
-        self.machine.life
+        self.machine.jobs.life()
     }
 
     /// Why the mount is shut, if it is; the first reason is kept.
@@ -115,8 +115,7 @@ impl Mount {
         requires asked { is_there (asks request.now self.old) answer.now ≡ true }
         ensures { IsCallUnlessMemory (alone_with [] request.now answer.now self.old) result self.new self.old }
     {
-        let _answer = answer;
-        match self.machine.serve(request) {
+        match self.machine.serve(request, answer) {
             Ok(reply) => reply,
             Err(_) => Reply::Refused(Errno::NoMemory),
         }
@@ -145,7 +144,7 @@ impl Mount {
         requires { owed_now name.kind self.old ≡ Some name }
         ensures { self.new ≡ posted_state name.kind self.old }
     {
-        self.machine.jobs.post(name.kind);
+        self.machine.jobs.posted(name);
     }
 
     /// How far a job has come; None where it is not outstanding.

@@ -1,23 +1,37 @@
-//! Which reads ask the home device.
+//! Reading a block, and which reads ask the home device.
 
-ghost use Rattle.std.specs.Prelude.{◌≡◌, ◌&&◌, false, is_none, is_some, IfSome, Some};
-ghost use Rattle.xt_base.specs.Calls.{asks, first_of, is_absent, is_resident, read_asks, read_refusals};
-ghost use Rattle.xt_base.specs.Legs.{is_stale};
-ghost use Rattle.xt_base.specs.Maps.{at};
+ghost use Rattle.std.specs.Prelude.{◌≡◌, ◌<◌, ◌&&◌, ◌||◌, None, false, is_none, is_some, length, true, IfOk, IfSome, OnErr, Some, if◌then◌else◌};
+ghost use Rattle.xt_base.specs.Calls.{answered, asks, at_end, busied, first_of, gives, is_absent, is_elsewhere, is_fresh, is_own, is_resident, read as read_step, read_asks, read_refusals, with_owner, with_trans};
+ghost use Rattle.xt_base.specs.Legs.{is_dirty, is_stale, own_count};
+ghost use Rattle.xt_base.specs.Maps.{at, is_in};
+ghost use Rattle.xt_base.specs.Order.{is_there};
+ghost use Rattle.xt_base.specs.Sound.{IsSound};
+ghost use Rattle.xt_base.specs.declared.steps.Owner.TheVariants.{Trans as OwnedBy};
 ghost use Rattle.xt_mount.specs.Come.{read_block};
 ghost use Rattle.xt_mount.specs.Machines.{state_of};
+ghost use Rattle.xt_mount.specs.Reads.{IsAnswered};
 
 use crate::get::{BUSY, is_at_end};
 use crate::machine::Machine;
-use crate::trans::TransRec;
-use xt_base::names::Block;
-use xt_base::steps::{Errno, Request};
+use std::alloc::AllocError;
+use xt_base::content::Content;
+use xt_base::names::{Block, TransNo};
+use xt_base::steps::{Answer, Errno, Reason, Reply, Request};
+use xt_trans::trans::TransRec;
 
 impl Machine {
+    /// Whether a block is the transaction's own, and fresh or stale.
+    fn is_unreadable(&self, leg: &TransRec, trans: u64, block: u64) -> bool
+        ensures { result ≡ (is_own (state_of self.now) trans block && (is_fresh (state_of self.now) block || is_stale block leg.now)) }
+    {
+        self.is_own(trans, block) && (self.frames.is_fresh(block) || leg.is_stale(block))
+    }
+
     /// What refuses a read before its device is asked.
-    fn read_refusal(&self, record: &TransRec, trans: u64, block: u64) -> Option<Errno>
-        requires { is_stale block record.now.leg ≡ false }
-        ensures { result ≡ first_of (read_refusals trans block record.now.leg (state_of self.now)) }
+    fn read_refusal(&self, leg: &TransRec, trans: u64, block: u64) -> Option<Errno>
+        ensures refusal { result ≡ first_of (read_refusals trans block leg.now (state_of self.now)) }
+        ensures room { result ≡ None → at_end (own_count trans (at block self.now.locks)) ≡ false }
+        ensures free { result ≡ None → is_elsewhere (state_of self.now) trans block ≡ false }
     {
         if block >= self.blocks {
             return Some(Errno::Invalid);
@@ -25,9 +39,7 @@ impl Machine {
         if self.is_shut() {
             return Some(Errno::Io);
         }
-        if is_at_end(self.locks.own_count(trans, block))
-            || (self.is_own(trans, block) && self.frames.is_fresh(block))
-        {
+        if is_at_end(self.own_count(trans, block)) || self.is_unreadable(leg, trans, block) {
             return Some(Errno::Invalid);
         }
         if self.is_elsewhere(trans, block) {
@@ -70,12 +82,69 @@ impl Machine {
         ensures asked { is_some result ≡ read_asks trans block (state_of self.now) (at trans self.now.transactions) }
         ensures block { IfSome result (λ asked. asked ≡ block) }
     {
-        let record = self.transactions.get(trans)?;
-        let _edit = record.edit_of(block.0);
-        if self.read_refusal(record, trans, block.0).is_none() && self.is_absent(trans, block.0) {
+        let open = self.transactions.get(trans)?;
+        if self.read_refusal(open.leg(), trans, block.0).is_none()
+            && self.is_absent(trans, block.0)
+        {
             Some(block)
         } else {
             None
         }
+    }
+
+    /// A block that nobody has is the transaction's, with the content that the device gave.
+    fn take_content(&mut self, trans: u64, block: u64, content: Content)
+        requires sound { IsSound (state_of self.old) }
+        requires free { is_in block self.old.locks ≡ false }
+        ensures { state_of self.new ≡ with_owner block (OwnedBy trans 0) (busied block content (state_of self.old)) }
+    {
+        self.frames.bring_content(block, content);
+        let _locked = self.locks.try_lock(TransNo(trans), Block(block));
+    }
+
+    /// What the device answered to a read. A failure is EIO, and shuts the mount where the leg is dirty.
+    fn take_answer(
+        &mut self,
+        trans: u64,
+        block: u64,
+        dirty: bool,
+        answer: &Answer,
+    ) -> Result<Reply, AllocError>
+        requires sound { IsSound (state_of self.old) }
+        requires absent { is_absent trans block (state_of self.old) ≡ true }
+        requires free { is_elsewhere (state_of self.old) trans block ≡ false }
+        ensures ok { IfOk result (λ reply. IsAnswered trans block dirty answer.now reply (state_of self.new) (state_of self.old)) }
+        ensures err { OnErr result (state_of self.new ≡ state_of self.old) }
+    {
+        if let Answer::Content(content) = answer {
+            let content = content.copy(self.alloc)?;
+            self.take_content(trans, block, content);
+            return Ok(Reply::Okay);
+        }
+        if dirty {
+            self.shut_down(Reason::MetaIoError);
+        }
+        Ok(Reply::Refused(Errno::Io))
+    }
+
+    /// Locks a block with its content. The home device is asked where the block is neither own nor resident, and its
+    /// answer handed in.
+    pub fn read(&mut self, trans: u64, block: u64, answer: &Answer) -> Result<Reply, AllocError>
+        requires { IsSound (state_of self.old) }
+        ensures ok { IfOk result (λ reply. gives reply (state_of self.new) ≡ with_trans (at trans self.old.transactions) (state_of self.old) (read_step trans block answer.now (state_of self.old))) }
+        ensures err { OnErr result (state_of self.new ≡ state_of self.old) }
+    {
+        let Some(open) = self.transactions.get(trans) else {
+            return Ok(Reply::Refused(Errno::Invalid));
+        };
+        if let Some(errno) = self.read_refusal(open.leg(), trans, block) {
+            return Ok(Reply::Refused(errno));
+        }
+        if self.is_absent(trans, block) {
+            let dirty = open.leg().is_dirty();
+            return self.take_answer(trans, block, dirty, answer);
+        }
+        self.lock(trans, block);
+        Ok(Reply::Okay)
     }
 }

@@ -2,10 +2,10 @@
 
 ghost use Rattle.std.specs.Prelude.{◌≡◌, [], true, IfOk, OnErr};
 ghost use Rattle.xt_base.specs.Calls.{alone_with, gives};
-ghost use Rattle.xt_base.specs.Jobs.{is_ckpt, is_outstanding, is_owed, is_serial, is_worth};
+ghost use Rattle.xt_base.specs.Jobs.{is_ckpt, is_owed, is_worth};
 ghost use Rattle.xt_base.specs.Sound.{IsSound};
 ghost use Rattle.xt_base.specs.declared.steps.Answer.{Answer as AnyAnswer};
-ghost use Rattle.xt_mount.specs.Come.{has_come, owed_now};
+ghost use Rattle.xt_mount.specs.Come.{has_come, is_of_mount, owed_now};
 ghost use Rattle.xt_mount.specs.Machines.{state_of};
 ghost use Rattle.xt_mount.specs.Stages.{stage_of};
 
@@ -13,27 +13,51 @@ use crate::machine::Machine;
 use crate::mount::Stage;
 use std::alloc::AllocError;
 use xt_base::names::{JobKind, JobName};
-use xt_base::steps::{Reply, Request};
+use xt_base::steps::{Answer, Reply, Request};
 
 impl Machine {
-    /// Serves a request. Where memory is refused nothing changes.
-    pub fn serve(&mut self, request: &Request) -> Result<Reply, AllocError>
+    /// Serves a request, with the home device's answer where it asks one. Where memory is refused nothing changes.
+    pub fn serve(&mut self, request: &Request, answer: &Answer) -> Result<Reply, AllocError>
         requires sound { IsSound (state_of self.old) }
         requires came { has_come request.now ≡ true }
-        ensures ok { IfOk result (λ reply. (answer : AnyAnswer) → gives reply (state_of self.new) ≡ alone_with [] request.now answer (state_of self.old)) }
+        ensures ok { IfOk result (λ reply. gives reply (state_of self.new) ≡ alone_with [] request.now answer.now (state_of self.old)) }
         ensures err { OnErr result (state_of self.new ≡ state_of self.old) }
     {
         match request {
             Request::Alloc { unit, count, perm } => self.alloc(*unit, *count, *perm),
             Request::Get { trans, block } => Ok(self.get(trans.0, block.0)),
+            Request::Read { trans, block } => self.read(trans.0, block.0, answer),
+            Request::View { trans, block } => self.view(trans.0, block.0),
             Request::Log {
                 trans,
                 block,
                 first,
                 bytes,
             } => self.log(trans.0, block.0, *first, bytes),
-            Request::Commit { trans } => Ok(self.commit(trans.0)),
-            Request::Force => Ok(self.force()),
+            Request::Hold { trans, block } => Ok(self.hold(trans.0, block.0)),
+            Request::Unhold { trans, block } => Ok(self.unhold(trans.0, block.0)),
+            Request::Relse { trans, block } => Ok(self.relse(trans.0, block.0)),
+            Request::Join { trans, block } => Ok(self.join(trans.0, block.0)),
+            Request::Release { block } => Ok(self.release(block.0)),
+            Request::Inval { trans, block } => Ok(self.inval(trans.0, block.0)),
+            Request::Commit { trans } => self.commit(trans.0),
+            Request::Roll { .. } => unreachable!(),
+            Request::Cancel { trans } => self.cancel(trans.0),
+            _ => Ok(self.serve_mount(request)),
+        }
+    }
+
+    /// Serves a request that names the mount as a whole. It takes no memory.
+    fn serve_mount(&mut self, request: &Request) -> Reply
+        requires { is_of_mount request.now ≡ true }
+        ensures { (answer : AnyAnswer) → gives result (state_of self.new) ≡ alone_with [] request.now answer (state_of self.old) }
+    {
+        match request {
+            Request::Force => self.force(),
+            Request::ForceTo { number } => self.force_to(number.0),
+            Request::Push => self.push(),
+            Request::Shutdown => self.shutdown(),
+            Request::Unmount => self.unmount(),
             _ => unreachable!(),
         }
     }
@@ -53,15 +77,14 @@ impl Machine {
     fn is_ckpt_owed(&self) -> bool
         ensures { result ≡ is_owed JobKind.Ckpt (state_of self.now) }
     {
-        let least = if self.jobs.is_ckpt_asked() {
+        let least = if self.jobs.asked(JobKind::Ckpt) {
             0
         } else {
             u64::from(self.log_bytes / 8)
         };
         !self.is_shut()
             && self.is_worth(least)
-            && self.jobs.outstanding(JobKind::Ckpt).is_none()
-            && self.jobs.last_serial() != u64::MAX
+            && self.jobs.next(JobKind::Ckpt).is_some()
     }
 
     /// The next job of a kind, if the mount owes one; no flush is owed yet.
@@ -69,21 +92,9 @@ impl Machine {
         ensures { result ≡ owed_now kind (state_of self.now) }
     {
         match kind {
-            JobKind::Ckpt if self.is_ckpt_owed() => Some(JobName {
-                slot: self.slot,
-                life: self.life,
-                kind,
-                serial: self.jobs.last_serial() + 1,
-            }),
+            JobKind::Ckpt if self.is_ckpt_owed() => self.jobs.next(kind),
             _ => None,
         }
-    }
-
-    /// Whether a job of this life was posted and not finished.
-    fn is_outstanding(&self, name: JobName) -> bool
-        ensures { result ≡ is_outstanding name (state_of self.now) }
-    {
-        name.life == self.life && is_serial(name.serial, self.jobs.outstanding(name.kind))
     }
 
     /// How far a job has come.
@@ -91,7 +102,7 @@ impl Machine {
         ensures { result ≡ stage_of name (state_of self.now) }
     {
         let kind = name.kind;
-        if !self.is_outstanding(name) {
+        if !self.jobs.is_outstanding(&name) {
             return None;
         }
         if is_ckpt(kind) && self.items.is_flying() {
@@ -99,16 +110,6 @@ impl Machine {
         } else {
             Some(Stage::Waiting)
         }
-    }
-}
-
-/// Whether a job has this serial.
-fn is_serial(serial: u64, job: Option<u64>) -> bool
-    ensures { result ≡ is_serial serial job }
-{
-    match job {
-        Some(given) => given == serial,
-        None => false,
     }
 }
 

@@ -7,8 +7,9 @@ ghost use Rattle.xt_mount.specs.Settling.{is_busy_in, settled_contents, settled_
 
 use crate::frames::Frames;
 use crate::items::Items;
-use crate::locks::Locks;
 use crate::machine::Machine;
+use xt_base::names::Block;
+use xt_locks::locks::Locks;
 
 impl Machine {
     /// Contents of blocks that are no longer busy go, on a live mount to the front of the idle list,
@@ -26,7 +27,7 @@ impl Machine {
 fn is_busy_in(locks: &Locks, items: &Items, block: u64) -> bool
     ensures { result ≡ is_busy_in locks.now items.now block }
 {
-    locks.is_locked(block) || items.is_listed(block)
+    locks.is_locked(Block(block)) || items.is_listed(block)
 }
 
 /// Committed contents of blocks that are no longer busy go; those that are kept, to the idle list.

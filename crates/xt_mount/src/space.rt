@@ -5,11 +5,12 @@ ghost use Rattle.xt_base.specs.Maps.{is_in};
 ghost use Rattle.xt_base.specs.Space.{granted, flight_items};
 
 use crate::items::Items;
-use crate::locks::Locks;
-use crate::trans::TransRec;
+use crate::open_trans::OpenTrans;
+use xt_base::names::Block;
+use xt_locks::locks::Locks;
 
 /// What open transactions were granted: for each, its unit times the legs left.
-pub fn granted(transactions: &[(u64, TransRec)]) -> u64
+pub fn granted(transactions: &[(u64, OpenTrans)]) -> u64
     requires { granted transactions.now ≤ 16777216 }
     ensures { result ≡ granted transactions.now }
 {
@@ -25,7 +26,7 @@ pub fn beside_cil(locks: &Locks, items: &Items) -> usize
     ensures count { result ≡ count_by (λ e. not (is_in e.0 locks.now)) items.now.cil }
     ensures small { result ≤ 128 }
 {
-    items.cil().iter().filter(|e| !locks.is_locked(e.0)).count()
+    items.cil().iter().filter(|e| !locks.is_locked(Block(e.0))).count()
 }
 
 /// How many blocks of the flight nobody owns, those of the commit list aside.
@@ -36,7 +37,7 @@ pub fn beside_flight(locks: &Locks, items: &Items) -> usize
     match items.flight_items() {
         Some(flight) => flight
             .iter()
-            .filter(|e| !(locks.is_locked(e.0) || items.is_committed(e.0)))
+            .filter(|e| !(locks.is_locked(Block(e.0)) || items.is_committed(e.0)))
             .count(),
         None => 0,
     }
@@ -50,6 +51,6 @@ pub fn beside_ail(locks: &Locks, items: &Items) -> usize
     items
         .ail()
         .iter()
-        .filter(|e| !(locks.is_locked(e.0) || items.is_committed(e.0) || items.is_in_flight(e.0)))
+        .filter(|e| !(locks.is_locked(Block(e.0)) || items.is_committed(e.0) || items.is_in_flight(e.0)))
         .count()
 }

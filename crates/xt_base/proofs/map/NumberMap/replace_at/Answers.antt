@@ -1,10 +1,15 @@
 use Rattle.std.proofs.Common.{◌≡◌, ◌+◌, ◌++◌, ◌<◌, ◌∷◌, List, arith, drop, length, slice_get, subst, sym, take, ℕ}
+use Rattle.std.proofs.lemmas.List.{length-set}
 use Rattle.std.specs.Prelude.{IfSome, slice_set}
-use Rattle.xt_base.proofs.PlaceLemmas.{replaced}
+use Rattle.xt_base.proofs.PlaceLemmas.{replaced, rises_replaced}
 use Rattle.xt_base.proofs.map.NumberMap.replace_at.Goals as goal
 
 pub invariant_of-self : goal.invariant_of-self
-invariant_of-self g c = ?
+invariant_of-self g c = (
+  omega (arith, c.self.invariant.0, length-set {A = ℕ × g.row.V.Denot} c.self.inside.entries.items c.args.index (c.index.result.now.0, c.args.value)),
+  omega (arith, c.self.invariant.1),
+  rises_replaced 0 c.args.value c.self.inside.entries.items c.args.index c.index.result.now c.self.invariant.2 c.index.ensures,
+)
 
 pub returns : goal.returns
 returns g c =

@@ -1,6 +1,6 @@
 use Rattle.std.proofs.Common.{◌≡◌, ◌≤◌, ◌-◌, ◌++◌, length, take, drop, filter, not}
 use Rattle.xt_base.specs.Jobs.{waits_on}
-use Rattle.xt_mount.proofs.locks.Locks.free_stale.Given as goal
+use Rattle.xt_locks.proofs.locks.Locks.free_waiting.Given as goal
 
 abbrev pub invariant-loop-index : goal.invariant-loop-index
 invariant-loop-index l = (l.index ≤ length l.self-inside.owners)

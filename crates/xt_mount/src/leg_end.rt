@@ -1,0 +1,179 @@
+//! The end of a leg: its blocks pass on, and its changes are committed or given up.
+
+ghost use Rattle.std.specs.Prelude.{◌≡◌, ◌+◌, ◌≤◌, ◌<◌, [], length, IfSome};
+ghost use Rattle.xt_base.specs.Calls.{closed};
+ghost use Rattle.xt_base.specs.Legs.{aborted, ended, is_lost, owner_aborted, owner_after, with_edit, joined_marks};
+ghost use Rattle.xt_base.specs.Maps.{at, put};
+ghost use Rattle.xt_base.specs.Settle.{settled};
+ghost use Rattle.xt_base.specs.Sound.{IsSound};
+ghost use Rattle.xt_base.specs.State.{Leg};
+ghost use Rattle.xt_mount.specs.Ending.{contents_lost, edits_kept, fresh_lost, is_saved, marks_kept, owner_kept, owner_left};
+ghost use Rattle.xt_mount.specs.Machines.{state_of};
+ghost use Rattle.std.specs.Prelude.{filter_map};
+
+use crate::frames::Frames;
+use crate::items::Items;
+use crate::machine::Machine;
+use crate::open_trans::OpenTrans;
+use xt_base::names::{CkptNo, TransNo};
+use xt_base::steps::Owner;
+use xt_locks::locks::Locks;
+use xt_trans::trans::{Change, TransRec};
+
+impl Machine {
+    /// A leg is committed: its blocks pass on, its edits are the committed contents, and its marks are joined to the
+    /// commit list. It takes no memory.
+    pub fn end_leg(&mut self, trans: u64, open: &mut OpenTrans)
+        requires contents { length self.old.frames.committed + length open.old.leg.changes ≤ 128 }
+        requires cil { length self.old.items.cil + length open.old.leg.changes ≤ 128 }
+        ensures { state_of self.new ≡ ended trans open.old.leg (state_of self.old) }
+        ensures open { open.new ≡ record open.old { leg = record open.old.leg { changes = [] } } }
+    {
+        pass_on(
+            &mut self.locks,
+            trans,
+            open.leg(),
+            self.items.open_number(),
+        );
+        keep_changes(&mut self.frames, &mut self.items, open);
+    }
+
+    /// A leg is given up: what it changed and holds is held as fresh. It takes no memory.
+    pub fn abort_leg(&mut self, trans: u64, open: &mut OpenTrans)
+        requires fresh { length self.old.frames.fresh + length open.old.leg.changes ≤ 128 }
+        ensures { state_of self.new ≡ aborted trans open.old.leg (state_of self.old) }
+    {
+        pass_held(&mut self.locks, trans, open.leg());
+        lose_contents(&mut self.frames, open.leg());
+        lose_changes(&mut self.frames, open);
+    }
+
+    /// A transaction ends, and its leg is committed. It takes no memory.
+    pub fn close(&mut self, trans: u64)
+        requires { IsSound (state_of self.old) }
+        ensures { IfSome (at trans self.old.transactions) (λ t. state_of self.new ≡ closed trans (ended trans t.leg (state_of self.old))) }
+    {
+        let Some(mut open) = self.transactions.remove(trans) else {
+            return;
+        };
+        self.end_leg(trans, &mut open);
+    }
+
+    /// A transaction ends, and its leg is given up. It takes no memory.
+    pub fn close_aborted(&mut self, trans: u64)
+        requires { IsSound (state_of self.old) }
+        ensures { IfSome (at trans self.old.transactions) (λ t. state_of self.new ≡ closed trans (aborted trans t.leg (state_of self.old))) }
+    {
+        let Some(mut open) = self.transactions.remove(trans) else {
+            return;
+        };
+        self.abort_leg(trans, &mut open);
+    }
+}
+
+/// Who has a block of a leg that was committed: an invalidated one waits for the open checkpoint, one with the hold mark is
+/// held, another is free.
+fn owner_left(leg: &TransRec, number: u64, block: u64) -> Option<Owner>
+    ensures { result ≡ owner_left leg.now number block }
+{
+    if leg.is_stale(block) {
+        Some(Owner::Stale(CkptNo(number)))
+    } else {
+        owner_kept(leg, block)
+    }
+}
+
+/// Who has a block of a leg that was given up: one with the hold mark is held, another is free.
+fn owner_kept(leg: &TransRec, block: u64) -> Option<Owner>
+    ensures { result ≡ owner_kept leg.now block }
+{
+    if leg.is_held(block) {
+        Some(Owner::Held)
+    } else {
+        None
+    }
+}
+
+/// The blocks of a leg that was committed pass on.
+fn pass_on(locks: &mut Locks, trans: u64, leg: &TransRec, number: u64)
+    ensures { locks.new ≡ filter_map (owner_after trans leg.now number) locks.old }
+{
+    locks.end_leg(TransNo(trans), |block| owner_left(leg, number, block));
+}
+
+/// The blocks of a leg that was given up pass on.
+fn pass_held(locks: &mut Locks, trans: u64, leg: &TransRec)
+    ensures { locks.new ≡ filter_map (owner_aborted trans leg.now) locks.old }
+{
+    locks.end_leg(TransNo(trans), |block| owner_kept(leg, block));
+}
+
+/// The edits of a leg are committed, and its marks joined to the commit list. It takes no memory.
+fn keep_changes(frames: &mut Frames, items: &mut Items, open: &mut OpenTrans)
+    requires contents { length frames.old.committed + length open.old.leg.changes ≤ 128 }
+    requires cil { length items.old.cil + length open.old.leg.changes ≤ 128 }
+    ensures contents { frames.new ≡ edits_kept open.old.leg.changes frames.old }
+    ensures cil { items.new ≡ marks_kept open.old.leg.changes items.old }
+    ensures open { open.new ≡ record open.old { leg = record open.old.leg { changes = [] } } }
+{
+    while let Some((block, change)) = open.take_change() {
+        keep_change(frames, items, block, change);
+    }
+}
+
+/// The same for one block.
+fn keep_change(frames: &mut Frames, items: &mut Items, block: u64, change: Change)
+    requires contents { length frames.old.committed < 128 }
+    requires cil { length items.old.cil < 128 }
+    ensures contents { frames.new ≡ record frames.old { committed = with_edit block change.edit frames.old.committed } }
+    ensures cil { items.new ≡ record items.old { cil = put block (joined_marks (at block items.old.cil) change) items.old.cil } }
+{
+    let Change {
+        edit,
+        marks,
+        charged: _,
+    } = change;
+    match edit {
+        Some(content) => {
+            frames.commit(block, content);
+            items.mark(block, marks);
+        }
+        None => {
+            frames.uncommit(block);
+            items.cancel(block);
+        }
+    }
+}
+
+/// Whether a block keeps its content where a leg is given up.
+fn is_saved(leg: &TransRec, block: u64) -> bool
+    ensures { result ≡ is_saved leg.now block }
+{
+    !(leg.is_changed(block) && leg.is_held(block))
+}
+
+/// Contents of blocks that a leg changed and holds go, where it is given up.
+fn lose_contents(frames: &mut Frames, leg: &TransRec)
+    ensures { frames.new ≡ contents_lost leg.now frames.old }
+{
+    let mut index = 0;
+    while index < frames.committed_len() {
+        if is_saved(leg, frames.committed_at(index)) {
+            index += 1;
+        } else {
+            frames.settle_at(index, false);
+        }
+    }
+}
+
+/// Blocks that a leg changed and holds are fresh, where it is given up. It takes no memory.
+fn lose_changes(frames: &mut Frames, open: &mut OpenTrans)
+    requires { length frames.old.fresh + length open.old.leg.changes ≤ 128 }
+    ensures { frames.new ≡ fresh_lost open.old.leg.changes open.old.leg frames.old }
+{
+    while let Some((block, _change)) = open.take_change() {
+        if open.leg().is_held(block) {
+            frames.make_fresh(block);
+        }
+    }
+}
