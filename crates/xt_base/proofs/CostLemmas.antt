@@ -6,7 +6,7 @@ use Rattle.std.specs.Prelude.{if◌then◌else◌, is_none, is_some, sum_by, unw
 use Rattle.xt_base.proofs.ChunkCounts.{length-union_newly, length-union_within, newly}
 use Rattle.xt_base.proofs.MapLemmas.{length_put_ge, length_put_positive}
 use Rattle.xt_base.proofs.RisingLemmas.{rises_put, sum_put, weight_at}
-use Rattle.xt_base.specs.Calls.{edited}
+use Rattle.xt_base.specs.Calls.{edited, invalidated}
 use Rattle.xt_base.specs.Chunks.{chunks_where, union}
 use Rattle.xt_base.specs.Legs.{change_of, joined_marks, with_marks}
 use Rattle.xt_base.specs.Maps.{at, is_in, put}
@@ -103,7 +103,18 @@ charge_logged b content marked leg r =
     let whole = charge_step leg.changes (put b c leg.changes) (length_put_ge b c leg.changes) (length_put_positive b c leg.changes) in
     omega (arith, step, whole)
 
--- the same where what was charged is a set of chunks: 128 for each chunk newly charged
+-- the charge after an invalidation: 32 for the first change of a leg, and 16 for a block not charged yet
+pub charge_invalidated : (b : ℕ) (leg : Leg) → IsRising leg.changes
+    → charge (invalidated b leg).changes ≡ (if length leg.changes == 0 then 32 else 0) + (if is_in b leg.changes then 0 else 16) + charge leg.changes
+charge_invalidated b leg r =
+    let c : Change = record { edit = None; marks = []; charged = (change_of b leg).charged } in
+    let none : Change = record { edit = None; marks = []; charged = [] } in
+    let sums = sum_put change_cost 0 b c leg.changes r in
+    let step = edit_step (at b leg.changes) b (length (change_of b leg).charged) (sum_by change_cost leg.changes) (sum_by change_cost (put b c leg.changes)) none refl sums in
+    let whole = charge_step leg.changes (put b c leg.changes) (length_put_ge b c leg.changes) (length_put_positive b c leg.changes) in
+    omega (arith, step, whole)
+
+-- the charge after an edit, where what was charged is a set of chunks: 128 for each chunk newly charged
 pub charge_logged_newly : (b : ℕ) (content marked : List ℕ) (leg : Leg) (p : ℕ → Bool) → IsRising leg.changes → (change_of b leg).charged ≡ chunks_where p
     → charge (edited b content marked leg).changes
     ≡ (if length leg.changes == 0 then 32 else 0) + (if is_in b leg.changes then 0 else 16) + 128 * length (newly (change_of b leg).charged marked) + charge leg.changes

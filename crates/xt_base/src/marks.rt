@@ -48,7 +48,8 @@ impl Flags for ItemMarks {
 impl ItemMarks {
     /// No mark.
     pub fn none() -> Self
-        ensures { marks_of result ≡ no_marks }
+        ensures bits { result.0 ≡ 0 }
+        ensures marks { marks_of result ≡ no_marks }
     {
         ItemMarks(0)
     }

@@ -1,0 +1,4 @@
+//! Transactions: what the present leg of one did to its blocks.
+#![tactic(auto)]
+
+pub mod trans;

@@ -1,0 +1,474 @@
+//! What the present leg of a transaction did to its blocks: the bytes written, the chunks marked and charged, and which blocks
+//! are invalidated or stay locked when the leg ends.
+
+ghost use Rattle.std.specs.Prelude.{◌≡◌, ◌+◌, ◌*◌, ◌<◌, ◌≤◌, ◌==◌, ◌∷◌, [], Some, None, false, true, if◌then◌else◌, length, option_copied, option_map, sum_by, unwrap_or, IfOk, IfSome, MatchOption, is_none};
+ghost use Rattle.xt_base.specs.Calls.{edited, held_of, invalidated as invalidated_leg, seen_with, without_hold};
+ghost use Rattle.xt_base.specs.Chunks.{union as either};
+ghost use Rattle.xt_base.specs.Legs.{change_of, clean_leg, is_dirty, is_stale};
+ghost use Rattle.xt_base.specs.Maps.{at, has, is_in, with_member, without};
+ghost use Rattle.xt_base.specs.Marks.{marks_of, no_marks};
+ghost use Rattle.xt_base.specs.Space.{charge};
+ghost use Rattle.xt_base.specs.Text.{zeros};
+ghost use Rattle.xt_trans.specs.LegItems.{AreItems, blank, change_in, item_at, item_charge, leg_of, no_change};
+
+use std::alloc::{AllocError, Global};
+use std::marker::Model;
+use xt_base::chunks::Chunks;
+use xt_base::content::{Content, HeldBlocks};
+use xt_base::map::NumberMap;
+use xt_base::marks::ItemMarks;
+use xt_base::names::Block;
+use xt_base::newly::Newly;
+
+/// What a leg did to one block, after `xfs_buf_log_item`: its marks, the bytes, if it was changed, the chunks marked, and
+/// the chunks charged.
+#[derive(Debug, Drop)]
+pub struct BufItem {
+    marks: ItemMarks,
+    edit: Option<Content>,
+    chunks: Chunks,
+    charged: Chunks,
+}
+
+/// What a leg did to a block that it changed or invalidated: its bytes (none where it was invalidated), the chunks marked, and
+/// the chunks charged.
+#[derive(Debug, Drop)]
+pub struct Change {
+    pub edit: Option<Content>,
+    pub marks: Chunks,
+    pub charged: Chunks,
+}
+
+impl Model for Change {
+    ghost use Rattle.xt_base.specs.State.{Change as ChangeValue};
+
+    ghost Value = { ChangeValue };
+
+    ghost view = { λ c. record { edit = c.edit; marks = c.marks; charged = c.charged } };
+}
+
+/// What the present leg of a transaction did, with room for the blocks of a mount: one entry for each block that it changed,
+/// invalidated or holds. Clauses see the leg. No call but `new`, `seen` and `held` takes memory.
+#[derive(Debug, Drop)]
+pub struct TransRec {
+    items: NumberMap<BufItem>,
+}
+
+impl Model for TransRec {
+    ghost use Rattle.xt_base.specs.State.{Leg};
+
+    ghost Value = { Leg };
+
+    ghost use Rattle.xt_trans.specs.LegItems.{AreItems, leg_of};
+
+    ghost view = { λ t. leg_of t.items };
+
+    ghost invariant = { λ t. AreItems t.items };
+}
+
+impl TransRec {
+    /// A leg that did nothing. The one error is want of memory.
+    pub fn new(alloc: Global) -> Result<Self, AllocError>
+        ensures { IfOk result (λ leg. leg ≡ clean_leg) }
+    {
+        let items = NumberMap::new(alloc)?;
+        Ok(TransRec { items })
+    }
+
+    /// Whether the leg changed or invalidated a block.
+    pub fn is_dirty(&self) -> bool
+        ensures { result ≡ is_dirty self.now }
+    {
+        self.first_changed().is_some()
+    }
+
+    /// Whether the leg changed or invalidated this block.
+    pub fn is_changed(&self, block: u64) -> bool
+        ensures { result ≡ is_in block self.now.changes }
+    {
+        self.changed(block).is_some()
+    }
+
+    /// Whether the leg invalidated a block.
+    pub fn is_stale(&self, block: u64) -> bool
+        ensures { result ≡ is_stale block self.now }
+    {
+        match self.changed(block) {
+            Some(item) => item.marks.is_stale(),
+            None => false,
+        }
+    }
+
+    /// Whether a block has the hold mark.
+    pub fn is_held(&self, block: u64) -> bool
+        ensures { result ≡ has self.now.holds block }
+    {
+        match self.items.get(block) {
+            Some(item) => item.marks.is_held(),
+            None => false,
+        }
+    }
+
+    /// The leg's bytes of a block.
+    pub fn edit(&self, block: u64) -> Option<&Content>
+        ensures { option_copied result ≡ (change_of block self.now).edit }
+    {
+        match self.changed(block) {
+            Some(item) => item.edit.as_ref(),
+            None => None,
+        }
+    }
+
+    /// A copy of what the leg sees of a block, which is fresh or not and has this committed content, if any: its edit, else zeros
+    /// where it is fresh or stale, else the committed content. The one error is want of memory.
+    pub fn seen(
+        &self,
+        alloc: Global,
+        block: u64,
+        is_fresh: bool,
+        committed: Option<&Content>,
+    ) -> Result<Content, AllocError>
+        ensures { IfOk result (λ content. content ≡ seen_with block self.now is_fresh (unwrap_or (option_copied committed.entry) zeros)) }
+    {
+        if let Some(edit) = self.edit(block) {
+            return edit.copy(alloc);
+        }
+        if is_fresh || self.is_stale(block) {
+            return Content::zeros(alloc);
+        }
+        match committed {
+            Some(content) => content.copy(alloc),
+            None => Content::zeros(alloc),
+        }
+    }
+
+    /// The leg's charge in log bytes, at most 526,368.
+    pub fn charge(&self) -> u64
+        ensures value { result ≡ charge self.now.changes }
+        ensures range { result ≤ 526368 }
+    {
+        let total = total_charge(self.items.entries());
+        if total == 0 { 0 } else { 32 + total }
+    }
+
+    /// What the leg would charge anew, were these chunks of a block changed too.
+    pub fn newly_logged(&self, block: u64, marked: Chunks) -> Newly
+        ensures blocks { result.blocks ≡ (if is_in block self.now.changes then 0 else 1) }
+        ensures chunks { length (either (change_of block self.now).charged marked) ≡ length (change_of block self.now).charged + result.chunks }
+        ensures range { result.chunks ≤ 32 }
+        ensures charge { charge (edited block [] marked self.now).changes ≡ charge self.now.changes + (if is_dirty self.now then 0 else 32) + 16 * result.blocks + 128 * result.chunks }
+    {
+        let _ = &self.items;
+        let chunks = self.charged_of(block).lacks(marked);
+        Newly {
+            blocks: if self.is_changed(block) { 0 } else { 1 },
+            chunks,
+        }
+    }
+
+    /// What the leg would charge anew, were a block invalidated too.
+    pub fn newly_invalidated(&self, block: u64) -> Newly
+        ensures blocks { result.blocks ≡ (if is_in block self.now.changes then 0 else 1) }
+        ensures chunks { result.chunks ≡ 0 }
+        ensures charge { charge (invalidated_leg block self.now).changes ≡ charge self.now.changes + (if is_dirty self.now then 0 else 32) + 16 * result.blocks + 128 * result.chunks }
+    {
+        let _ = &self.items;
+        Newly {
+            blocks: if self.is_changed(block) { 0 } else { 1 },
+            chunks: 0,
+        }
+    }
+
+    /// The leg's charge, were these chunks of a block changed too; at most 530,512.
+    pub fn charge_logged(&self, block: u64, marked: Chunks) -> u64
+        ensures value { result ≡ charge (edited block [] marked self.now).changes }
+        ensures range { result ≤ 530512 }
+    {
+        self.charge_after(self.newly_logged(block, marked))
+    }
+
+    /// The leg's charge, were a block invalidated too; at most 530,512.
+    pub fn charge_invalidated(&self, block: u64) -> u64
+        ensures value { result ≡ charge (invalidated_leg block self.now).changes }
+        ensures range { result ≤ 530512 }
+    {
+        self.charge_after(self.newly_invalidated(block))
+    }
+
+    /// The leg's charge with what is charged anew.
+    fn charge_after(&self, newly: Newly) -> u64
+        requires blocks { newly.blocks ≤ 1 }
+        requires chunks { newly.chunks ≤ 32 }
+        ensures value { result ≡ charge self.now.changes + (if is_dirty self.now then 0 else 32) + 16 * newly.blocks + 128 * newly.chunks }
+        ensures range { result ≤ 530512 }
+    {
+        let first = if self.is_dirty() { 0u64 } else { 32 };
+        self.charge() + first + 16 * newly.blocks as u64 + 128 * newly.chunks as u64
+    }
+
+    /// The chunks charged for a block.
+    fn charged_of(&self, block: u64) -> Chunks
+        ensures { result ≡ (change_of block self.now).charged }
+    {
+        match self.changed(block) {
+            Some(item) => item.charged,
+            None => Chunks::none(),
+        }
+    }
+
+    /// The blocks with the hold mark, ascending, if there are some. The one error is want of memory.
+    pub fn held(&self, alloc: Global) -> Result<Option<HeldBlocks>, AllocError>
+        requires { length self.now.holds ≤ 64 }
+        ensures { IfOk result (λ blocks. blocks ≡ held_of self.now.holds) }
+    {
+        let blocks = held_blocks(alloc, self.items.entries())?;
+        Ok(HeldBlocks::of(blocks))
+    }
+
+    /// A block has these bytes in the leg, and these chunks are marked and charged too. One that was invalidated is so no more.
+    pub fn log(&mut self, block: u64, edit: Content, marked: Chunks)
+        requires { is_in block self.old.changes ≡ false → length self.old.changes + length self.old.holds < 128 }
+        ensures { self.new ≡ edited block edit marked self.old }
+    {
+        let item = take_item(&mut self.items, block);
+        self.items.put(block, logged(item, edit, marked));
+    }
+
+    /// A block is invalidated: its bytes, marks and hold mark go, and what it was charged stays.
+    pub fn inval(&mut self, block: u64)
+        requires { is_in block self.old.changes ≡ false → length self.old.changes + length self.old.holds < 128 }
+        ensures { self.new ≡ invalidated_leg block self.old }
+    {
+        let item = take_item(&mut self.items, block);
+        self.items.put(block, invalidated(item));
+    }
+
+    /// A block stays locked when the leg ends.
+    pub fn hold(&mut self, block: u64)
+        requires { has self.old.holds block ≡ false → length self.old.changes + length self.old.holds < 128 }
+        ensures { self.new ≡ record self.old { holds = with_member block self.old.holds } }
+    {
+        let item = take_item(&mut self.items, block);
+        self.items.put(block, held(item));
+    }
+
+    /// Takes the hold mark of a block away, if it has one.
+    pub fn unhold(&mut self, block: u64)
+        ensures { self.new ≡ without_hold block self.old }
+    {
+        drop_hold(&mut self.items, block);
+    }
+
+    /// Takes the change of the least block out. Its hold mark stays.
+    pub fn take_change(&mut self) -> Option<(u64, Change)>
+        ensures { MatchOption result ((self.old.changes ≡ []) × (self.new ≡ self.old)) (λ e. self.old ≡ record self.new { changes = e ∷ self.new.changes }) }
+    {
+        let block = self.first_changed()?;
+        let item = take_dirty(&mut self.items, block);
+        Some((
+            block,
+            Change {
+                edit: item.edit,
+                marks: item.chunks,
+                charged: item.charged,
+            },
+        ))
+    }
+
+    /// The leg ends, and the next one did nothing. It takes no memory.
+    pub fn next_leg(&mut self)
+        ensures { self.new ≡ clean_leg }
+    {
+        self.items.clear();
+    }
+
+    /// The entry of a block that the leg changed or invalidated.
+    fn changed(&self, block: u64) -> Option<&BufItem>
+        ensures value { option_map change_in (option_copied result) ≡ at block self.now.changes }
+        ensures stale { IfSome (option_copied result) (λ item. (marks_of item.marks).stale ≡ is_none item.edit) }
+    {
+        match self.items.get(block) {
+            Some(item) => {
+                if item.marks.is_dirty() {
+                    Some(item)
+                } else {
+                    None
+                }
+            }
+            None => None,
+        }
+    }
+
+    /// The least block that the leg changed or invalidated.
+    fn first_changed(&self) -> Option<u64>
+        ensures { MatchOption result (self.now.changes ≡ []) (λ block. self.now.changes ≡ (block, change_of block self.now) ∷ without block self.now.changes) }
+    {
+        first_dirty(self.items.entries())
+    }
+}
+
+/// What a leg is charged for the block of an entry.
+fn charge_of(item: &BufItem) -> u64
+    ensures value { result ≡ item_charge item.now }
+    ensures range { result ≤ 4112 }
+{
+    if item.marks.is_dirty() {
+        16 + 128 * item.charged.count() as u64
+    } else {
+        0
+    }
+}
+
+/// What a leg is charged for its blocks.
+fn total_charge(items: &[(u64, BufItem)]) -> u64
+    requires { length items.now ≤ 128 }
+    ensures value { result ≡ sum_by (λ e. item_charge e.1) items.now }
+    ensures range { result ≤ 526336 }
+{
+    let mut total = 0;
+    for e in items {
+        total += charge_of(&e.1);
+    }
+    total
+}
+
+/// The block of a number.
+fn block_of(number: u64) -> Block
+    ensures { result ≡ number }
+{
+    Block(number)
+}
+
+/// The blocks of the entries with the hold mark.
+fn held_blocks(alloc: Global, items: &[(u64, BufItem)]) -> Result<Vec<Block>, AllocError>
+    ensures { IfOk result (λ blocks. blocks.items ≡ (leg_of items.now).holds) }
+{
+    let mut blocks = Vec::new(alloc);
+    for e in items {
+        if e.1.marks.is_held() {
+            blocks.push(block_of(e.0))?;
+        }
+    }
+    Ok(blocks)
+}
+
+/// The block of the first dirty entry.
+fn first_dirty(items: &[(u64, BufItem)]) -> Option<u64>
+    ensures { MatchOption result ((leg_of items.now).changes ≡ [])
+        (λ block. (leg_of items.now).changes ≡ (block, change_of block (leg_of items.now)) ∷ without block (leg_of items.now).changes) }
+{
+    for e in items {
+        if e.1.marks.is_dirty() {
+            return Some(e.0);
+        }
+    }
+    None
+}
+
+/// Takes the hold mark of a block away. An entry that has nothing else goes.
+fn drop_hold(items: &mut NumberMap<BufItem>, block: u64)
+    requires { AreItems items.old }
+    ensures leg { leg_of items.new ≡ without_hold block (leg_of items.old) }
+    ensures items { AreItems items.new }
+{
+    let item = take_item(items, block);
+    if item.marks.is_dirty() {
+        items.put(block, released(item));
+    }
+}
+
+/// Takes the entry of a block out, and leaves its hold mark, if it has one.
+fn take_dirty(items: &mut NumberMap<BufItem>, block: u64) -> BufItem
+    requires { AreItems items.old }
+    ensures value { result ≡ item_at block items.old }
+    ensures leg { leg_of items.new ≡ record (leg_of items.old) { changes = without block (leg_of items.old).changes } }
+    ensures items { AreItems items.new }
+{
+    let item = take_item(items, block);
+    if item.marks.is_held() {
+        items.put(block, hold_alone());
+    }
+    item
+}
+
+/// Takes the entry of a block out; a blank one, where there is none.
+fn take_item(items: &mut NumberMap<BufItem>, block: u64) -> BufItem
+    ensures value { result ≡ item_at block items.old }
+    ensures rest { items.new ≡ without block items.old }
+    ensures room { (is_in block items.old ≡ false → length items.old < 128) → length items.new < 128 }
+{
+    match items.remove(block) {
+        Some(item) => item,
+        None => blank_item(),
+    }
+}
+
+/// An entry that says nothing.
+fn blank_item() -> BufItem
+    ensures { result ≡ blank }
+{
+    BufItem {
+        marks: ItemMarks::none(),
+        edit: None,
+        chunks: Chunks::none(),
+        charged: Chunks::none(),
+    }
+}
+
+/// An entry of a block that is held and not changed.
+fn hold_alone() -> BufItem
+    ensures marks { marks_of result.marks ≡ record no_marks { hold = true } }
+    ensures change { change_in result ≡ no_change }
+{
+    BufItem {
+        marks: ItemMarks::none().with(ItemMarks::HOLD),
+        edit: None,
+        chunks: Chunks::none(),
+        charged: Chunks::none(),
+    }
+}
+
+/// An entry whose block stays locked when the leg ends.
+fn held(mut item: BufItem) -> BufItem
+    ensures marks { marks_of result.marks ≡ record (marks_of item.marks) { hold = true } }
+    ensures change { change_in result ≡ change_in item }
+{
+    item.marks = item.marks.with(ItemMarks::HOLD);
+    item
+}
+
+/// An entry without its hold mark.
+fn released(mut item: BufItem) -> BufItem
+    ensures marks { marks_of result.marks ≡ record (marks_of item.marks) { hold = false } }
+    ensures change { change_in result ≡ change_in item }
+{
+    item.marks = item.marks.without(ItemMarks::HOLD);
+    item
+}
+
+/// An entry whose block has these bytes, and these chunks are marked and charged too.
+fn logged(item: BufItem, edit: Content, marked: Chunks) -> BufItem
+    ensures marks { marks_of result.marks ≡ record (marks_of item.marks) { stale = false; dirty = true } }
+    ensures change { change_in result ≡ record { edit = Some edit; marks = either item.chunks marked; charged = either item.charged marked } }
+{
+    BufItem {
+        marks: item.marks.with(ItemMarks::DIRTY).without(ItemMarks::STALE),
+        edit: Some(edit),
+        chunks: item.chunks.union(marked),
+        charged: item.charged.union(marked),
+    }
+}
+
+/// An entry whose block is invalidated.
+fn invalidated(item: BufItem) -> BufItem
+    ensures marks { marks_of result.marks ≡ record (marks_of item.marks) { hold = false; stale = true; dirty = true } }
+    ensures change { change_in result ≡ record { edit = None; marks = []; charged = item.charged } }
+{
+    let marks = item.marks.without(ItemMarks::HOLD);
+    BufItem {
+        marks: marks.with(ItemMarks::DIRTY).with(ItemMarks::STALE),
+        edit: None,
+        chunks: Chunks::none(),
+        charged: item.charged,
+    }
+}
