@@ -162,7 +162,8 @@ module _ (dropped : Dropped) (t b : ℕ) (s : State) (trans : Transaction) (h : 
   sound_relse = released_sound (own_count t (at b s.owners)) refl
 
 -- ---- held blocks
-held_no_trans : (u : ℕ) (o : Option Owner) → is_held o ≡ true → is_some (own_count u o) ≡ true → ⊥
+-- no transaction has a held block
+pub held_no_trans : (u : ℕ) (o : Option Owner) → is_held o ≡ true → is_some (own_count u o) ≡ true → ⊥
 held_no_trans u None held own = false≢true own
 held_no_trans u (Some Held) held own = false≢true own
 held_no_trans u (Some (Stale n)) held own = false≢true held

@@ -16,3 +16,4 @@ pub mod Sound
 pub mod Own
 pub mod Turns
 pub mod Isolation
+pub mod Laws
