@@ -132,6 +132,21 @@ module _ {V : Type 0} where
             ]
       ]
 
+  -- a key that a filter keeps has what it had
+  pub at_filter_kept : (k : ℕ) (p : ℕ × V → Bool) (es : List (ℕ × V)) → ((v : V) → p (k, v) ≡ true) → at k (filter p es) ≡ at k es
+  at_filter_kept k p [] keeps = refl
+  at_filter_kept k p (e ∷ es) keeps =
+      elim (cases_eq k e.0) [
+        | inl same ↦
+            let passes : p e ≡ true = sym (ap (λ (x : ℕ). p (x, e.1)) same) ∙ keeps e.1 in
+            ap (at k) (filter_pass p e es passes) ∙ at_first k e (filter p es) same ∙ sym (at_first k e es same)
+        | inr other ↦
+            elim (cases_Bool (p e)) [
+              | inl passes ↦ ap (at k) (filter_pass p e es passes) ∙ at_later k e (filter p es) other ∙ at_filter_kept k p es keeps ∙ sym (at_later k e es other)
+              | inr drops ↦ ap (at k) (filter_drop p e es drops) ∙ at_filter_kept k p es keeps ∙ sym (at_later k e es other)
+            ]
+      ]
+
   past_cons_option : (k n : ℕ) (o : Option (ℕ × V)) (rest : List (ℕ × V)) → k ≢ n → IfSome o (λ x. x.0 ≡ n) → at k (cons_option o rest) ≡ at k rest
   past_cons_option k n None rest other same = refl
   past_cons_option k n (Some x) rest other same = at_later k x rest (λ s. other (s ∙ same))
@@ -220,4 +235,25 @@ length_with_member n (k ∷ ks) h =
       | inl same ↦ absurd (false≢true (sym apart.0 ∙ eq-eqb n k same))
       | inr (inl lt) ↦ omega (arith, ap length (with_less n k ks lt))
       | inr (inr lt) ↦ omega (arith, ap length (with_more n k ks lt), length_with_member n ks apart.1)
+    ]
+
+-- a number that a filter keeps stays in a set
+pub has_filter : (q : ℕ) (p : ℕ → Bool) (ks : List ℕ) → p q ≡ true → has (filter p ks) q ≡ has ks q
+has_filter q p [] keeps = refl
+has_filter q p (k ∷ ks) keeps =
+    elim (cases_Bool (p k)) [
+      | inl passes ↦ ap (λ xs. has xs q) (filter_pass p k ks passes) ∙ ap (λ b. (q == k) || b) (has_filter q p ks keeps)
+      | inr drops ↦
+          let other : q ≢ k = λ same. false≢true (sym drops ∙ sym (ap p same) ∙ keeps) in
+          ap (λ xs. has xs q) (filter_drop p k ks drops) ∙ has_filter q p ks keeps ∙ sym (ap (λ b. b || has ks q) (ne_eqb q k other))
+    ]
+
+-- a set with one more number has what it had of the others
+pub has_with_member : (q n : ℕ) (ks : List ℕ) → q ≢ n → has (with_member n ks) q ≡ has ks q
+has_with_member q n [] other = ap (λ b. b || false) (ne_eqb q n other)
+has_with_member q n (k ∷ ks) other =
+    elim (cases_order n k) [
+      | inl same ↦ ap (λ xs. has xs q) (with_same n k ks same)
+      | inr (inl lt) ↦ ap (λ xs. has xs q) (with_less n k ks lt) ∙ ap (λ b. b || has (k ∷ ks) q) (ne_eqb q n other)
+      | inr (inr lt) ↦ ap (λ xs. has xs q) (with_more n k ks lt) ∙ ap (λ b. (q == k) || b) (has_with_member q n ks other)
     ]

@@ -108,7 +108,8 @@ pub keeps_owner_aborted : (t : ℕ) (leg : Leg) (e : ℕ × Owner) → IfSome (o
 keeps_owner_aborted t leg e =
     keeps_if (not (owned_by t e.1)) e.0 (Some e) (if has leg.holds e.0 then Some (e.0, Held) else None) refl (keeps_if (has leg.holds e.0) e.0 (Some (e.0, Held)) None refl tt)
 
-other_trans : (t u count : ℕ) → u ≢ t → owned_by t (Trans u count) ≡ false
+-- another transaction does not own what this one has
+pub other_trans : (t u count : ℕ) → u ≢ t → owned_by t (Trans u count) ≡ false
 other_trans t u count other = ap (λ b. is_some (if b then Some count else None)) (ne_eqb u t other)
 
 -- another transaction's blocks stay its own

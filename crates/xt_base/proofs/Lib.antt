@@ -17,6 +17,9 @@ pub mod SoundLegs
 pub mod SoundJobs
 pub mod SoundCalls
 pub mod SoundBounds
+pub mod AlikeLemmas
+pub mod StillLemmas
+pub mod StillCalls
 mod RowsBuffers
 mod RowsJobs
 mod RowsManyBusy

@@ -75,6 +75,7 @@ sound_holds t holds s trans h is rises own =
     let fair : IsFair s.owners (t, trans) = each_at (IsFair s.owners) t trans s.transactions is h.parts.fair in
     record {
       log_small = h.log_small;
+      numbers = each_set_at (λ e. e.0 ≤ s.last_trans) t (record trans { leg = leg }) s.transactions (each_at (λ e. e.0 ≤ s.last_trans) t trans s.transactions is h.numbers) h.numbers;
       parts =
           parts_leg s.log_bytes s.owners s.transactions s.items h.parts t trans leg is
           (record { unit = fair.unit; rising = fair.rising; covered = fair.covered; owned = fair.owned; holds_rise = rises; holds_owned = own });
@@ -121,7 +122,7 @@ sound_unhold t b s trans h is =
 pub sound_unowned : (dropped : Dropped) (b : ℕ) (s : State) → IsSound s → Each (IsApart b) s.transactions → IsSound (settled dropped (unowned b s))
 sound_unowned dropped b s h apart =
     let n : State = unowned b s in
-    sound_settling dropped n h.log_small (parts_unowned s.log_bytes s.owners s.transactions s.items h.parts b apart) h.kept.committed_rises h.kept.fresh_rises h.ready h.legs_left
+    sound_settling dropped n h.log_small h.numbers (parts_unowned s.log_bytes s.owners s.transactions s.items h.parts b apart) h.kept.committed_rises h.kept.fresh_rises h.ready h.legs_left
     (λ live.
     each_map (IsUnwritten s.owners s.transactions s.items) (λ q. is_busy n q ≡ true → IsUnwritten n.owners n.transactions n.items q) s.frames.fresh
     (λ q u busy. record { owned = left_true (is_in q n.owners) (is_listed n.items q) u.unlisted busy; unlisted = u.unlisted; unchanged = u.unchanged }) (h.fresh_owned live))
@@ -161,7 +162,8 @@ module _ (dropped : Dropped) (t b : ℕ) (s : State) (trans : Transaction) (h : 
   sound_relse = released_sound (own_count t (at b s.owners)) refl
 
 -- ---- held blocks
-held_no_trans : (u : ℕ) (o : Option Owner) → is_held o ≡ true → is_some (own_count u o) ≡ true → ⊥
+-- no transaction has a held block
+pub held_no_trans : (u : ℕ) (o : Option Owner) → is_held o ≡ true → is_some (own_count u o) ≡ true → ⊥
 held_no_trans u None held own = false≢true own
 held_no_trans u (Some Held) held own = false≢true own
 held_no_trans u (Some (Stale n)) held own = false≢true held

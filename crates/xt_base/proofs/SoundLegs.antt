@@ -66,7 +66,7 @@ module _ (dropped : Dropped) (t : ℕ) (s : State) (trans : Transaction) (h : Is
   -- a dirty leg is given up, and the mount shut
   pub sound_dirty_cancel : IsSound (settled dropped (shut_down CorruptIncore (closed t (aborted t trans.leg s))))
   sound_dirty_cancel =
-      sound_settling dropped (shut_down CorruptIncore (closed t (aborted t trans.leg s))) h.log_small (parts_aborted s.log_bytes s.owners s.transactions s.items h.parts t trans is)
+      sound_settling dropped (shut_down CorruptIncore (closed t (aborted t trans.leg s))) h.log_small (each_without (λ e. e.0 ≤ s.last_trans) t s.transactions h.numbers) (parts_aborted s.log_bytes s.owners s.transactions s.items h.parts t trans is)
       (rises_filter 0 (λ e. not (is_lost trans.leg e.0)) s.frames.committed h.kept.committed_rises) (rises_with_lost trans.leg.changes trans.leg s.frames.fresh h.kept.fresh_rises) h.ready
       (λ live. absurd (shut_for_some CorruptIncore s.shut live)) (λ live. absurd (shut_for_some CorruptIncore s.shut live))
 
@@ -75,7 +75,7 @@ module _ (dropped : Dropped) (t : ℕ) (s : State) (trans : Transaction) (h : Is
   sound_clean_cancel clean =
       let n : State = closed t (aborted t trans.leg s) in
       let same : s.frames.fresh ≡ n.frames.fresh = sym (ap (λ (cs : List (ℕ × Change)). with_lost cs trans.leg s.frames.fresh) clean) in
-      sound_settling dropped n h.log_small (parts_aborted s.log_bytes s.owners s.transactions s.items h.parts t trans is)
+      sound_settling dropped n h.log_small (each_without (λ e. e.0 ≤ s.last_trans) t s.transactions h.numbers) (parts_aborted s.log_bytes s.owners s.transactions s.items h.parts t trans is)
       (rises_filter 0 (λ e. not (is_lost trans.leg e.0)) s.frames.committed h.kept.committed_rises) (rises_with_lost trans.leg.changes trans.leg s.frames.fresh h.kept.fresh_rises) h.ready
       (λ live. each_without (λ e. 1 ≤ e.1.legs) t s.transactions (h.legs_left live))
       (λ live.
@@ -129,7 +129,7 @@ module _ (dropped : Dropped) (t : ℕ) (s : State) (trans : Transaction) (h : Is
   -- a leg is given up, on a shut mount, and its transaction stays
   pub sound_given_up : is_some s.shut ≡ true → IsSound (settled dropped (with_legs t 0 trans (aborted t trans.leg s)))
   sound_given_up shut =
-      sound_settling dropped (with_legs t 0 trans (aborted t trans.leg s)) h.log_small (parts_given_up s.log_bytes s.owners s.transactions s.items h.parts t trans is)
+      sound_settling dropped (with_legs t 0 trans (aborted t trans.leg s)) h.log_small (each_set_at (λ e. e.0 ≤ s.last_trans) t (record trans { legs = 0; leg = clean_leg }) s.transactions (each_at (λ e. e.0 ≤ s.last_trans) t trans s.transactions is h.numbers) h.numbers) (parts_given_up s.log_bytes s.owners s.transactions s.items h.parts t trans is)
       (rises_filter 0 (λ e. not (is_lost trans.leg e.0)) s.frames.committed h.kept.committed_rises) (rises_with_lost trans.leg.changes trans.leg s.frames.fresh h.kept.fresh_rises) h.ready
       (λ live. absurd (is_none_some s.shut live shut)) (λ live. absurd (is_none_some s.shut live shut))
 
@@ -159,7 +159,7 @@ module _ (dropped : Dropped) (t : ℕ) (s : State) (trans : Transaction) (h : Is
       let legs : ℕ = legs_after trans.legs in
       let n : State = with_legs t legs trans (ended t trans.leg s) in
       let after = room_after live room in
-      sound_settling dropped n h.log_small
+      sound_settling dropped n h.log_small (each_set_at (λ e. e.0 ≤ s.last_trans) t (record trans { legs = legs; leg = clean_leg }) s.transactions (each_at (λ e. e.0 ≤ s.last_trans) t trans s.transactions is h.numbers) h.numbers)
       (parts_rolled s.log_bytes s.owners s.transactions s.items h.parts t trans is legs (omega (arith, after)))
       (rises_with_edits trans.leg.changes s.frames.committed h.kept.committed_rises) h.kept.fresh_rises (ready_ended s.items trans.leg.changes s.jobs h.ready)
       (λ l. each_set_at (λ e. 1 ≤ e.1.legs) t (record trans { legs = legs; leg = clean_leg }) s.transactions (legs_some trans.legs) (h.legs_left l))

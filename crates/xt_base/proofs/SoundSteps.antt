@@ -16,7 +16,7 @@ use Rattle.xt_base.specs.Jobs.{activated, begin, begun, end, end_of, failed, fin
 use Rattle.xt_base.specs.Legs.{aborted, change_of, ended, is_dirty, is_lost, is_stale, own_count, with_marks}
 use Rattle.xt_base.specs.Maps.{at, is_in, put, set_at, without_member}
 use Rattle.xt_base.specs.Settle.{Dropped, settled}
-use Rattle.xt_base.specs.Sound.{AreKept, AreSound, Each, IsCovered, IsFair, IsReady, IsRising, IsSound, IsUnwritten, Owns, RisesFromKeys}
+use Rattle.xt_base.specs.Sound.{AreKept, AreNumbered, AreSound, Each, IsCovered, IsFair, IsReady, IsRising, IsSound, IsUnwritten, Owns, RisesFromKeys}
 use Rattle.xt_base.specs.Space.{busy_count, change_cost, charge, cost, flight_items, greatest, is_busy, is_listed, used}
 use Rattle.xt_base.specs.State.{Change, Flight, Frames, Items, Jobs, Leg, State, Transaction, mount_of}
 use Rattle.xt_base.specs.declared.names.JobKind.{JobKind}
@@ -120,6 +120,7 @@ shut_for_some reason (Some first) h = absurd (cc)
 pub sound_shut_down : (reason : Reason) (s : State) → IsSound s → IsSound (shut_down reason s)
 sound_shut_down reason s h = record {
   log_small = h.log_small;
+  numbers = h.numbers;
   parts = h.parts;
   kept = h.kept;
   ready = h.ready;
@@ -139,6 +140,7 @@ ready_jobs l j k same r = record {
 pub sound_jobs : (k : Jobs) (s : State) → k.ckpt ≡ s.jobs.ckpt → IsSound s → IsSound (record s { jobs = k })
 sound_jobs k s same h = record {
   log_small = h.log_small;
+  numbers = h.numbers;
   parts = h.parts;
   kept = h.kept;
   ready = ready_jobs s.items s.jobs k same h.ready;
@@ -173,6 +175,7 @@ sound_shutdown s h = sound_shut_down ForceUmount s h
 pub sound_mount : (slot life log_bytes blocks : ℕ) → log_bytes ≤ 16777216 → IsSound (mount_of slot life log_bytes blocks)
 sound_mount slot life log_bytes blocks small = record {
   log_small = small;
+  numbers = tt;
   parts = parts_empty log_bytes;
   kept = record { committed_rises = tt; committed_busy = tt; fresh_rises = tt; fresh_busy = tt };
   ready = record { numbered = omega arith; bounded = omega arith; worth = λ out none. absurd (cc out); room = λ out none. absurd (cc out) };
@@ -182,12 +185,13 @@ sound_mount slot life log_bytes blocks small = record {
 
 -- ---- settling
 -- what holds of a state as it settles: what is not busy leaves its frames
-pub sound_settling : (dropped : Dropped) (s : State) → s.log_bytes ≤ 16777216 → AreSound s.log_bytes s.owners s.transactions s.items → IsRising s.frames.committed → RisesFromKeys 0 s.frames.fresh → IsReady s.items s.jobs
+pub sound_settling : (dropped : Dropped) (s : State) → s.log_bytes ≤ 16777216 → AreNumbered s.last_trans s.transactions → AreSound s.log_bytes s.owners s.transactions s.items → IsRising s.frames.committed → RisesFromKeys 0 s.frames.fresh → IsReady s.items s.jobs
     → (is_none s.shut ≡ true → Each (λ e. 1 ≤ e.1.legs) s.transactions)
     → (is_none s.shut ≡ true → Each (λ b. is_busy s b ≡ true → IsUnwritten s.owners s.transactions s.items b) s.frames.fresh)
     → IsSound (settled dropped s)
-sound_settling dropped s small parts committed fresh ready legs unwritten = record {
+sound_settling dropped s small numbers parts committed fresh ready legs unwritten = record {
   log_small = small;
+  numbers = numbers;
   parts = parts;
   kept = record {
     committed_rises = rises_filter 0 (λ e. is_busy s e.0) s.frames.committed committed;
@@ -206,7 +210,7 @@ sound_settling dropped s small parts committed fresh ready legs unwritten = reco
 -- a sound mount settles
 pub sound_settled : (dropped : Dropped) (s : State) → IsSound s → IsSound (settled dropped s)
 sound_settled dropped s h =
-    sound_settling dropped s h.log_small h.parts h.kept.committed_rises h.kept.fresh_rises h.ready h.legs_left
+    sound_settling dropped s h.log_small h.numbers h.parts h.kept.committed_rises h.kept.fresh_rises h.ready h.legs_left
     (λ live. each_map (IsUnwritten s.owners s.transactions s.items) (λ b. is_busy s b ≡ true → IsUnwritten s.owners s.transactions s.items b) s.frames.fresh (λ b u busy. u) (h.fresh_owned live))
 
 -- ---- alloc
@@ -214,6 +218,7 @@ sound_settled dropped s h =
 pub sound_allocated : (unit count : ℕ) (perm : Bool) (s : State) → IsSound s → 1 ≤ count → used s + unit * count ≤ s.log_bytes → IsSound (allocated unit count perm s).state
 sound_allocated unit count perm s h some room = record {
   log_small = h.log_small;
+  numbers = each_put (λ e. e.0 ≤ s.last_trans + 1) (s.last_trans + 1) (new_trans unit count perm) s.transactions (omega arith) (each_map (λ e. e.0 ≤ s.last_trans) (λ e. e.0 ≤ s.last_trans + 1) s.transactions (λ e below. omega (arith, below)) h.numbers);
   parts = parts_opened s.log_bytes s.owners s.transactions s.items h.parts (s.last_trans + 1) (new_trans unit count perm) (record { unit = omega arith; rising = tt; covered = tt; owned = tt; holds_rise = tt; holds_owned = tt }) room;
   kept = h.kept;
   ready = h.ready;
@@ -264,6 +269,7 @@ ready_posted JobKind.Flush s r wanted = ready_jobs s.items s.jobs (posted JobKin
 pub sound_posted : (kind : JobKind) (s : State) → IsSound s → is_owed kind s ≡ true → IsSound (posted kind s)
 sound_posted kind s h owed = record {
   log_small = h.log_small;
+  numbers = h.numbers;
   parts = h.parts;
   kept = h.kept;
   ready = ready_posted kind s h.ready (and_parts (is_none s.shut) (is_wanted kind s) (and_parts _ _ (and_parts _ _ owed).0).0).1;
@@ -294,6 +300,7 @@ ready_finished l n j same r =
 pub sound_finished : (s : State) → IsSound s → IsSound (finished JobKind.Ckpt s)
 sound_finished s h = record {
   log_small = h.log_small;
+  numbers = h.numbers;
   parts = h.parts;
   kept = h.kept;
   ready = ready_finished s.items s.items s.jobs refl h.ready;
@@ -319,6 +326,7 @@ module _ (s : State) (h : IsSound s) where
       let n : State = flown pieces s in
       record {
         log_small = h.log_small;
+        numbers = h.numbers;
         parts = parts_flown s.log_bytes s.owners s.transactions s.items h.parts pieces none;
         kept = kept_on n (λ b busy. busy_by s.owners s.items b (is_busy n b) (busy_owned n.owners n.items b) (busy_flying n.owners n.items b) (λ there. absurd (none_flying s.items.flight b none there)) (busy_active n.owners n.items b) busy);
         ready = record {
@@ -348,7 +356,7 @@ module _ (s : State) (h : IsSound s) where
   -- the flight is given up, and the mount is shut
   pub sound_failed : (dropped : Dropped) → IsSound (failed dropped s)
   sound_failed dropped =
-      sound_settling dropped (finished JobKind.Ckpt (shut_down LogIoError (record s { items = record s.items { flight = None } }))) h.log_small
+      sound_settling dropped (finished JobKind.Ckpt (shut_down LogIoError (record s { items = record s.items { flight = None } }))) h.log_small h.numbers
       (parts_failed s.log_bytes s.owners s.transactions s.items h.parts) h.kept.committed_rises h.kept.fresh_rises (ready_finished s.items (record s.items { flight = None }) s.jobs refl h.ready)
       (λ live. absurd (shut_for_some LogIoError s.shut live)) (λ live. absurd (shut_for_some LogIoError s.shut live))
 
@@ -357,7 +365,7 @@ module _ (s : State) (h : IsSound s) where
   sound_landed dropped f is =
       let ns : List (ℕ × Owner) = filter (λ e. not (waits_on f.number e.1)) s.owners in
       let n : Items = landed_items f s.items in
-      sound_settling dropped (finished JobKind.Ckpt (record s { owners = ns; items = n })) h.log_small
+      sound_settling dropped (finished JobKind.Ckpt (record s { owners = ns; items = n })) h.log_small h.numbers
       (parts_landed s.log_bytes s.owners s.transactions s.items h.parts f is) h.kept.committed_rises h.kept.fresh_rises (ready_finished s.items n s.jobs refl h.ready) h.legs_left
       (λ live.
       each_map (IsUnwritten s.owners s.transactions s.items) (λ b. is_busy_in ns n b ≡ true → IsUnwritten ns s.transactions n b) s.frames.fresh
@@ -397,6 +405,7 @@ module _ (t b count : ℕ) (s : State) (h : IsSound s) (free : (u : ℕ) → Own
       → (is_none s.shut ≡ true → Each (IsUnwritten (put b (Trans t count) s.owners) s.transactions s.items) frames.fresh) → IsSound (with_owner b (Trans t count) (record s { frames = frames }))
   sound_owner frames room kept unwritten = record {
     log_small = h.log_small;
+    numbers = h.numbers;
     parts = parts_locked s.log_bytes s.owners s.transactions s.items h.parts t b count free room;
     kept = kept;
     ready = h.ready;
@@ -491,6 +500,7 @@ sound_changed t b c holds s trans h is fair =
     let ts : List (ℕ × Transaction) = set_at t (record trans { leg = leg }) s.transactions in
     record {
       log_small = h.log_small;
+      numbers = each_set_at (λ e. e.0 ≤ s.last_trans) t (record trans { leg = leg }) s.transactions (each_at (λ e. e.0 ≤ s.last_trans) t trans s.transactions is h.numbers) h.numbers;
       parts = parts_leg s.log_bytes s.owners s.transactions s.items h.parts t trans leg is fair;
       kept = record {
         committed_rises = h.kept.committed_rises;
@@ -550,7 +560,7 @@ module _ (dropped : Dropped) (t : ℕ) (s : State) (trans : Transaction) (h : Is
   -- a leg that is given up, on a shut mount
   pub sound_aborted : is_some s.shut ≡ true → IsSound (settled dropped (closed t (aborted t trans.leg s)))
   sound_aborted shut =
-      sound_settling dropped (closed t (aborted t trans.leg s)) h.log_small (parts_aborted s.log_bytes s.owners s.transactions s.items h.parts t trans is)
+      sound_settling dropped (closed t (aborted t trans.leg s)) h.log_small (each_without (λ e. e.0 ≤ s.last_trans) t s.transactions h.numbers) (parts_aborted s.log_bytes s.owners s.transactions s.items h.parts t trans is)
       (rises_filter 0 (λ e. not (is_lost trans.leg e.0)) s.frames.committed h.kept.committed_rises) (rises_with_lost trans.leg.changes trans.leg s.frames.fresh h.kept.fresh_rises) h.ready
       (λ live. absurd (is_none_some s.shut live shut)) (λ live. absurd (is_none_some s.shut live shut))
 
@@ -558,7 +568,7 @@ module _ (dropped : Dropped) (t : ℕ) (s : State) (trans : Transaction) (h : Is
   pub sound_ended : charge trans.leg.changes ≤ trans.unit * trans.legs → IsSound (settled dropped (closed t (ended t trans.leg s)))
   sound_ended within =
       let n : State = closed t (ended t trans.leg s) in
-      sound_settling dropped n h.log_small (parts_ended s.log_bytes s.owners s.transactions s.items h.parts t trans is within)
+      sound_settling dropped n h.log_small (each_without (λ e. e.0 ≤ s.last_trans) t s.transactions h.numbers) (parts_ended s.log_bytes s.owners s.transactions s.items h.parts t trans is within)
       (rises_with_edits trans.leg.changes s.frames.committed h.kept.committed_rises) h.kept.fresh_rises (ready_ended s.items trans.leg.changes s.jobs h.ready)
       (λ live. each_without (λ e. 1 ≤ e.1.legs) t s.transactions (h.legs_left live))
       (λ live.

@@ -18,3 +18,4 @@ pub mod Own
 pub mod Marks
 pub mod Turns
 pub mod Isolation
+pub mod Laws

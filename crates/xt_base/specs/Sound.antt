@@ -86,9 +86,14 @@ pub record IsUnwritten (owners : List (ℕ × Owner)) (transactions : List (ℕ 
   pub unlisted : is_listed l b ≡ false
   pub unchanged : Each (λ e. is_in b e.1.leg.changes ≡ false) transactions
 
+-- each open transaction has a number up to the last one given
+abbrev pub AreNumbered : ℕ → List (ℕ × Transaction) → Type 0
+AreNumbered last transactions = Each (λ e. e.0 ≤ last) transactions
+
 -- what holds of every mount
 pub record IsSound (s : State) : Type 0 where
   pub log_small : s.log_bytes ≤ 16777216
+  pub numbers : AreNumbered s.last_trans s.transactions
   pub parts : AreSound s.log_bytes s.owners s.transactions s.items
   pub kept : AreKept (is_busy s) s.frames
   pub ready : IsReady s.items s.jobs

@@ -1,0 +1,41 @@
+-- Words of the laws: what looks alike to a transaction, and which requests name it.
+use Rattle.std.specs.Prelude.{Bool, false, ℕ, ◌&&◌, ◌==◌, ◌≡◌, true}
+use Rattle.xt_base.specs.Calls.{is_fresh, is_own}
+use Rattle.xt_base.specs.Legs.{own_count}
+use Rattle.xt_base.specs.Maps.{at}
+use Rattle.xt_base.specs.State.{State}
+use Rattle.xt_base.specs.Text.{content_at}
+use Rattle.xt_base.specs.declared.steps.Request.{Request}
+
+-- two states look alike to a transaction at a block: its record is the same; it has the block in both, with the same recursion count, or in neither; and where it has it, the fresh mark and the committed content are the same
+pub record LooksAlike (t b : ℕ) (s u : State) : Type 0 where
+  pub trans : at t s.transactions ≡ at t u.transactions
+  pub count : own_count t (at b s.owners) ≡ own_count t (at b u.owners)
+  pub fresh : is_own s t b ≡ true → is_fresh s b ≡ is_fresh u b
+  pub content : is_own s t b ≡ true → content_at b s.frames.committed ≡ content_at b u.frames.committed
+
+-- the requests by which a transaction uses a block that it has: view, log, hold, unhold, relse, inval
+abbrev pub uses : ℕ → ℕ → Request → Bool
+uses t b (Request.View u c) = (u == t) && (c == b)
+uses t b (Request.Log u c first bytes) = (u == t) && (c == b)
+uses t b (Request.Hold u c) = (u == t) && (c == b)
+uses t b (Request.Unhold u c) = (u == t) && (c == b)
+uses t b (Request.Relse u c) = (u == t) && (c == b)
+uses t b (Request.Inval u c) = (u == t) && (c == b)
+uses t b other = false
+
+-- whether a request names a transaction
+abbrev pub names : ℕ → Request → Bool
+names t (Request.Get u b) = u == t
+names t (Request.Read u b) = u == t
+names t (Request.View u b) = u == t
+names t (Request.Log u b first bytes) = u == t
+names t (Request.Hold u b) = u == t
+names t (Request.Unhold u b) = u == t
+names t (Request.Relse u b) = u == t
+names t (Request.Join u b) = u == t
+names t (Request.Inval u b) = u == t
+names t (Request.Commit u) = u == t
+names t (Request.Roll u) = u == t
+names t (Request.Cancel u) = u == t
+names t other = false

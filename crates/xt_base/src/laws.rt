@@ -1,0 +1,29 @@
+//! Laws of the definitions. Each function does nothing: its clause is the law.
+
+ghost use Rattle.std.specs.Prelude.{◌≡◌, ℕ, true, false};
+ghost use Rattle.xt_base.specs.Calls.{alone_with, is_own};
+ghost use Rattle.xt_base.specs.Jobs.{begin as begin_job, end as end_job, flush as flush_job, posted};
+ghost use Rattle.xt_base.specs.Laws.{LooksAlike, names, uses};
+ghost use Rattle.xt_base.specs.Maps.{is_in};
+ghost use Rattle.xt_base.specs.Settle.{Dropped};
+ghost use Rattle.xt_base.specs.Sound.{IsSound};
+ghost use Rattle.xt_base.specs.State.{State};
+ghost use Rattle.xt_base.specs.declared.names.JobKind.{JobKind as AnyKind};
+ghost use Rattle.xt_base.specs.declared.steps.Answer.{Answer as AnyAnswer};
+ghost use Rattle.xt_base.specs.declared.steps.HomeAnswers.{HomeAnswers as AnyWrites};
+ghost use Rattle.xt_base.specs.declared.steps.LogAnswers.{LogAnswers as AnyPieces};
+ghost use Rattle.xt_base.specs.declared.steps.Request.{Request as AnyRequest};
+
+/// A transaction sees only what it locked: two states that look alike to it at a block answer
+/// it alike, whatever else they are; and what a block that it has looks like is changed by no
+/// call that does not name the transaction, and by no job.
+pub fn sees_only_locked()
+    ensures locked { (t b : ℕ) (s u : State) (request : AnyRequest) (given other : AnyAnswer) (dropped left : Dropped)
+        → LooksAlike t b s u → uses t b request ≡ true → (alone_with dropped request given s).reply ≡ (alone_with left request other u).reply }
+    ensures calls { (t b : ℕ) (s : State) (request : AnyRequest) (answer : AnyAnswer) (dropped : Dropped)
+        → IsSound s → is_in t s.transactions ≡ true → is_own s t b ≡ true → names t request ≡ false → LooksAlike t b s (alone_with dropped request answer s).state }
+    ensures posts { (t b : ℕ) (s : State) (kind : AnyKind) → IsSound s → is_own s t b ≡ true → LooksAlike t b s (posted kind s) }
+    ensures begins { (t b : ℕ) (s : State) → IsSound s → is_own s t b ≡ true → LooksAlike t b s (begin_job s).state }
+    ensures ends { (t b : ℕ) (s : State) (answers : AnyPieces) (dropped : Dropped) → IsSound s → is_own s t b ≡ true → LooksAlike t b s (end_job dropped answers s).state }
+    ensures flushes { (t b : ℕ) (s : State) (answers : AnyWrites) (dropped : Dropped) → IsSound s → is_own s t b ≡ true → LooksAlike t b s (flush_job dropped answers s).state }
+{}
