@@ -1,16 +1,13 @@
 -- A transaction that is taken out, changed and put back.
-use Rattle.std.proofs.Common.{◌≡◌, ◌≢◌, ◌∙◌, ◌<◌, ◌≤◌, ℕ, suc, List, [], ◌∷◌, Some, sym, ap, subst, refl, inl, inr, arith, IfSome, length}
+use Rattle.std.proofs.Common.{◌≡◌, ◌≢◌, ◌∙◌, ◌+◌, ◌<◌, ◌≤◌, false, true, ℕ, suc, List, [], ◌∷◌, Some, sym, ap, subst, refl, inl, inr, arith, IfSome, length}
 use Rattle.std.proofs.lemmas.Bool.{cases_order}
-use Rattle.xt_base.specs.Maps.{at, put, set_at, without, without_member}
-use Rattle.xt_base.specs.Calls.{edited, not_fresh, with_leg}
-use Rattle.xt_base.specs.Sound.{IsFair, IsRising, IsSound, RisesFrom}
-use Rattle.xt_base.specs.State.{Frames, State, Transaction}
+use Rattle.xt_base.specs.Maps.{at, has, is_in, put, set_at, without, without_member}
+use Rattle.xt_base.specs.Calls.{is_own, not_fresh, with_leg}
+use Rattle.xt_base.specs.Sound.{IsRising, IsSound, RisesFrom}
+use Rattle.xt_base.specs.State.{Frames, Leg, State, Transaction}
 use Rattle.xt_base.proofs.MapLemmas.{some_none, at_later, put_less, put_more, set_first, set_later, without_first, without_later}
-use Rattle.xt_base.proofs.RisingLemmas.{each_at, none_below}
-use Rattle.xt_base.proofs.SoundBounds.{few_changes}
-
-few_enough : (n : ℕ) → n ≤ 64 → n < 128
-few_enough n h = omega arith
+use Rattle.xt_base.proofs.RisingLemmas.{none_below}
+use Rattle.xt_base.proofs.SoundBounds.{few_changes, few_holds, fewer_changes, fewer_holds}
 
 apart : (k n : ℕ) → n < k → k ≢ n
 apart k n lt same = omega arith
@@ -35,20 +32,34 @@ module _ {V : Type 0} where
   pub put_back : (k : ℕ) (u v : V) (es : List (ℕ × V)) → IsRising es → at k es ≡ Some u → put k v (without k es) ≡ set_at k v es
   put_back k u v es rises there = put_without 0 k u v es rises there
 
--- a leg with one more edit is kept
-pub kept : (s : State) (t b : ℕ) (edit marked : List ℕ) (u v : Transaction) (m ts : List (ℕ × Transaction)) (frames : Frames)
-    → at t s.transactions ≡ Some u → IsRising s.transactions → m ≡ without t s.transactions → v ≡ record u { leg = edited b edit marked u.leg } → ts ≡ put t v m
-    → frames ≡ record s.frames { fresh = without_member b s.frames.fresh }
-    → IfSome (at t s.transactions) (λ x. record s { transactions = ts; frames = frames } ≡ not_fresh b (with_leg t x (edited b edit marked x.leg) s))
-kept s t b edit marked u v m ts frames there rises out edited_is in_again left =
-    let new : Transaction = record u { leg = edited b edit marked u.leg } in
-    let back : ts ≡ set_at t new s.transactions = in_again ∙ ap (put t v) out ∙ put_back t u v s.transactions rises there ∙ ap (λ x. set_at t x s.transactions) edited_is in
-    subst (λ o. IfSome o (λ x. record s { transactions = ts; frames = frames } ≡ not_fresh b (with_leg t x (edited b edit marked x.leg) s))) (sym there)
-    (ap (λ xs. record s { transactions = xs; frames = frames }) back ∙ ap (λ f. record s { transactions = set_at t new s.transactions; frames = f }) left)
+-- a transaction that was changed in its leg is put back
+module _ (s : State) (t : ℕ) (f : Leg → Leg) (u v : Transaction) (m ts : List (ℕ × Transaction)) (there : at t s.transactions ≡ Some u) (rises : IsRising s.transactions)
+  (out : m ≡ without t s.transactions) (changed : v ≡ record u { leg = f u.leg }) (in_again : ts ≡ put t v m) where
+  back : ts ≡ set_at t (record u { leg = f u.leg }) s.transactions
+  back = in_again ∙ ap (put t v) out ∙ put_back t u v s.transactions rises there ∙ ap (λ x. set_at t x s.transactions) changed
 
--- the changes of an open transaction rise, and are few
-pub rising_changes : (s : State) (t : ℕ) (u : Transaction) → IsSound s → Some u ≡ at t s.transactions → IsRising u.leg.changes
-rising_changes s t u sound there = (each_at (IsFair s.owners) t u s.transactions (sym there) sound.parts.fair).rising
+  pub kept : IfSome (at t s.transactions) (λ x. record s { transactions = ts } ≡ with_leg t x (f x.leg) s)
+  kept = subst (λ o. IfSome o (λ x. record s { transactions = ts } ≡ with_leg t x (f x.leg) s)) (sym there) (ap (λ xs. record s { transactions = xs }) back)
 
-pub few_edits : (s : State) (t : ℕ) (u : Transaction) → IsSound s → Some u ≡ at t s.transactions → IfSome (at t s.transactions) (λ x. length x.leg.changes < 128)
-few_edits s t u sound there = subst (λ o. IfSome o (λ x. length x.leg.changes < 128)) there (few_enough (length u.leg.changes) (few_changes s sound t u (sym there)))
+  -- and its block is fresh no more
+  pub kept_read : (b : ℕ) (frames : Frames) → frames ≡ record s.frames { fresh = without_member b s.frames.fresh }
+      → IfSome (at t s.transactions) (λ x. record s { transactions = ts; frames = frames } ≡ not_fresh b (with_leg t x (f x.leg) s))
+  kept_read b frames left =
+      subst (λ o. IfSome o (λ x. record s { transactions = ts; frames = frames } ≡ not_fresh b (with_leg t x (f x.leg) s))) (sym there)
+      (ap (λ xs. record s { transactions = xs; frames = frames }) back ∙ ap (λ g. record s { transactions = set_at t (record u { leg = f u.leg }) s.transactions; frames = g }) left)
+
+-- there is room for one more change of an own block, and for one more hold mark
+sum_small : (m n : ℕ) → m ≤ 64 → n < 64 → n + m < 128
+sum_small m n few fewer = omega arith
+
+pub room_changed : (s : State) (t b : ℕ) (u : Transaction) → IsSound s → Some u ≡ at t s.transactions → is_own s t b ≡ true
+    → IfSome (at t s.transactions) (λ x. is_in b x.leg.changes ≡ false → length x.leg.changes + length x.leg.holds < 128)
+room_changed s t b u sound there own =
+    subst (λ o. IfSome o (λ x. is_in b x.leg.changes ≡ false → length x.leg.changes + length x.leg.holds < 128)) there
+    (λ fresh. sum_small (length u.leg.holds) (length u.leg.changes) (few_holds s sound t u (sym there)) (fewer_changes s sound t u (sym there) b own fresh))
+
+pub room_held : (s : State) (t b : ℕ) (u : Transaction) → IsSound s → Some u ≡ at t s.transactions → is_own s t b ≡ true
+    → IfSome (at t s.transactions) (λ x. has x.leg.holds b ≡ false → length x.leg.changes + length x.leg.holds < 128)
+room_held s t b u sound there own =
+    subst (λ o. IfSome o (λ x. has x.leg.holds b ≡ false → length x.leg.changes + length x.leg.holds < 128)) there
+    (λ free. omega (arith, few_changes s sound t u (sym there), fewer_holds s sound t u (sym there) b own free))

@@ -1,5 +1,3 @@
-pub mod EntryLemmas
-pub mod ChangeLemmas
 pub mod FrameLemmas
 pub mod LandedLemmas
 pub mod SettleLemmas

@@ -39,11 +39,11 @@ impl Machine {
         ensures ok { IfOk result (λ reply. gives reply (state_of self.new) ≡ with_trans (at trans self.old.transactions) (state_of self.old) (commit_step [] trans (state_of self.old))) }
         ensures err { OnErr result (state_of self.new ≡ state_of self.old) }
     {
-        let Some(open) = self.transactions.get(trans) else {
+        let Some(opened) = self.transactions.get(trans) else {
             return Ok(Reply::Refused(Errno::Invalid));
         };
-        let held = open.leg().held(self.alloc)?;
-        let is_dirty = open.leg().is_dirty();
+        let held = opened.leg().held(self.alloc)?;
+        let is_dirty = opened.leg().is_dirty();
         if self.gives_up(is_dirty) {
             self.close_aborted(trans);
             self.settle();
@@ -71,11 +71,11 @@ impl Machine {
         ensures ok { IfOk result (λ reply. gives reply (state_of self.new) ≡ with_trans (at trans self.old.transactions) (state_of self.old) (cancel_step [] trans (state_of self.old))) }
         ensures err { OnErr result (state_of self.new ≡ state_of self.old) }
     {
-        let Some(open) = self.transactions.get(trans) else {
+        let Some(opened) = self.transactions.get(trans) else {
             return Ok(Reply::Refused(Errno::Invalid));
         };
-        let held = open.leg().held(self.alloc)?;
-        let is_dirty = open.leg().is_dirty();
+        let held = opened.leg().held(self.alloc)?;
+        let is_dirty = opened.leg().is_dirty();
         self.close_aborted(trans);
         self.shut_if(is_dirty, Reason::CorruptIncore);
         self.settle();

@@ -17,11 +17,11 @@ impl Machine {
         requires few { IfSome (at trans self.old.transactions) (λ t. has t.leg.holds block ≡ false → length t.leg.changes + length t.leg.holds < 128) }
         ensures { IfSome (at trans self.old.transactions) (λ t. state_of self.new ≡ with_leg trans t (record t.leg { holds = with_member block t.leg.holds }) (state_of self.old)) }
     {
-        let Some(mut open) = self.transactions.remove(trans) else {
+        let Some(mut opened) = self.transactions.remove(trans) else {
             return;
         };
-        open.hold(block);
-        self.transactions.put(trans, open);
+        opened.hold(block);
+        self.transactions.put(trans, opened);
     }
 
     /// A block has no hold mark in a transaction's leg.
@@ -29,11 +29,11 @@ impl Machine {
         requires { IsRising self.old.transactions }
         ensures { IfSome (at trans self.old.transactions) (λ t. state_of self.new ≡ with_leg trans t (without_hold block t.leg) (state_of self.old)) }
     {
-        let Some(mut open) = self.transactions.remove(trans) else {
+        let Some(mut opened) = self.transactions.remove(trans) else {
             return;
         };
-        open.unhold(block);
-        self.transactions.put(trans, open);
+        opened.unhold(block);
+        self.transactions.put(trans, opened);
     }
 
     /// A block is invalidated in a transaction's leg, and fresh no more.
@@ -42,11 +42,11 @@ impl Machine {
         requires few { IfSome (at trans self.old.transactions) (λ t. is_in block t.leg.changes ≡ false → length t.leg.changes + length t.leg.holds < 128) }
         ensures { IfSome (at trans self.old.transactions) (λ t. state_of self.new ≡ not_fresh block (with_leg trans t (invalidated block t.leg) (state_of self.old))) }
     {
-        let Some(mut open) = self.transactions.remove(trans) else {
+        let Some(mut opened) = self.transactions.remove(trans) else {
             return;
         };
-        open.inval(block);
-        self.transactions.put(trans, open);
+        opened.inval(block);
+        self.transactions.put(trans, opened);
         self.frames.leave_fresh(block);
     }
 
@@ -55,10 +55,10 @@ impl Machine {
         requires { IsSound (state_of self.old) }
         ensures { gives result (state_of self.new) ≡ with_trans (at trans self.old.transactions) (state_of self.old) (hold_step trans block (state_of self.old)) }
     {
-        let Some(open) = self.transactions.get(trans) else {
+        let Some(opened) = self.transactions.get(trans) else {
             return Reply::Refused(Errno::Invalid);
         };
-        if !self.is_own(trans, block) || open.leg().is_stale(block) {
+        if !self.is_own(trans, block) || opened.leg().is_stale(block) {
             return Reply::Refused(Errno::Invalid);
         }
         self.mark_held(trans, block);
@@ -70,10 +70,10 @@ impl Machine {
         requires { IsSound (state_of self.old) }
         ensures { gives result (state_of self.new) ≡ with_trans (at trans self.old.transactions) (state_of self.old) (unhold_step trans block (state_of self.old)) }
     {
-        let Some(open) = self.transactions.get(trans) else {
+        let Some(opened) = self.transactions.get(trans) else {
             return Reply::Refused(Errno::Invalid);
         };
-        if !self.is_own(trans, block) || !open.leg().is_held(block) {
+        if !self.is_own(trans, block) || !opened.leg().is_held(block) {
             return Reply::Refused(Errno::Invalid);
         }
         self.mark_unheld(trans, block);
@@ -81,13 +81,13 @@ impl Machine {
     }
 
     /// What refuses an invalidation.
-    fn inval_refusal(&self, open: &OpenTrans, trans: u64, block: u64) -> Option<Errno>
-        ensures { result ≡ first_of (inval_refusals trans block open.now (state_of self.now)) }
+    fn inval_refusal(&self, opened: &OpenTrans, trans: u64, block: u64) -> Option<Errno>
+        ensures { result ≡ first_of (inval_refusals trans block opened.now (state_of self.now)) }
     {
         if !self.is_own(trans, block) {
             return Some(Errno::Invalid);
         }
-        if open.leg().charge_invalidated(block) > u64::from(open.unit()) {
+        if opened.leg().charge_invalidated(block) > u64::from(opened.unit()) {
             return Some(Errno::NoSpace);
         }
         None
@@ -98,13 +98,13 @@ impl Machine {
         requires { IsSound (state_of self.old) }
         ensures { gives result (state_of self.new) ≡ with_trans (at trans self.old.transactions) (state_of self.old) (inval_step trans block (state_of self.old)) }
     {
-        let Some(open) = self.transactions.get(trans) else {
+        let Some(opened) = self.transactions.get(trans) else {
             return Reply::Refused(Errno::Invalid);
         };
-        if let Some(errno) = self.inval_refusal(open, trans, block) {
+        if let Some(errno) = self.inval_refusal(opened, trans, block) {
             return Reply::Refused(errno);
         }
-        if !open.leg().is_stale(block) {
+        if !opened.leg().is_stale(block) {
             self.mark_stale(trans, block);
         }
         Reply::Okay

@@ -23,29 +23,29 @@ use xt_trans::trans::{Change, TransRec};
 impl Machine {
     /// A leg is committed: its blocks pass on, its edits are the committed contents, and its marks are joined to the
     /// commit list. It takes no memory.
-    pub fn end_leg(&mut self, trans: u64, open: &mut OpenTrans)
-        requires contents { length self.old.frames.committed + length open.old.leg.changes ≤ 128 }
-        requires cil { length self.old.items.cil + length open.old.leg.changes ≤ 128 }
-        ensures { state_of self.new ≡ ended trans open.old.leg (state_of self.old) }
-        ensures open { open.new ≡ record open.old { leg = record open.old.leg { changes = [] } } }
+    pub fn end_leg(&mut self, trans: u64, opened: &mut OpenTrans)
+        requires contents { length self.old.frames.committed + length opened.old.leg.changes ≤ 128 }
+        requires cil { length self.old.items.cil + length opened.old.leg.changes ≤ 128 }
+        ensures state { state_of self.new ≡ ended trans opened.old.leg (state_of self.old) }
+        ensures left { opened.new ≡ record opened.old { leg = record opened.old.leg { changes = [] } } }
     {
         pass_on(
             &mut self.locks,
             trans,
-            open.leg(),
+            opened.leg(),
             self.items.open_number(),
         );
-        keep_changes(&mut self.frames, &mut self.items, open);
+        keep_changes(&mut self.frames, &mut self.items, opened);
     }
 
     /// A leg is given up: what it changed and holds is held as fresh. It takes no memory.
-    pub fn abort_leg(&mut self, trans: u64, open: &mut OpenTrans)
-        requires fresh { length self.old.frames.fresh + length open.old.leg.changes ≤ 128 }
-        ensures { state_of self.new ≡ aborted trans open.old.leg (state_of self.old) }
+    pub fn abort_leg(&mut self, trans: u64, opened: &mut OpenTrans)
+        requires fresh { length self.old.frames.fresh + length opened.old.leg.changes ≤ 128 }
+        ensures { state_of self.new ≡ aborted trans opened.old.leg (state_of self.old) }
     {
-        pass_held(&mut self.locks, trans, open.leg());
-        lose_contents(&mut self.frames, open.leg());
-        lose_changes(&mut self.frames, open);
+        pass_held(&mut self.locks, trans, opened.leg());
+        lose_contents(&mut self.frames, opened.leg());
+        lose_changes(&mut self.frames, opened);
     }
 
     /// A transaction ends, and its leg is committed. It takes no memory.
@@ -53,10 +53,10 @@ impl Machine {
         requires { IsSound (state_of self.old) }
         ensures { IfSome (at trans self.old.transactions) (λ t. state_of self.new ≡ closed trans (ended trans t.leg (state_of self.old))) }
     {
-        let Some(mut open) = self.transactions.remove(trans) else {
+        let Some(mut opened) = self.transactions.remove(trans) else {
             return;
         };
-        self.end_leg(trans, &mut open);
+        self.end_leg(trans, &mut opened);
     }
 
     /// A transaction ends, and its leg is given up. It takes no memory.
@@ -64,10 +64,10 @@ impl Machine {
         requires { IsSound (state_of self.old) }
         ensures { IfSome (at trans self.old.transactions) (λ t. state_of self.new ≡ closed trans (aborted trans t.leg (state_of self.old))) }
     {
-        let Some(mut open) = self.transactions.remove(trans) else {
+        let Some(mut opened) = self.transactions.remove(trans) else {
             return;
         };
-        self.abort_leg(trans, &mut open);
+        self.abort_leg(trans, &mut opened);
     }
 }
 
@@ -109,14 +109,14 @@ fn pass_held(locks: &mut Locks, trans: u64, leg: &TransRec)
 }
 
 /// The edits of a leg are committed, and its marks joined to the commit list. It takes no memory.
-fn keep_changes(frames: &mut Frames, items: &mut Items, open: &mut OpenTrans)
-    requires contents { length frames.old.committed + length open.old.leg.changes ≤ 128 }
-    requires cil { length items.old.cil + length open.old.leg.changes ≤ 128 }
-    ensures contents { frames.new ≡ edits_kept open.old.leg.changes frames.old }
-    ensures cil { items.new ≡ marks_kept open.old.leg.changes items.old }
-    ensures open { open.new ≡ record open.old { leg = record open.old.leg { changes = [] } } }
+fn keep_changes(frames: &mut Frames, items: &mut Items, opened: &mut OpenTrans)
+    requires contents { length frames.old.committed + length opened.old.leg.changes ≤ 128 }
+    requires cil { length items.old.cil + length opened.old.leg.changes ≤ 128 }
+    ensures contents { frames.new ≡ edits_kept opened.old.leg.changes frames.old }
+    ensures cil { items.new ≡ marks_kept opened.old.leg.changes items.old }
+    ensures left { opened.new ≡ record opened.old { leg = record opened.old.leg { changes = [] } } }
 {
-    while let Some((block, change)) = open.take_change() {
+    while let Some((block, change)) = opened.take_change() {
         keep_change(frames, items, block, change);
     }
 }
@@ -167,12 +167,12 @@ fn lose_contents(frames: &mut Frames, leg: &TransRec)
 }
 
 /// Blocks that a leg changed and holds are fresh, where it is given up. It takes no memory.
-fn lose_changes(frames: &mut Frames, open: &mut OpenTrans)
-    requires { length frames.old.fresh + length open.old.leg.changes ≤ 128 }
-    ensures { frames.new ≡ fresh_lost open.old.leg.changes open.old.leg frames.old }
+fn lose_changes(frames: &mut Frames, opened: &mut OpenTrans)
+    requires { length frames.old.fresh + length opened.old.leg.changes ≤ 128 }
+    ensures { frames.new ≡ fresh_lost opened.old.leg.changes opened.old.leg frames.old }
 {
-    while let Some((block, _change)) = open.take_change() {
-        if open.leg().is_held(block) {
+    while let Some((block, _change)) = opened.take_change() {
+        if opened.leg().is_held(block) {
             frames.make_fresh(block);
         }
     }

@@ -31,26 +31,26 @@ impl Machine {
     pub fn view(&self, trans: u64, block: u64) -> Result<Reply, AllocError>
         ensures { IfOk result (λ reply. gives reply (state_of self.now) ≡ with_trans (at trans self.now.transactions) (state_of self.now) (view_step trans block (state_of self.now))) }
     {
-        let Some(open) = self.transactions.get(trans) else {
+        let Some(opened) = self.transactions.get(trans) else {
             return Ok(Reply::Refused(Errno::Invalid));
         };
         if !self.is_own(trans, block) {
             return Ok(Reply::Refused(Errno::Invalid));
         }
-        let content = self.seen(open.leg(), block)?;
+        let content = self.seen(opened.leg(), block)?;
         Ok(Reply::Data(content))
     }
 
     /// What refuses a log request.
     fn log_refusal(
         &self,
-        open: &OpenTrans,
+        opened: &OpenTrans,
         trans: u64,
         block: u64,
         first: u32,
         bytes: &Data,
     ) -> Option<Errno>
-        ensures refusal { result ≡ first_of (log_refusals trans block first bytes.now open.now (state_of self.now)) }
+        ensures refusal { result ≡ first_of (log_refusals trans block first bytes.now opened.now (state_of self.now)) }
         ensures room { result ≡ None → first + length bytes.now ≤ 4096 }
     {
         if !self.is_own(trans, block) {
@@ -60,12 +60,12 @@ impl Machine {
         if len == 0 || first as usize + len > BLOCK_BYTES {
             return Some(Errno::Invalid);
         }
-        let is_unread = self.frames.is_fresh(block) || open.leg().is_stale(block);
+        let is_unread = self.frames.is_fresh(block) || opened.leg().is_stale(block);
         if is_unread && !(first == 0 && len == BLOCK_BYTES) {
             return Some(Errno::Invalid);
         }
         let marked = Chunks::mark(first, len as u32);
-        if open.leg().charge_logged(block, marked) > u64::from(open.unit()) {
+        if opened.leg().charge_logged(block, marked) > u64::from(opened.unit()) {
             return Some(Errno::NoSpace);
         }
         None
@@ -77,11 +77,11 @@ impl Machine {
         requires few { IfSome (at trans self.old.transactions) (λ t. is_in block t.leg.changes ≡ false → length t.leg.changes + length t.leg.holds < 128) }
         ensures { IfSome (at trans self.old.transactions) (λ t. state_of self.new ≡ not_fresh block (with_leg trans t (edited block content marked t.leg) (state_of self.old))) }
     {
-        let Some(mut open) = self.transactions.remove(trans) else {
+        let Some(mut opened) = self.transactions.remove(trans) else {
             return;
         };
-        open.log(block, content, marked);
-        self.transactions.put(trans, open);
+        opened.log(block, content, marked);
+        self.transactions.put(trans, opened);
         self.frames.leave_fresh(block);
     }
 
@@ -97,13 +97,13 @@ impl Machine {
         ensures ok { IfOk result (λ reply. gives reply (state_of self.new) ≡ with_trans (at trans self.old.transactions) (state_of self.old) (log_step trans block first bytes.now (state_of self.old))) }
         ensures err { OnErr result (state_of self.new ≡ state_of self.old) }
     {
-        let Some(open) = self.transactions.get(trans) else {
+        let Some(opened) = self.transactions.get(trans) else {
             return Ok(Reply::Refused(Errno::Invalid));
         };
-        if let Some(errno) = self.log_refusal(open, trans, block, first, bytes) {
+        if let Some(errno) = self.log_refusal(opened, trans, block, first, bytes) {
             return Ok(Reply::Refused(errno));
         }
-        let mut content = self.seen(open.leg(), block)?;
+        let mut content = self.seen(opened.leg(), block)?;
         content.write(first as usize, bytes.bytes());
         let marked = Chunks::mark(first, bytes.bytes().len() as u32);
         self.keep_edit(trans, block, content, marked);

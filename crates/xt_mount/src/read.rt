@@ -82,8 +82,8 @@ impl Machine {
         ensures asked { is_some result ≡ read_asks trans block (state_of self.now) (at trans self.now.transactions) }
         ensures block { IfSome result (λ asked. asked ≡ block) }
     {
-        let open = self.transactions.get(trans)?;
-        if self.read_refusal(open.leg(), trans, block.0).is_none()
+        let opened = self.transactions.get(trans)?;
+        if self.read_refusal(opened.leg(), trans, block.0).is_none()
             && self.is_absent(trans, block.0)
         {
             Some(block)
@@ -134,14 +134,14 @@ impl Machine {
         ensures ok { IfOk result (λ reply. gives reply (state_of self.new) ≡ with_trans (at trans self.old.transactions) (state_of self.old) (read_step trans block answer.now (state_of self.old))) }
         ensures err { OnErr result (state_of self.new ≡ state_of self.old) }
     {
-        let Some(open) = self.transactions.get(trans) else {
+        let Some(opened) = self.transactions.get(trans) else {
             return Ok(Reply::Refused(Errno::Invalid));
         };
-        if let Some(errno) = self.read_refusal(open.leg(), trans, block) {
+        if let Some(errno) = self.read_refusal(opened.leg(), trans, block) {
             return Ok(Reply::Refused(errno));
         }
         if self.is_absent(trans, block) {
-            let dirty = open.leg().is_dirty();
+            let dirty = opened.leg().is_dirty();
             return self.take_answer(trans, block, dirty, answer);
         }
         self.lock(trans, block);

@@ -35,7 +35,7 @@ impl Machine {
         requires { IsSound (state_of self.old) }
         ensures { gives result (state_of self.new) ≡ with_trans (at trans self.old.transactions) (state_of self.old) (relse_step [] trans block (state_of self.old)) }
     {
-        let Some(open) = self.transactions.get(trans) else {
+        let Some(opened) = self.transactions.get(trans) else {
             return Reply::Refused(Errno::Invalid);
         };
         let Some(count) = self.own_count(trans, block) else {
@@ -45,7 +45,7 @@ impl Machine {
             self.locks.lower(TransNo(trans), Block(block));
             return Reply::Kept;
         }
-        if open.leg().is_changed(block) {
+        if opened.leg().is_changed(block) {
             return Reply::Kept;
         }
         self.give_back(trans, block);

@@ -1,0 +1,12 @@
+use Rattle.std.proofs.Common.{◌≡◌, ◌≤◌, ◌+◌, length}
+use Rattle.xt_mount.specs.Ending.{fresh_lost}
+use Rattle.xt_mount.proofs.leg_end.lose_changes.Given as goal
+
+abbrev pub invariant-loop-block : goal.invariant-loop-block
+invariant-loop-block l = record {
+  fresh : fresh_lost l.opened.leg.changes l.opened.leg l.frames ≡ fresh_lost l.fn.opened.leg.changes l.fn.opened.leg l.fn.frames;
+  room : length l.frames.fresh + length l.opened.leg.changes ≤ 128;
+}
+
+abbrev pub decreases-loop-block : goal.decreases-loop-block
+decreases-loop-block l = length l.opened.leg.changes
