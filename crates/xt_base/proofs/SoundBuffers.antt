@@ -132,7 +132,7 @@ each_unlike : {V : Type 0} (b : ℕ) (es : List (ℕ × V)) → is_in b es ≡ f
 each_unlike b es absent = each_map (λ e. is_in e.0 es ≡ true) (λ e. e.0 ≢ b) es (λ e there same. false≢true (sym absent ∙ sym (ap (λ (x : ℕ). is_in x es) same) ∙ there)) (each_own es)
 
 -- what a transaction has is not elsewhere
-own_here : (there mine : Bool) → mine ≡ true → (there && not mine) ≡ false
+pub own_here : (there mine : Bool) → mine ≡ true → (there && not mine) ≡ false
 own_here there mine own = and_right there (not mine) (not_from_true mine own)
 
 module _ (dropped : Dropped) (t b : ℕ) (s : State) (trans : Transaction) (h : IsSound s) (is : at t s.transactions ≡ Some trans) where

@@ -56,7 +56,7 @@ busy_too q b busy here h =
     ]
 
 -- what somebody has and nobody else is one's own
-mine_if : (there mine : Bool) → there ≡ true → (there && not mine) ≡ false → mine ≡ true
+pub mine_if : (there mine : Bool) → there ≡ true → (there && not mine) ≡ false → mine ≡ true
 mine_if there true h free = refl
 mine_if true false h free = absurd (cc)
 mine_if false false h free = absurd (cc)
