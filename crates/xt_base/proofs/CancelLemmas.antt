@@ -1,25 +1,26 @@
 -- A transaction that only looks leaves no trace when it is cancelled.
-use Rattle.std.proofs.Common.{◌≡◌, ◌≢◌, ◌∙◌, ◌⊎◌, ◌+◌, ◌-◌, ◌*◌, ◌<◌, ◌≤◌, ◌∷◌, Bool, List, None, Option, Some, [], ap, arith, cond, false, inl, inr, length, refl, subst, sym, true, ℕ}
-use Rattle.std.proofs.lemmas.Bool.{and_parts, cases_Bool, cases_eq, cases_order, eqb-true, false_from_ne_true, false≢true, ltb-false, not-true, or_parts, or_right}
+use Rattle.std.proofs.Common.{◌≡◌, ◌∙◌, ◌+◌, ◌-◌, ◌*◌, ◌<◌, ◌≤◌, ◌∷◌, Bool, List, None, Option, Some, [], ap, arith, cond, false, inl, inr, refl, subst, sym, true, ℕ}
+use Rattle.std.proofs.lemmas.Bool.{and_parts, cases_Bool, cases_eq, cases_order, eqb-true, false_from_ne_true, false≢true, not-true, or_parts, or_right}
 use Rattle.std.specs.List.{cons_option}
-use Rattle.std.specs.Prelude.{filter, filter_map, if◌then◌else◌, is_none, is_some, nat_le, nat_lt, not, ◌&&◌, ◌==◌, ◌||◌}
+use Rattle.std.specs.Prelude.{filter, filter_map, if◌then◌else◌, is_some, nat_le, nat_lt, not, ◌&&◌, ◌==◌, ◌||◌}
 use Rattle.xt_base.proofs.BusyLemmas.{is_busy_in}
 use Rattle.xt_base.proofs.KeyLemmas.{each_has, filter_with_member, is_in_filter_map, is_in_first}
 use Rattle.xt_base.proofs.LegLemmas.{keeps_owner_aborted, own_itself}
 use Rattle.xt_base.proofs.MapLemmas.{at_first, at_later, at_put_same, put_less, put_more, put_same, set_at_same, without_first, without_later}
+use Rattle.xt_base.proofs.OwnerNumbers.{none_given}
 use Rattle.xt_base.proofs.RisingLemmas.{each_map, filter_drop, filter_pass}
 use Rattle.xt_base.proofs.SoundBuffers.{own_here}
 use Rattle.xt_base.proofs.SoundCalls.{sound_call}
 use Rattle.xt_base.proofs.SoundParts.{busy_owned, mine_if}
 use Rattle.xt_base.proofs.SoundSteps.{is_none_not, passes_first}
 use Rattle.xt_base.proofs.StillLemmas.{fact_either, fact_if, fact_unless}
-use Rattle.xt_base.specs.Calls.{Outcome, alloc, alloc_refusals, allocated, alone_with, answered, asks_ckpt, asks_flush, at_end, brought, busied, cancel, closed, first_of, get, get_refusals, gives, is_absent, is_elsewhere, is_fresh, is_own, is_resident, locked, made_fresh, new_trans, read, read_refusals, released, relse, seen, unless, unowned, view, with_leg, with_owner, with_trans, without_hold}
-use Rattle.xt_base.specs.Laws.{after_calls, is_look}
-use Rattle.xt_base.specs.Legs.{aborted, clean_leg, is_stale, own_count, owned_by, owner_aborted}
-use Rattle.xt_base.specs.Maps.{at, has, is_in, put, with_member, without}
+use Rattle.xt_base.specs.Calls.{Outcome, alloc, alloc_refusals, allocated, alone_with, answered, asks_ckpt, asks_flush, at_end, brought, cancel, first_of, get, get_refusals, gives, is_absent, is_elsewhere, is_fresh, is_own, is_resident, locked, new_trans, read, read_refusals, released, relse, seen, unless, unowned, view, with_leg, with_owner, with_trans, without_hold}
+use Rattle.xt_base.specs.Laws.{AreGiven, after_calls, is_look}
+use Rattle.xt_base.specs.Legs.{clean_leg, is_stale, own_count, owned_by, owner_aborted}
+use Rattle.xt_base.specs.Maps.{at, is_in, put, without}
 use Rattle.xt_base.specs.Settle.{settled}
 use Rattle.xt_base.specs.Sound.{Each, IsSound, IsUnwritten}
-use Rattle.xt_base.specs.Space.{busy_count, greatest, is_busy, is_listed, used}
+use Rattle.xt_base.specs.Space.{busy_count, is_busy, is_listed, used}
 use Rattle.xt_base.specs.State.{Items, IsWithoutTrace, State, Transaction}
 use Rattle.xt_base.specs.declared.steps.Answer.{Answer}
 use Rattle.xt_base.specs.declared.steps.Errno.{Errno}
@@ -319,12 +320,12 @@ module _ (s : State) (h : IsSound s) (unit count : ℕ) (perm : Bool) (looks : L
       subst (λ o. IsWithoutTrace s (with_trans o n (cancel [] t n)).state) (sym (there t unit count perm s n run.0 run.1)) (cancelled t unit count perm s n run.0 run.1 below)
 
   -- after an alloc, looks and a cancel, there is no trace
-  pub clean_cancel : (t : ℕ) → Each (λ e. owned_by t e.1 ≡ false) s.owners → (alloc unit count perm s).reply ≡ Reply.Trans t → Each (λ x. is_look t x.0 ≡ true) looks
+  pub clean_cancel : AreGiven s → (t : ℕ) → (alloc unit count perm s).reply ≡ Reply.Trans t → Each (λ x. is_look t x.0 ≡ true) looks
       → IsWithoutTrace s (alone_with [] (Request.Cancel t) answer (after_calls looks (alloc unit count perm s).state)).state
-  clean_cancel t new given all =
+  clean_cancel numbers t given all =
       let outcome : alloc unit count perm s ≡ allocated unit count perm s = alloc_given unit count t perm s given in
       let same : s.last_trans + 1 ≡ t = trans_replied (s.last_trans + 1) t (sym (ap (λ (o : Outcome). o.reply) outcome) ∙ given) in
       let m : State = (alloc unit count perm s).state in
       let sound : IsSound m = sound_call [] (Request.Alloc unit count perm) answer s h in
-      subst (λ (x : ℕ). Each (λ e. owned_by x e.1 ≡ false) s.owners → Each (λ y. is_look x y.0 ≡ true) looks → IsWithoutTrace s (alone_with [] (Request.Cancel x) answer (after_calls looks m)).state) same
-      (from_start m (ap (λ (o : Outcome). o.state) outcome) sound) new all
+      subst (λ (x : ℕ). Each (λ y. is_look x y.0 ≡ true) looks → IsWithoutTrace s (alone_with [] (Request.Cancel x) answer (after_calls looks m)).state) same
+      (from_start m (ap (λ (o : Outcome). o.state) outcome) sound (none_given s numbers)) all

@@ -1,8 +1,9 @@
 -- Words of the laws: what looks alike to a transaction, and which requests name it.
-use Rattle.std.specs.Prelude.{Bool, List, [], false, true, ℕ, ◌&&◌, ◌==◌, ◌∷◌, ◌≡◌}
+use Rattle.std.specs.Prelude.{Bool, List, [], false, true, ℕ, ◌&&◌, ◌==◌, ◌∷◌, ◌≡◌, ◌≤◌}
 use Rattle.xt_base.specs.Calls.{alone_with, is_fresh, is_own}
-use Rattle.xt_base.specs.Legs.{own_count}
+use Rattle.xt_base.specs.Legs.{own_count, owned_by}
 use Rattle.xt_base.specs.Maps.{at}
+use Rattle.xt_base.specs.Sound.{Each}
 use Rattle.xt_base.specs.State.{State}
 use Rattle.xt_base.specs.Text.{content_at}
 use Rattle.xt_base.specs.declared.steps.Answer.{Answer}
@@ -40,6 +41,10 @@ names t (Request.Commit u) = u == t
 names t (Request.Roll u) = u == t
 names t (Request.Cancel u) = u == t
 names t other = false
+
+-- each transaction that has a block has a number that was given
+abbrev pub AreGiven : State → Type 0
+AreGiven s = Each (λ e. (t : ℕ) → owned_by t e.1 ≡ true → t ≤ s.last_trans) s.owners
 
 -- the calls by which a transaction only looks: get, read, view, relse
 abbrev pub is_look : ℕ → Request → Bool
