@@ -253,6 +253,7 @@ module _ (t b : ℕ) (s : State) (h : IsSound s) (own : is_own s t b ≡ true) w
   with_other : (u : ℕ) (f : Transaction → Outcome) → (u == t) ≡ false → ((trans : Transaction) → u ≢ t → at u s.transactions ≡ Some trans → IsStill t b s (f trans).state) → IsStill t b s (with_trans (at u s.transactions) s f).state
   with_other u f other each = fact_with_trans (IsStill t b s) (at u s.transactions) s f (still_same t b s) (λ trans is. each trans (λ same. eqb-false u t other same) is)
 
+  -- such a call
   pub still_call : (request : Request) (answer : Answer) (dropped : Dropped) → is_in t s.transactions ≡ true → names t request ≡ false → IsStill t b s (alone_with dropped request answer s).state
   still_call (Request.Alloc unit count perm) answer dropped there other = still_alloc unit count perm there
   still_call (Request.Get u c) answer dropped there other = with_other u (λ trans. get u c s) other (λ trans apart is. still_get u c apart)
