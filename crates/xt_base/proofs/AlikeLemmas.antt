@@ -9,7 +9,7 @@ use Rattle.xt_base.specs.Legs.{change_of, is_stale, own_count}
 use Rattle.xt_base.specs.Maps.{at, has, is_in, with_member}
 use Rattle.xt_base.specs.Settle.{Dropped, settled}
 use Rattle.xt_base.specs.Space.{charge}
-use Rattle.xt_base.specs.State.{Frames, Leg, State, Transaction}
+use Rattle.xt_base.specs.State.{Leg, State, Transaction}
 use Rattle.xt_base.specs.Text.{content_at, zeros}
 use Rattle.xt_base.specs.declared.steps.Answer.{Answer}
 use Rattle.xt_base.specs.declared.steps.Errno.{Errno}

@@ -1,5 +1,5 @@
 -- Which keys a map has after a change, and rising sets of numbers.
-use Rattle.std.proofs.Common.{◌≡◌, ◌≢◌, ◌∙◌, ◌⊎◌, ◌+◌, ◌<◌, ◌≤◌, ◌∷◌, Bool, List, None, Option, Some, [], ap, arith, false, inl, inr, length, refl, subst, suc, sym, true, ℕ}
+use Rattle.std.proofs.Common.{◌≡◌, ◌≢◌, ◌∙◌, ◌⊎◌, ◌+◌, ◌<◌, ◌≤◌, ◌∷◌, Bool, List, None, Option, Some, [], ap, arith, cond, false, inl, inr, length, refl, subst, suc, sym, true, ℕ}
 use Rattle.std.proofs.lemmas.Bool.{cases_Bool, cases_eq, cases_order, eq-eqb, false≢true, ne_eqb, or_parts}
 use Rattle.std.proofs.lemmas.Bool.Decides.{nat_tests}
 use Rattle.std.specs.List.{cons_option}
@@ -256,4 +256,14 @@ has_with_member q n (k ∷ ks) other =
       | inl same ↦ ap (λ xs. has xs q) (with_same n k ks same)
       | inr (inl lt) ↦ ap (λ xs. has xs q) (with_less n k ks lt) ∙ ap (λ b. b || has (k ∷ ks) q) (ne_eqb q n other)
       | inr (inr lt) ↦ ap (λ xs. has xs q) (with_more n k ks lt) ∙ ap (λ b. (q == k) || b) (has_with_member q n ks other)
+    ]
+
+-- a filter that does not keep a number keeps the same of a set with it
+pub filter_with_member : (p : ℕ → Bool) (n : ℕ) (ks : List ℕ) → p n ≡ false → filter p (with_member n ks) ≡ filter p ks
+filter_with_member p n [] h = filter_drop p n [] h
+filter_with_member p n (k ∷ ks) h =
+    elim (cases_order n k) [
+      | inl same ↦ ap (filter p) (with_same n k ks same)
+      | inr (inl lt) ↦ ap (filter p) (with_less n k ks lt) ∙ filter_drop p n (k ∷ ks) h
+      | inr (inr lt) ↦ ap (filter p) (with_more n k ks lt) ∙ ap (λ zs. cond (p k) (k ∷ zs) zs) (filter_with_member p n ks h)
     ]

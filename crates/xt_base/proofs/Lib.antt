@@ -20,6 +20,8 @@ pub mod SoundBounds
 pub mod AlikeLemmas
 pub mod StillLemmas
 pub mod StillCalls
+pub mod OwnerNumbers
+pub mod CancelLemmas
 mod RowsBuffers
 mod RowsJobs
 mod RowsManyBusy

@@ -1,16 +1,16 @@
 -- The requests on buffers keep a mount sound: read, hold, unhold, relse, join and release, and get and log with their refusals.
-use Rattle.std.proofs.Common.{◌≡◌, ◌≢◌, ◌∙◌, ◌⊎◌, ◌+◌, ◌-◌, ◌<◌, ◌≤◌, ◌∷◌, Bool, List, None, Option, Some, [], ap, arith, false, inl, inr, length, refl, subst, sym, true, ℕ}
+use Rattle.std.proofs.Common.{◌≡◌, ◌≢◌, ◌∙◌, ◌⊎◌, ◌-◌, ◌<◌, ◌≤◌, ◌∷◌, Bool, List, None, Option, Some, [], ap, arith, false, inl, inr, refl, sym, true, ℕ}
 use Rattle.std.proofs.lemmas.Bool.{and_right, false≢true, leb-false, not-false, not_from_true, or_parts}
-use Rattle.std.specs.Prelude.{if◌then◌else◌, is_none, is_some, nat_le, nat_lt, not, ◌&&◌, ◌==◌, ◌||◌}
+use Rattle.std.specs.Prelude.{if◌then◌else◌, is_some, nat_le, nat_lt, not, ◌&&◌, ◌==◌, ◌||◌}
 use Rattle.xt_base.proofs.BusyLemmas.{each_own}
 use Rattle.xt_base.proofs.KeyLemmas.{each_with_member, each_without_member, rises_keys_filter, rises_keys_with}
 use Rattle.xt_base.proofs.LegLemmas.{own_one, owned_there}
 use Rattle.xt_base.proofs.RisingLemmas.{each_at, each_filter, each_map, each_set_at, each_set_other}
 use Rattle.xt_base.proofs.SoundParts.{IsApart, apart_from, busy_owned, none_else, parts_leg, parts_unowned}
 use Rattle.xt_base.proofs.SoundSteps.{left_true, passes_first, sound_either, sound_get, sound_locked, sound_log, sound_owner_busy, sound_owner_content, sound_settling, sound_shut_down, sound_unless}
-use Rattle.xt_base.specs.Calls.{Outcome, answered, at_end, busied, first_of, get, get_refusals, gives, hold, is_absent, is_elsewhere, is_fresh, is_held, is_own, join, join_refusals, locked, log, log_refusals, logged_leg, not_fresh, read, read_refusals, release, released, relse, shut_if, unhold, unless, unowned, with_leg, with_owner, without_hold}
+use Rattle.xt_base.specs.Calls.{answered, at_end, first_of, get, get_refusals, gives, hold, is_absent, is_elsewhere, is_fresh, is_held, is_own, join, join_refusals, locked, log, log_refusals, logged_leg, not_fresh, read, read_refusals, release, released, relse, shut_if, unhold, unowned, with_leg, with_owner, without_hold}
 use Rattle.xt_base.specs.Legs.{is_dirty, is_stale, own_count}
-use Rattle.xt_base.specs.Maps.{at, has, is_in, set_at, with_member, without, without_member}
+use Rattle.xt_base.specs.Maps.{at, has, is_in, set_at, with_member, without_member}
 use Rattle.xt_base.specs.Settle.{Dropped, settled}
 use Rattle.xt_base.specs.Sound.{Each, IsFair, IsSound, IsUnwritten, Owns, RisesFromKeys}
 use Rattle.xt_base.specs.Space.{busy_count, is_busy, is_listed}
@@ -132,7 +132,7 @@ each_unlike : {V : Type 0} (b : ℕ) (es : List (ℕ × V)) → is_in b es ≡ f
 each_unlike b es absent = each_map (λ e. is_in e.0 es ≡ true) (λ e. e.0 ≢ b) es (λ e there same. false≢true (sym absent ∙ sym (ap (λ (x : ℕ). is_in x es) same) ∙ there)) (each_own es)
 
 -- what a transaction has is not elsewhere
-own_here : (there mine : Bool) → mine ≡ true → (there && not mine) ≡ false
+pub own_here : (there mine : Bool) → mine ≡ true → (there && not mine) ≡ false
 own_here there mine own = and_right there (not mine) (not_from_true mine own)
 
 module _ (dropped : Dropped) (t b : ℕ) (s : State) (trans : Transaction) (h : IsSound s) (is : at t s.transactions ≡ Some trans) where
@@ -141,9 +141,10 @@ module _ (dropped : Dropped) (t b : ℕ) (s : State) (trans : Transaction) (h : 
   sound_freed own unchanged =
       let fair : IsFair s.owners (t, trans) = each_at (IsFair s.owners) t trans s.transactions is h.parts.fair in
       sound_unowned dropped b (with_leg t trans (without_hold b trans.leg) s) (sound_without_hold t b s trans h is)
-      (each_set_other (IsApart b) 0 t (record trans { leg = without_hold b trans.leg }) s.transactions h.parts.transactions_rise
-      (each_unlike b trans.leg.changes unchanged,
-      each_map (λ q. Owns s.owners t q × (q ≢ b)) (λ q. q ≢ b) (without_member b trans.leg.holds) (λ q both. both.1) (each_without_member (λ q. Owns s.owners t q) b trans.leg.holds fair.holds_owned))
+      (each_set_other (IsApart b) 0 t (record trans { leg = without_hold b trans.leg }) s.transactions h.parts.transactions_rise (
+        each_unlike b trans.leg.changes unchanged,
+        each_map (λ q. Owns s.owners t q × (q ≢ b)) (λ q. q ≢ b) (without_member b trans.leg.holds) (λ q both. both.1) (each_without_member (λ q. Owns s.owners t q) b trans.leg.holds fair.holds_owned),
+      )
       (each_map (IsFair s.owners) (λ e. e.0 ≢ t → IsApart b e) s.transactions
       (λ e other_fair other. apart_from b s.owners e other_fair (λ theirs. other (own_one e.0 t (at b s.owners) theirs own))) h.parts.fair))
 

@@ -1,21 +1,21 @@
 -- Forces to a number and flushes keep a mount sound.
-use Rattle.std.proofs.Common.{◌≡◌, ◌∙◌, ◌≤◌, ◌∷◌, Bool, List, None, Option, Some, [], ap, false, length, refl, sym, true, ℕ}
+use Rattle.std.proofs.Common.{◌≡◌, ◌∙◌, Bool, List, None, false, length, refl, sym, true, ℕ}
 use Rattle.std.proofs.lemmas.Bool.{false_from_ne_true, false≢true}
-use Rattle.std.specs.Prelude.{filter, if◌then◌else◌, is_none, not, ◌&&◌, ◌==◌}
+use Rattle.std.specs.Prelude.{filter, if◌then◌else◌, not, ◌&&◌, ◌==◌}
 use Rattle.xt_base.proofs.KeyLemmas.{is_in_filter}
 use Rattle.xt_base.proofs.RisingLemmas.{each_map}
 use Rattle.xt_base.proofs.SoundParts.{parts_cleaned}
 use Rattle.xt_base.proofs.SoundSteps.{left_true, listed_parts, sound_asks_ckpt, sound_either, sound_jobs, sound_settling, sound_unless, unlisted_by}
 use Rattle.xt_base.specs.Calls.{Outcome, asks_ckpt, first_of, force_to, force_to_refusals, gives, is_flight}
-use Rattle.xt_base.specs.Jobs.{cleaned, finished, flush, flush_of, flush_plan, flushed, gone, renewed, unflushed}
+use Rattle.xt_base.specs.Jobs.{cleaned, finished, flush, flush_plan, flushed, gone, renewed, unflushed}
 use Rattle.xt_base.specs.Maps.{has, is_in}
-use Rattle.xt_base.specs.Settle.{Dropped, settled}
+use Rattle.xt_base.specs.Settle.{Dropped}
 use Rattle.xt_base.specs.Sound.{IsReady, IsSound, IsUnwritten}
 use Rattle.xt_base.specs.Space.{flight_items, is_busy, is_listed, is_needed}
 use Rattle.xt_base.specs.State.{Items, State}
 use Rattle.xt_base.specs.declared.names.JobKind.{JobKind}
 use Rattle.xt_base.specs.declared.steps.HomeAnswers.{HomeAnswers}
-use Rattle.xt_base.specs.declared.steps.Reply.TheVariants.{Done, Flushed, Nothing, Wait}
+use Rattle.xt_base.specs.declared.steps.Reply.TheVariants.{Done, Nothing, Wait}
 
 -- a force to a number
 pub sound_force_to : (number : ℕ) (s : State) → IsSound s → IsSound (force_to number s).state

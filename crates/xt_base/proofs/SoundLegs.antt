@@ -1,19 +1,19 @@
 -- The ends of a leg keep a mount sound: inval, cancel and roll.
-use Rattle.std.proofs.Common.{◌≡◌, ◌≢◌, ◌∙◌, ◌⊎◌, ◌+◌, ◌-◌, ◌*◌, ◌<◌, ◌≤◌, ◌∷◌, Bool, List, None, Option, Some, [], ap, arith, false, inl, inr, length, refl, subst, suc, sym, true, zero, ℕ}
+use Rattle.std.proofs.Common.{◌≡◌, ◌∙◌, ◌⊎◌, ◌+◌, ◌-◌, ◌*◌, ◌≤◌, ◌∷◌, Bool, List, None, Some, [], ap, arith, false, inl, inr, length, refl, subst, suc, sym, true, zero, ℕ}
 use Rattle.std.proofs.Math.Nat.{mul-suc}
 use Rattle.std.proofs.lemmas.Bool.{and_cases, cases_Bool, eq-eqb, false≢true, ltb-false, ltb-true, ne_eqb, not-false}
-use Rattle.std.specs.Prelude.{filter, filter_map, if◌then◌else◌, is_none, is_some, nat_lt, not, ◌&&◌, ◌==◌, ◌||◌}
+use Rattle.std.specs.Prelude.{if◌then◌else◌, is_none, is_some, nat_lt, not, ◌==◌}
 use Rattle.xt_base.proofs.KeyLemmas.{rises_keys_filter}
 use Rattle.xt_base.proofs.LegLemmas.{rises_with_edits, rises_with_lost}
 use Rattle.xt_base.proofs.RisingLemmas.{each_at, each_filter, each_map, each_put, each_set_at, each_without, rises_filter, rises_put}
 use Rattle.xt_base.proofs.SoundParts.{cost_added, granted_less, parts_aborted, parts_given_up, parts_rolled}
-use Rattle.xt_base.proofs.SoundSteps.{charge_granted, is_none_not, is_none_some, left_true, listed_parts, not_marked, passes_first, ready_ended, shut_for_some, sound_asks_ckpt, sound_asks_flush, sound_changed, sound_either, sound_settling, sound_unless, unlisted_by}
-use Rattle.xt_base.specs.Calls.{Outcome, asks_ckpt, asks_flush, cancel, closed, commit_number, first_of, gives, held_of, inval, inval_refusals, invalidated, io_of, is_no_room, is_own, legs_after, not_fresh, okay_of, roll, shut_down, shut_if, ungranted, unless, with_leg, with_legs}
+use Rattle.xt_base.proofs.SoundSteps.{is_none_not, is_none_some, left_true, listed_parts, not_marked, passes_first, ready_ended, shut_for_some, sound_asks_ckpt, sound_asks_flush, sound_changed, sound_either, sound_settling, sound_unless, unlisted_by}
+use Rattle.xt_base.specs.Calls.{Outcome, asks_ckpt, asks_flush, cancel, closed, commit_number, first_of, gives, held_of, inval, inval_refusals, invalidated, io_of, is_no_room, is_own, legs_after, not_fresh, roll, shut_down, shut_if, ungranted, with_leg, with_legs}
 use Rattle.xt_base.specs.Legs.{aborted, change_of, clean_leg, ended, is_dirty, is_lost, is_stale, with_lost}
-use Rattle.xt_base.specs.Maps.{at, is_in, put, set_at, without, without_member}
+use Rattle.xt_base.specs.Maps.{at, is_in, without_member}
 use Rattle.xt_base.specs.Settle.{Dropped, settled}
 use Rattle.xt_base.specs.Sound.{Each, IsCovered, IsFair, IsSound, IsUnwritten, Owns}
-use Rattle.xt_base.specs.Space.{charge, cost, flight_items, granted, is_busy, is_listed, used}
+use Rattle.xt_base.specs.Space.{charge, flight_items, is_busy, is_listed, used}
 use Rattle.xt_base.specs.State.{Change, Leg, State, Transaction}
 use Rattle.xt_base.specs.declared.steps.Errno.TheVariants.{Again, Invalid, NoSpace}
 use Rattle.xt_base.specs.declared.steps.Owner.{Owner}

@@ -56,7 +56,7 @@ busy_too q b busy here h =
     ]
 
 -- what somebody has and nobody else is one's own
-mine_if : (there mine : Bool) → there ≡ true → (there && not mine) ≡ false → mine ≡ true
+pub mine_if : (there mine : Bool) → there ≡ true → (there && not mine) ≡ false → mine ≡ true
 mine_if there true h free = refl
 mine_if true false h free = absurd (cc)
 mine_if false false h free = absurd (cc)
@@ -100,9 +100,10 @@ fair_without b owners e fair apart =
 
 -- a leg is apart from what its transaction does not have
 pub apart_from : (b : ℕ) (owners : List (ℕ × Owner)) (e : ℕ × Transaction) → IsFair owners e → (Owns owners e.0 b → ⊥) → IsApart b e
-apart_from b owners e fair none =
-    (each_map (λ c. Owns owners e.0 c.0) (λ c. c.0 ≢ b) e.1.leg.changes (λ c own same. none (subst (λ (x : ℕ). Owns owners e.0 x) same own)) fair.owned,
-    each_map (λ q. Owns owners e.0 q) (λ q. q ≢ b) e.1.leg.holds (λ q own same. none (subst (λ (x : ℕ). Owns owners e.0 x) same own)) fair.holds_owned)
+apart_from b owners e fair none = (
+  each_map (λ c. Owns owners e.0 c.0) (λ c. c.0 ≢ b) e.1.leg.changes (λ c own same. none (subst (λ (x : ℕ). Owns owners e.0 x) same own)) fair.owned,
+  each_map (λ q. Owns owners e.0 q) (λ q. q ≢ b) e.1.leg.holds (λ q own same. none (subst (λ (x : ℕ). Owns owners e.0 x) same own)) fair.holds_owned,
+)
 
 -- ---- the flight between the landed and the open checkpoints
 between_committed : (o : Option Flight) (l : Items) (cil : List (ℕ × List ℕ)) → IsBetween o l → IsBetween o (record l { cil = cil })

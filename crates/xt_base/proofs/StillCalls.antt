@@ -1,7 +1,7 @@
 -- No call but one that names it, and no job, changes a transaction's record or a block that it has.
-use Rattle.std.proofs.Common.{◌≡◌, ◌≢◌, ◌∙◌, ◌⊎◌, ◌+◌, ◌-◌, ◌*◌, ◌≤◌, ◌∷◌, Bool, List, None, Option, Some, [], ap, arith, false, length, refl, subst, sym, true, ℕ}
-use Rattle.std.proofs.lemmas.Bool.{eqb-false, ne_eqb, not-false, or_parts}
-use Rattle.std.specs.Prelude.{filter, if◌then◌else◌, is_none, is_some, nat_le, nat_lt, not, ◌&&◌, ◌==◌, ◌||◌}
+use Rattle.std.proofs.Common.{◌≡◌, ◌≢◌, ◌∙◌, ◌+◌, ◌-◌, ◌*◌, ◌≤◌, ◌∷◌, Bool, List, None, Option, Some, [], ap, arith, false, length, refl, subst, sym, true, ℕ}
+use Rattle.std.proofs.lemmas.Bool.{eqb-false, not-false}
+use Rattle.std.specs.Prelude.{filter, if◌then◌else◌, is_some, nat_le, nat_lt, not, ◌&&◌, ◌==◌, ◌||◌}
 use Rattle.xt_base.proofs.LegLemmas.{own_one, own_trans}
 use Rattle.xt_base.proofs.MapLemmas.{at_put_other}
 use Rattle.xt_base.proofs.RisingLemmas.{each_at, each_in}
@@ -9,19 +9,18 @@ use Rattle.xt_base.proofs.SoundBuffers.{held_no_trans}
 use Rattle.xt_base.proofs.SoundParts.{apart_from, none_else}
 use Rattle.xt_base.proofs.SoundSteps.{passes_first}
 use Rattle.xt_base.proofs.StillLemmas.{IsStill, fact_either, fact_if, fact_unless, fact_with_trans, still_aborted, still_busied, still_closed, still_ended, still_landed, still_leg, still_legs, still_made_fresh, still_not_fresh, still_owner, still_same, still_settled, still_shut_if, still_then, still_unowned}
-use Rattle.xt_base.specs.Calls.{Outcome, alloc, alloc_refusals, allocated, alone_with, answered, asks_ckpt, asks_flush, at_end, brought, busied, cancel, closed, commit, commit_number, edited, first_of, force, force_to, force_to_refusals, get, get_refusals, gives, held_of, hold, inval, inval_refusals, invalidated, io_of, is_absent, is_elsewhere, is_flight, is_fresh, is_held, is_kept, is_no_room, is_own, join, join_refusals, legs_after, locked, log, log_refusals, logged_leg, made_fresh, new_trans, not_fresh, push, read, read_refusals, release, released, relse, roll, seen, shut_down, shut_if, unhold, unless, unmount, unowned, view, waits_for, with_leg, with_legs, with_owner, with_trans, without_hold}
+use Rattle.xt_base.specs.Calls.{Outcome, alloc, alloc_refusals, allocated, alone_with, answered, asks_ckpt, asks_flush, at_end, brought, busied, cancel, closed, commit, commit_number, edited, first_of, force, force_to, force_to_refusals, get, get_refusals, gives, held_of, hold, inval, inval_refusals, invalidated, io_of, is_absent, is_elsewhere, is_flight, is_fresh, is_held, is_kept, is_no_room, is_own, join, join_refusals, legs_after, locked, log, log_refusals, logged_leg, made_fresh, new_trans, not_fresh, push, read, read_refusals, release, released, relse, roll, seen, shut_down, shut_if, unhold, unmount, unowned, view, waits_for, with_leg, with_legs, with_owner, with_trans, without_hold}
 use Rattle.xt_base.specs.Chunks.{marks}
-use Rattle.xt_base.specs.Jobs.{begin, begun, cleaned, end, end_of, failed, finished, flown, flush, flush_plan, flushed, gone, is_ok, landed, landed_items, next_pieces, posted, renewed, unflushed, waits_on}
+use Rattle.xt_base.specs.Jobs.{begin, begun, cleaned, end, end_of, failed, finished, flush, flush_plan, flushed, gone, is_ok, landed, landed_items, next_pieces, posted, renewed, unflushed, waits_on}
 use Rattle.xt_base.specs.Laws.{names}
 use Rattle.xt_base.specs.Legs.{aborted, ended, is_dirty, is_stale, own_count}
-use Rattle.xt_base.specs.Maps.{at, has, is_in, put, with_member}
+use Rattle.xt_base.specs.Maps.{at, has, is_in, with_member}
 use Rattle.xt_base.specs.Settle.{Dropped, settled}
 use Rattle.xt_base.specs.Sound.{Each, IsFair, IsSound, Owns}
-use Rattle.xt_base.specs.Space.{busy_count, charge, greatest, is_busy, used}
+use Rattle.xt_base.specs.Space.{busy_count, charge, is_busy, used}
 use Rattle.xt_base.specs.State.{Flight, Leg, State, Transaction}
 use Rattle.xt_base.specs.declared.names.JobKind.{JobKind}
 use Rattle.xt_base.specs.declared.steps.Answer.{Answer}
-use Rattle.xt_base.specs.declared.steps.Errno.{Errno}
 use Rattle.xt_base.specs.declared.steps.Errno.TheVariants.{Again, Busy, Invalid, Io, NoBufs, NoSpace}
 use Rattle.xt_base.specs.declared.steps.HomeAnswers.{HomeAnswers}
 use Rattle.xt_base.specs.declared.steps.LogAnswers.{LogAnswers}
@@ -254,6 +253,7 @@ module _ (t b : ℕ) (s : State) (h : IsSound s) (own : is_own s t b ≡ true) w
   with_other : (u : ℕ) (f : Transaction → Outcome) → (u == t) ≡ false → ((trans : Transaction) → u ≢ t → at u s.transactions ≡ Some trans → IsStill t b s (f trans).state) → IsStill t b s (with_trans (at u s.transactions) s f).state
   with_other u f other each = fact_with_trans (IsStill t b s) (at u s.transactions) s f (still_same t b s) (λ trans is. each trans (λ same. eqb-false u t other same) is)
 
+  -- such a call
   pub still_call : (request : Request) (answer : Answer) (dropped : Dropped) → is_in t s.transactions ≡ true → names t request ≡ false → IsStill t b s (alone_with dropped request answer s).state
   still_call (Request.Alloc unit count perm) answer dropped there other = still_alloc unit count perm there
   still_call (Request.Get u c) answer dropped there other = with_other u (λ trans. get u c s) other (λ trans apart is. still_get u c apart)

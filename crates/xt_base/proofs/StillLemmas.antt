@@ -1,24 +1,23 @@
 -- What leaves a transaction's record and one of its blocks as they were.
-use Rattle.std.proofs.Common.{◌≡◌, ◌≢◌, ◌∙◌, ◌⊎◌, ◌+◌, ◌∷◌, Bool, List, None, Option, Some, [], ap, false, inl, inr, length, refl, subst, sym, true, ℕ}
-use Rattle.std.proofs.lemmas.Bool.{and_left, eqb-false, false_from_ne_true, false≢true, ne_eqb}
-use Rattle.std.specs.Prelude.{filter, filter_map, if◌then◌else◌, is_none, is_some, not, unwrap_or, ◌&&◌, ◌==◌, ◌||◌}
+use Rattle.std.proofs.Common.{◌≡◌, ◌≢◌, ◌∙◌, ◌∷◌, Bool, List, None, Option, Some, [], ap, false, refl, sym, true, ℕ}
+use Rattle.std.proofs.lemmas.Bool.{and_left, false_from_ne_true, ne_eqb}
+use Rattle.std.specs.Prelude.{filter, if◌then◌else◌, is_some, not, unwrap_or, ◌==◌}
 use Rattle.xt_base.proofs.KeyLemmas.{at_filter, at_filter_kept, at_filter_map, has_filter, has_with_member}
-use Rattle.xt_base.proofs.LegLemmas.{keeps_owner_aborted, keeps_owner_after, other_trans, own_itself, own_trans}
+use Rattle.xt_base.proofs.LegLemmas.{keeps_owner_aborted, keeps_owner_after, other_trans}
 use Rattle.xt_base.proofs.MapLemmas.{at_put_other, at_set_other, at_without_other}
 use Rattle.xt_base.proofs.RisingLemmas.{each_in}
 use Rattle.xt_base.proofs.SoundParts.{busy_owned}
-use Rattle.xt_base.specs.Calls.{Outcome, busied, closed, first_of, gives, is_own, made_fresh, not_fresh, shut_down, shut_if, unless, unowned, with_leg, with_legs, with_owner, with_trans}
+use Rattle.xt_base.specs.Calls.{Outcome, busied, closed, made_fresh, not_fresh, shut_if, unless, unowned, with_leg, with_legs, with_owner, with_trans}
 use Rattle.xt_base.specs.Jobs.{waits_on}
 use Rattle.xt_base.specs.Laws.{LooksAlike}
-use Rattle.xt_base.specs.Legs.{aborted, clean_leg, ended, is_lost, is_stale, own_count, owned_by, owner_aborted, owner_after, with_edit, with_edits, with_lost}
-use Rattle.xt_base.specs.Maps.{at, has, is_in, put, set_at, with_member, without, without_member}
+use Rattle.xt_base.specs.Legs.{aborted, clean_leg, ended, is_lost, is_stale, own_count, owner_aborted, owner_after, with_edit, with_edits, with_lost}
+use Rattle.xt_base.specs.Maps.{at, has, is_in, with_member}
 use Rattle.xt_base.specs.Settle.{Dropped, settled}
 use Rattle.xt_base.specs.Sound.{Each}
 use Rattle.xt_base.specs.Space.{is_busy}
 use Rattle.xt_base.specs.State.{Change, Leg, State, Transaction}
-use Rattle.xt_base.specs.Text.{content_at, zeros}
+use Rattle.xt_base.specs.Text.{zeros}
 use Rattle.xt_base.specs.declared.steps.Errno.{Errno}
-use Rattle.xt_base.specs.declared.steps.Errno.TheVariants.{Invalid}
 use Rattle.xt_base.specs.declared.steps.Owner.{Owner}
 use Rattle.xt_base.specs.declared.steps.Owner.TheVariants.{Held, Stale, Trans}
 use Rattle.xt_base.specs.declared.steps.Reason.{Reason}

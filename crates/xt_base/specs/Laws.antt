@@ -1,10 +1,12 @@
 -- Words of the laws: what looks alike to a transaction, and which requests name it.
-use Rattle.std.specs.Prelude.{Bool, false, ℕ, ◌&&◌, ◌==◌, ◌≡◌, true}
-use Rattle.xt_base.specs.Calls.{is_fresh, is_own}
-use Rattle.xt_base.specs.Legs.{own_count}
+use Rattle.std.specs.Prelude.{Bool, List, [], false, true, ℕ, ◌&&◌, ◌==◌, ◌∷◌, ◌≡◌, ◌≤◌}
+use Rattle.xt_base.specs.Calls.{alone_with, is_fresh, is_own}
+use Rattle.xt_base.specs.Legs.{own_count, owned_by}
 use Rattle.xt_base.specs.Maps.{at}
+use Rattle.xt_base.specs.Sound.{Each}
 use Rattle.xt_base.specs.State.{State}
 use Rattle.xt_base.specs.Text.{content_at}
+use Rattle.xt_base.specs.declared.steps.Answer.{Answer}
 use Rattle.xt_base.specs.declared.steps.Request.{Request}
 
 -- two states look alike to a transaction at a block: its record is the same; it has the block in both, with the same recursion count, or in neither; and where it has it, the fresh mark and the committed content are the same
@@ -39,3 +41,20 @@ names t (Request.Commit u) = u == t
 names t (Request.Roll u) = u == t
 names t (Request.Cancel u) = u == t
 names t other = false
+
+-- each transaction that has a block has a number that was given
+abbrev pub AreGiven : State → Type 0
+AreGiven s = Each (λ e. (t : ℕ) → owned_by t e.1 ≡ true → t ≤ s.last_trans) s.owners
+
+-- the calls by which a transaction only looks: get, read, view, relse
+abbrev pub is_look : ℕ → Request → Bool
+is_look t (Request.Get u b) = u == t
+is_look t (Request.Read u b) = u == t
+is_look t (Request.View u b) = u == t
+is_look t (Request.Relse u b) = u == t
+is_look t other = false
+
+-- the mount after some calls, each with the home device's answer
+abbrev pub after_calls : List (Request × Answer) → State → State
+after_calls [] s = s
+after_calls (c ∷ cs) s = after_calls cs (alone_with [] c.0 c.1 s).state
