@@ -1,8 +1,8 @@
 -- What a leg is charged, by its entries.
-use Rattle.std.proofs.Common.{◌≡◌, ◌≢◌, ◌∙◌, ◌+◌, ◌*◌, ◌≤◌, ◌∷◌, Bool, List, [], ap, arith, false, length, refl, sym, true, ℕ}
+use Rattle.std.proofs.Common.{◌≡◌, ◌≢◌, ◌+◌, ◌*◌, ◌∷◌, Bool, List, [], arith, false, length, refl, true, ℕ}
 use Rattle.std.proofs.lemmas.List.Sums.{sum_by-cons}
 use Rattle.std.specs.List.{cons_option}
-use Rattle.std.specs.Prelude.{None, Option, Some, if◌then◌else◌, not, option_map, sum_by, ◌==◌}
+use Rattle.std.specs.Prelude.{None, Some, if◌then◌else◌, not, option_map, sum_by, ◌==◌}
 use Rattle.xt_base.proofs.CostLemmas.{charge-cons, charge_invalidated, charge_logged}
 use Rattle.xt_base.proofs.ViewLemmas.{rises_view}
 use Rattle.xt_base.specs.Calls.{edited, invalidated}

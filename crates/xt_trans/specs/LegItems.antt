@@ -5,7 +5,6 @@ use Rattle.xt_base.specs.Marks.{Marks, marks_of}
 use Rattle.xt_base.specs.Sound.{Each, IsRising}
 use Rattle.xt_base.specs.State.{Change, Leg}
 use Rattle.xt_base.specs.Views.{keys_where, view}
-use Rattle.xt_base.specs.declared.marks.ItemMarks.{ItemMarks}
 use Rattle.xt_trans.specs.declared.trans.BufItem.{BufItem}
 
 -- whether an entry's block has the hold mark

@@ -465,10 +465,11 @@ fn invalidated(item: BufItem) -> BufItem
     ensures change { change_in result ≡ record { edit = None; marks = []; charged = item.charged } }
 {
     let marks = item.marks.without(ItemMarks::HOLD);
+    let charged = item.charged;
     BufItem {
         marks: marks.with(ItemMarks::DIRTY).with(ItemMarks::STALE),
         edit: None,
         chunks: Chunks::none(),
-        charged: item.charged,
+        charged,
     }
 }

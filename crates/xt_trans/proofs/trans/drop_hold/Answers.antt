@@ -1,4 +1,4 @@
-use Rattle.std.proofs.Common.{◌∙◌, ap, false, subst, sym, true}
+use Rattle.std.proofs.Common.{◌∙◌, ap, false, subst, sym}
 use Rattle.xt_base.specs.Maps.{put}
 use Rattle.xt_base.specs.Marks.{marks_of}
 use Rattle.xt_trans.proofs.ItemLemmas.{dropped_is, items_released, items_without, released_is}

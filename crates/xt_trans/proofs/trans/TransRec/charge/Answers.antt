@@ -1,4 +1,4 @@
-use Rattle.std.proofs.Common.{◌≡◌, ◌∙◌, ◌+◌, ap, sym, ℕ}
+use Rattle.std.proofs.Common.{◌∙◌, ◌+◌, ap, sym, ℕ}
 use Rattle.std.specs.Prelude.{sum_by}
 use Rattle.xt_base.specs.Space.{change_cost}
 use Rattle.xt_base.specs.State.{Leg}

@@ -1,8 +1,7 @@
 use Rattle.std.proofs.Common.{◌≡◌, ◌∙◌, ◌+◌, ◌<◌, ap, false, length, subst, sym, true}
-use Rattle.xt_base.specs.Calls.{held_of}
 use Rattle.xt_base.specs.Maps.{has, put, with_member}
 use Rattle.xt_base.specs.Marks.{marks_of}
-use Rattle.xt_base.specs.State.{Change, Leg}
+use Rattle.xt_base.specs.State.{Leg}
 use Rattle.xt_trans.proofs.ItemLemmas.{held_is, items_held, room_held}
 use Rattle.xt_trans.specs.LegItems.{AreItems, change_in, leg_of}
 use Rattle.xt_trans.specs.declared.trans.BufItem.{BufItem}

@@ -1,11 +1,11 @@
-use Rattle.std.proofs.Common.{◌≡◌, ◌∙◌, List, None, Some, [], ℕ, ◌+◌, ◌<◌, ap, false, length, subst, sym, true}
+use Rattle.std.proofs.Common.{◌≡◌, ◌∙◌, Some, ◌+◌, ◌<◌, ap, false, length, subst, sym, true}
 use Rattle.xt_base.specs.Calls.{edited}
 use Rattle.xt_base.specs.Chunks.{union}
 use Rattle.xt_base.specs.Maps.{is_in, put}
 use Rattle.xt_base.specs.Marks.{marks_of}
-use Rattle.xt_base.specs.State.{Change, Leg}
+use Rattle.xt_base.specs.State.{Leg}
 use Rattle.xt_trans.proofs.ItemLemmas.{items_logged, logged_is, room_changed}
-use Rattle.xt_trans.specs.LegItems.{AreItems, change_in, leg_of}
+use Rattle.xt_trans.specs.LegItems.{AreItems, leg_of}
 use Rattle.xt_trans.specs.declared.trans.BufItem.{BufItem}
 use Rattle.xt_trans.proofs.trans.TransRec.log.Goals as goal
 

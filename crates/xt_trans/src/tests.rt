@@ -1,0 +1,26 @@
+//! What no clause says: a refused allocation is an error of the call that asked for it, and changes nothing.
+
+use crate::trans::TransRec;
+use std::test::*;
+use xt_base::chunks::Chunks;
+use xt_base::content::Content;
+
+/// Where memory is refused, the call that took it says so, and the leg answers as before. Run it with each allocation
+/// failing in turn.
+#[test]
+fn memory_refused(rt: HostRuntime) {
+    let alloc = rt.alloc();
+    let Ok(mut leg) = TransRec::new(alloc) else {
+        return;
+    };
+    let Ok(edit) = Content::zeros(alloc) else {
+        return;
+    };
+    leg.hold(7);
+    leg.log(7, edit, Chunks::mark(0, 1));
+    let is_seen = leg.seen(alloc, 7, false, None).is_ok();
+    let is_told = leg.held(alloc).is_ok();
+    assert!(rt; is_seen || is_told);
+    assert!(rt; leg.is_held(7) && leg.is_changed(7));
+    assert_eq!(rt; leg.charge(), 176);
+}
