@@ -1,8 +1,8 @@
 -- The end of a leg, part by part.
-use Rattle.std.specs.Prelude.{Bool, List, None, Option, Some, filter, if◌then◌else◌, not, ℕ}
+use Rattle.std.specs.Prelude.{Bool, List, None, Option, Some, [], filter, if◌then◌else◌, not, ◌∷◌, ℕ}
 use Rattle.xt_base.specs.Legs.{is_lost, is_stale, with_edit, with_edits, with_lost, with_marks}
 use Rattle.xt_base.specs.Maps.{has}
-use Rattle.xt_base.specs.State.{Change, Frames, Items, Leg}
+use Rattle.xt_base.specs.State.{Change, Frames, Items, Leg, Transaction}
 use Rattle.xt_base.specs.declared.steps.Owner.{Owner}
 use Rattle.xt_base.specs.declared.steps.Owner.TheVariants.{Held, Stale}
 
@@ -33,3 +33,11 @@ contents_lost leg f = record f { committed = filter (λ e. is_saved leg e.0) f.c
 -- the frames with the blocks fresh that a leg lost
 abbrev pub fresh_lost : List (ℕ × Change) → Leg → Frames → Frames
 fresh_lost cs leg f = record f { fresh = with_lost cs leg f.fresh }
+
+-- a transaction with one more change before the others
+abbrev pub with_first : ℕ × Change → Transaction → Transaction
+with_first e t = record t { leg = record t.leg { changes = e ∷ t.leg.changes } }
+
+-- a transaction with no change
+abbrev pub emptied : Transaction → Transaction
+emptied t = record t { leg = record t.leg { changes = [] } }

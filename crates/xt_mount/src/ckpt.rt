@@ -60,7 +60,7 @@ impl Machine {
     /// nothing to do.
     pub fn begin(&mut self) -> Result<Reply, AllocError>
         requires sound { IsSound (state_of self.old) }
-        requires outstanding { is_some self.old.jobs.ckpt ≡ true }
+        requires outstanding { is_some (state_of self.old).jobs.ckpt ≡ true }
         requires waiting { is_none self.old.items.flight ≡ true }
         ensures ok { IfOk result (λ reply. gives reply (state_of self.new) ≡ begin_step (state_of self.old)) }
         ensures err { OnErr result (state_of self.new ≡ state_of self.old) }

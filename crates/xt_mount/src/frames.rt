@@ -105,11 +105,18 @@ impl Frames {
         requires { length self.old.committed < 128 }
         ensures { self.new ≡ record self.old { committed = put block content self.old.committed; idle = without block self.old.idle } }
     {
+        self.leave_idle(block);
+        self.committed.put(block, content);
+    }
+
+    /// A block is idle no more.
+    fn leave_idle(&mut self, block: u64)
+        ensures { self.new ≡ record self.old { idle = without block self.old.idle } }
+    {
         let found = spot_of(&self.idle, block);
         if found < self.idle.len() {
-            self.idle.remove(found);
+            let _entry = self.idle.remove(found);
         }
-        self.committed.put(block, content);
     }
 
     /// A committed content goes. It takes no memory.

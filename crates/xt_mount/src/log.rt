@@ -1,9 +1,11 @@
 //! What a transaction sees of its blocks, and writing bytes in its leg.
 
-ghost use Rattle.std.specs.Prelude.{◌≡◌, ◌+◌, ◌<◌, ◌≤◌, None, false, length, IfOk, OnErr, IfSome};
-ghost use Rattle.xt_base.specs.Calls.{edited, first_of, gives, log as log_step, log_refusals, not_fresh, seen, view as view_step, with_leg, with_trans};
+ghost use Rattle.std.specs.Prelude.{◌≡◌, ◌+◌, ◌<◌, ◌≤◌, ◌||◌, [], None, false, length, nat_lt, IfOk, OnErr, IfSome};
+ghost use Rattle.xt_base.specs.Calls.{edited, first_of, gives, is_fresh, log as log_step, log_refusals, not_fresh, seen, view as view_step, with_leg, with_trans};
+ghost use Rattle.xt_base.specs.Legs.{is_stale};
 ghost use Rattle.xt_base.specs.Maps.{at, is_in};
 ghost use Rattle.xt_base.specs.Sound.{IsRising, IsSound};
+ghost use Rattle.xt_base.specs.Space.{charge};
 ghost use Rattle.xt_mount.specs.Machines.{state_of};
 
 use crate::machine::Machine;
@@ -41,6 +43,13 @@ impl Machine {
         Ok(Reply::Data(content))
     }
 
+    /// Whether a block shows zeros until it is written whole.
+    fn is_unread(&self, leg: &TransRec, block: u64) -> bool
+        ensures { result ≡ (is_fresh (state_of self.now) block || is_stale block leg.now) }
+    {
+        self.frames.is_fresh(block) || leg.is_stale(block)
+    }
+
     /// What refuses a log request.
     fn log_refusal(
         &self,
@@ -60,12 +69,11 @@ impl Machine {
         if len == 0 || first as usize + len > BLOCK_BYTES {
             return Some(Errno::Invalid);
         }
-        let is_unread = self.frames.is_fresh(block) || opened.leg().is_stale(block);
-        if is_unread && !(first == 0 && len == BLOCK_BYTES) {
+        if self.is_unread(opened.leg(), block) && !(first == 0 && len == BLOCK_BYTES) {
             return Some(Errno::Invalid);
         }
         let marked = Chunks::mark(first, len as u32);
-        if opened.leg().charge_logged(block, marked) > u64::from(opened.unit()) {
+        if is_over(opened, block, marked) {
             return Some(Errno::NoSpace);
         }
         None
@@ -109,4 +117,11 @@ impl Machine {
         self.keep_edit(trans, block, content, marked);
         Ok(Reply::Okay)
     }
+}
+
+/// Whether the charge would pass the unit of a transaction, were these chunks of a block changed too.
+fn is_over(opened: &OpenTrans, block: u64, marked: Chunks) -> bool
+    ensures { result ≡ nat_lt opened.now.unit (charge (edited block [] marked opened.now.leg).changes) }
+{
+    opened.leg().charge_logged(block, marked) > u64::from(opened.unit())
 }

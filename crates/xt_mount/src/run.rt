@@ -16,19 +16,14 @@ use xt_base::names::JobKind;
 use xt_base::outcomes::{Outcomes, RunFault, Turn};
 use xt_base::steps::{Reason, Request, Step};
 
-/// Whether a request has come so far: alloc, get, log, commit, force.
+/// Whether a request has come so far: all but roll.
 fn request_has_come(request: &Request) -> bool
     ensures { result ≡ has_come request.now }
 {
-    match request {
-        Request::Alloc { .. } | Request::Get { .. } | Request::Log { .. } => true,
-        Request::Commit { .. } | Request::Force => true,
-        _ => false,
-    }
+    !matches!(request, Request::Roll { .. })
 }
 
-/// Whether a step has come so far: of the requests alloc, get, log, commit and force, of the posts those of
-/// checkpoints, and no flush.
+/// Whether a step has come so far: of the requests all but roll, of the posts those of checkpoints, and no flush.
 pub fn has_come(step: &Step) -> bool
     ensures { result ≡ step_has_come step.now }
 {

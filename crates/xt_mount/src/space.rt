@@ -21,12 +21,19 @@ pub fn granted(transactions: &[(u64, OpenTrans)]) -> u64
     sum
 }
 
+/// Whether somebody owns a block.
+fn is_owned(locks: &Locks, block: u64) -> bool
+    ensures { result ≡ is_in block locks.now }
+{
+    locks.is_locked(Block(block))
+}
+
 /// How many blocks of the commit list nobody owns.
 pub fn beside_cil(locks: &Locks, items: &Items) -> usize
     ensures count { result ≡ count_by (λ e. not (is_in e.0 locks.now)) items.now.cil }
     ensures small { result ≤ 128 }
 {
-    items.cil().iter().filter(|e| !locks.is_locked(Block(e.0))).count()
+    items.cil().iter().filter(|e| !is_owned(locks, e.0)).count()
 }
 
 /// How many blocks of the flight nobody owns, those of the commit list aside.
@@ -37,7 +44,7 @@ pub fn beside_flight(locks: &Locks, items: &Items) -> usize
     match items.flight_items() {
         Some(flight) => flight
             .iter()
-            .filter(|e| !(locks.is_locked(Block(e.0)) || items.is_committed(e.0)))
+            .filter(|e| !(is_owned(locks, e.0) || items.is_committed(e.0)))
             .count(),
         None => 0,
     }
@@ -51,6 +58,6 @@ pub fn beside_ail(locks: &Locks, items: &Items) -> usize
     items
         .ail()
         .iter()
-        .filter(|e| !(locks.is_locked(Block(e.0)) || items.is_committed(e.0) || items.is_in_flight(e.0)))
+        .filter(|e| !(is_owned(locks, e.0) || items.is_committed(e.0) || items.is_in_flight(e.0)))
         .count()
 }

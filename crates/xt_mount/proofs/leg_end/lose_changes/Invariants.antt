@@ -4,7 +4,8 @@ use Rattle.xt_mount.proofs.leg_end.lose_changes.Given as goal
 
 abbrev pub invariant-loop-block : goal.invariant-loop-block
 invariant-loop-block l = record {
-  fresh : fresh_lost l.opened.leg.changes l.opened.leg l.frames ≡ fresh_lost l.fn.opened.leg.changes l.fn.opened.leg l.fn.frames;
+  fresh : fresh_lost l.opened.leg.changes l.fn.opened.leg l.frames ≡ fresh_lost l.fn.opened.leg.changes l.fn.opened.leg l.fn.frames;
+  holds : l.opened.leg.holds ≡ l.fn.opened.leg.holds;
   room : length l.frames.fresh + length l.opened.leg.changes ≤ 128;
 }
 

@@ -1,4 +1,5 @@
-use Rattle.std.proofs.Common.{arith}
+use Rattle.std.proofs.Common.{ap, arith}
+use Rattle.xt_jobs.specs.Tables.{Table}
 use Rattle.xt_base.proofs.BusyLemmas.{few_active, few_flying}
 use Rattle.xt_base.specs.State.{State}
 use Rattle.xt_mount.specs.Machines.{state_of}
@@ -12,4 +13,4 @@ land-requires-clause-room c =
 
 pub returns : goal.returns
 returns c =
-    landed_is (state_of c.args.self.now) c.args.number c.free_stale.new.self c.land.new.self c.finish.new.self (state_of c.settle.new.self) c.requires.flying c.free_stale.ensures c.land.ensures c.finish.ensures c.settle.ensures
+    landed_is (state_of c.args.self.now) c.args.number c.free_stale.new.self c.land.new.self c.finish.new.self.jobs (state_of c.settle.new.self) c.requires.flying c.free_stale.ensures c.land.ensures (ap (λ (t : Table). t.jobs) c.finish.ensures) c.settle.ensures

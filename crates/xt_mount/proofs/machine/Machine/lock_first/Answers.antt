@@ -4,7 +4,7 @@ use Rattle.xt_mount.specs.Machines.{state_of}
 use Rattle.xt_mount.proofs.machine.Machine.lock_first.Goals as goal
 
 pub bring-requires-clause-committed : goal.bring-requires-clause-committed
-bring-requires-clause-committed c = omega (arith, few_contents (state_of c.args.self.now) c.requires)
+bring-requires-clause-committed c = omega (arith, few_contents (state_of c.args.self.now) c.requires.sound)
 
 pub bring-requires-clause-fresh : goal.bring-requires-clause-fresh
-bring-requires-clause-fresh c = omega (arith, few_fresh (state_of c.args.self.now) c.requires)
+bring-requires-clause-fresh c = omega (arith, few_fresh (state_of c.args.self.now) c.requires.sound)
