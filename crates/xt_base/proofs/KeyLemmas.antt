@@ -237,6 +237,16 @@ length_with_member n (k ∷ ks) h =
       | inr (inr lt) ↦ omega (arith, ap length (with_more n k ks lt), length_with_member n ks apart.1)
     ]
 
+-- a set with one number more has at most one more
+pub length_member : (n : ℕ) (ks : List ℕ) → length (with_member n ks) ≤ length ks + 1
+length_member n [] = omega arith
+length_member n (k ∷ ks) =
+    elim (cases_order n k) [
+      | inl same ↦ omega (arith, ap length (with_same n k ks same))
+      | inr (inl lt) ↦ omega (arith, ap length (with_less n k ks lt))
+      | inr (inr lt) ↦ omega (arith, ap length (with_more n k ks lt), length_member n ks)
+    ]
+
 -- a number that a filter keeps stays in a set
 pub has_filter : (q : ℕ) (p : ℕ → Bool) (ks : List ℕ) → p q ≡ true → has (filter p ks) q ≡ has ks q
 has_filter q p [] keeps = refl

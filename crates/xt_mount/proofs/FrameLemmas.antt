@@ -36,3 +36,10 @@ spot_is_in k m p n is count =
       | inl lt ↦ lt_true p n lt ∙ sym (ap is_some (found k m (0, []) (subst (λ x. x < length m) is (subst (λ x. p < x) count lt))).0)
       | inr ge ↦ lt_false p n ge ∙ sym (ap is_some (missing k m (subst (λ x. length m ≤ x) is (subst (λ x. x ≤ p) count ge))).0)
     ]
+
+-- idle no more
+pub idle_left : (f g : Frames) → f ≡ g → (b : ℕ) (idle : List (ℕ × List ℕ)) → idle ≡ without b f.idle → record f { idle = idle } ≡ record g { idle = without b g.idle }
+idle_left f g same b idle is = ap (λ i. record f { idle = i }) is ∙ ap (λ (h : Frames). record h { idle = without b h.idle }) same
+
+pub idle_stays : (f g : Frames) → f ≡ g → (b : ℕ) → f.idle ≡ without b f.idle → g ≡ record g { idle = without b g.idle }
+idle_stays f g same b is = sym same ∙ idle_left f g same b f.idle is

@@ -6,3 +6,4 @@ pub mod EndLemmas
 pub mod CkptLemmas
 pub mod MountLemmas
 pub mod SoloLemmas
+pub mod CallLemmas

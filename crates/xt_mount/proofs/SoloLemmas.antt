@@ -60,19 +60,19 @@ said : ℕ → Reply → List LogOffer → List HomeOffer → Said
 said slot reply log home = record { slot = slot; reply = reply; log = log; home = home }
 
 -- what follows by the reply
-by_true : (b : Bool) (P Q : Type 0) → b ≡ true → MatchBool b P Q → P
+pub by_true : (b : Bool) (P Q : Type 0) → b ≡ true → MatchBool b P Q → P
 by_true true P Q e h = h
 by_true false P Q e h = absurd (false≢true e)
 
-by_false : (b : Bool) (P Q : Type 0) → b ≡ false → MatchBool b P Q → Q
+pub by_false : (b : Bool) (P Q : Type 0) → b ≡ false → MatchBool b P Q → Q
 by_false true P Q e h = absurd (false≢true (sym e))
 by_false false P Q e h = h
 
-to_true : (b : Bool) (P Q : Type 0) → b ≡ true → P → MatchBool b P Q
+pub to_true : (b : Bool) (P Q : Type 0) → b ≡ true → P → MatchBool b P Q
 to_true true P Q e h = h
 to_true false P Q e h = absurd (false≢true e)
 
-to_false : (b : Bool) (P Q : Type 0) → b ≡ false → Q → MatchBool b P Q
+pub to_false : (b : Bool) (P Q : Type 0) → b ≡ false → Q → MatchBool b P Q
 to_false true P Q e h = absurd (false≢true (sym e))
 to_false false P Q e h = h
 

@@ -1,7 +1,7 @@
 -- The end of a leg, part by part.
 use Rattle.std.specs.Prelude.{Bool, List, None, Option, Some, [], filter, if◌then◌else◌, not, ◌∷◌, ℕ}
 use Rattle.xt_base.specs.Legs.{is_lost, is_stale, with_edit, with_edits, with_lost, with_marks}
-use Rattle.xt_base.specs.Maps.{has}
+use Rattle.xt_base.specs.Maps.{has, with_member}
 use Rattle.xt_base.specs.State.{Change, Frames, Items, Leg, Transaction}
 use Rattle.xt_base.specs.declared.steps.Owner.{Owner}
 use Rattle.xt_base.specs.declared.steps.Owner.TheVariants.{Held, Stale}
@@ -29,6 +29,10 @@ is_saved leg b = not (is_lost leg b)
 -- the frames without the contents that a leg lost
 abbrev pub contents_lost : Leg → Frames → Frames
 contents_lost leg f = record f { committed = filter (λ e. is_saved leg e.0) f.committed }
+
+-- the fresh blocks with one more, where it is held
+abbrev pub lost_with : List ℕ → ℕ → List ℕ → List ℕ
+lost_with holds b fresh = if has holds b then with_member b fresh else fresh
 
 -- the frames with the blocks fresh that a leg lost
 abbrev pub fresh_lost : List (ℕ × Change) → Leg → Frames → Frames

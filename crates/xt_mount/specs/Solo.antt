@@ -1,15 +1,20 @@
 -- One slot and its workers: the state of the slot, the hands, and what a step makes of them.
-use Rattle.std.specs.Prelude.{Bool, List, MatchBool, None, Option, [], false, slice_index_or, true, ℕ, ◌<◌, ◌≡◌}
-use Rattle.xt_base.specs.Alone.{Said, Turn, alone, reason_of, said_of}
+use Rattle.std.specs.Prelude.{Bool, List, MatchBool, None, Option, Some, [], false, if◌then◌else◌, slice_index_or, true, ℕ, ◌<◌, ◌==◌, ◌≡◌}
+use Rattle.xt_base.specs.Alone.{Said, Turn, alone, reason_of, said_of, turn}
+use Rattle.xt_base.specs.Calls.{Outcome, alone_with}
 use Rattle.xt_base.specs.Isolation.{BreaksOne, Told, is_no_memory, told_then}
 use Rattle.xt_base.specs.Jobs.{is_ckpt}
-use Rattle.xt_base.specs.State.{Lone}
+use Rattle.xt_base.specs.State.{Lone, State}
 use Rattle.xt_base.specs.Steps.{slot_of}
 use Rattle.xt_base.specs.Turns.{hand_after, queue_after}
 use Rattle.xt_base.specs.declared.names.JobName.{JobName}
 use Rattle.xt_base.specs.declared.outcomes.RunFault.{RunFault}
 use Rattle.xt_base.specs.declared.outcomes.RunFault.TheVariants.{Disorder, Memory}
+use Rattle.xt_base.specs.declared.steps.Answer.{Answer}
+use Rattle.xt_base.specs.declared.steps.Errno.TheVariants.{NoDevice, Stale}
 use Rattle.xt_base.specs.declared.steps.Reply.{Reply}
+use Rattle.xt_base.specs.declared.steps.Reply.TheVariants.{Refused}
+use Rattle.xt_base.specs.declared.steps.Request.{Request}
 use Rattle.xt_base.specs.declared.steps.Step.{Step}
 use Rattle.xt_base.specs.declared.steps.Step.TheVariants.{Begin, Call, End, Flush, Mount, Peek, Post, Show, Take}
 use Rattle.xt_mount.specs.Come.{has_come}
@@ -42,6 +47,14 @@ step_has_come (Peek slot) = true
 -- the turn came about, or it was refused memory and nothing changed
 abbrev pub IsTurned : Turn → Reply → Solo → Solo → Type 0
 IsTurned t reply new old = MatchBool (is_no_memory reply) (new ≡ old) ((reply ≡ t.reply) × (new ≡ with_lone t.slot old))
+
+-- what the mount of a life answers to a request, before an unmount empties the slot
+abbrev pub mounted_turn : Bool → Lone → Outcome → Turn
+mounted_turn is_life s o = if is_life then turn o.reply (record s { mounted = Some o.state }) else turn (Refused Stale) s
+
+abbrev pub answered_turn : ℕ → Request → Answer → Lone → Option State → Turn
+answered_turn life request answer s None = turn (Refused NoDevice) s
+answered_turn life request answer s (Some m) = mounted_turn (m.life == life) s (alone_with [] request answer m)
 
 -- nothing changed
 pub record IsKept (new old : Solo) : Type 0 where

@@ -1,7 +1,7 @@
 //! Hold marks, and invalidating a block.
 
-ghost use Rattle.std.specs.Prelude.{◌≡◌, ◌+◌, ◌<◌, None, false, length, IfSome};
-ghost use Rattle.xt_base.specs.Calls.{first_of, gives, hold as hold_step, inval as inval_step, inval_refusals, invalidated, not_fresh, unhold as unhold_step, with_leg, with_trans, without_hold};
+ghost use Rattle.std.specs.Prelude.{◌≡◌, ◌+◌, ◌<◌, None, false, true, length, IfSome};
+ghost use Rattle.xt_base.specs.Calls.{first_of, gives, hold as hold_step, inval as inval_step, inval_refusals, invalidated, is_own, not_fresh, unhold as unhold_step, with_leg, with_trans, without_hold};
 ghost use Rattle.xt_base.specs.Maps.{at, has, is_in, with_member};
 ghost use Rattle.xt_base.specs.Sound.{IsRising, IsSound};
 ghost use Rattle.xt_mount.specs.Machines.{state_of};
@@ -58,7 +58,10 @@ impl Machine {
         let Some(opened) = self.transactions.get(trans) else {
             return Reply::Refused(Errno::Invalid);
         };
-        if !self.is_own(trans, block) || opened.leg().is_stale(block) {
+        if !self.is_own(trans, block) {
+            return Reply::Refused(Errno::Invalid);
+        }
+        if opened.leg().is_stale(block) {
             return Reply::Refused(Errno::Invalid);
         }
         self.mark_held(trans, block);
@@ -82,7 +85,8 @@ impl Machine {
 
     /// What refuses an invalidation.
     fn inval_refusal(&self, opened: &OpenTrans, trans: u64, block: u64) -> Option<Errno>
-        ensures { result ≡ first_of (inval_refusals trans block opened.now (state_of self.now)) }
+        ensures refusal { result ≡ first_of (inval_refusals trans block opened.now (state_of self.now)) }
+        ensures own { result ≡ None → is_own (state_of self.now) trans block ≡ true }
     {
         if !self.is_own(trans, block) {
             return Some(Errno::Invalid);

@@ -7,7 +7,7 @@ ghost use Rattle.xt_base.specs.Maps.{at, put};
 ghost use Rattle.xt_base.specs.Settle.{settled};
 ghost use Rattle.xt_base.specs.Sound.{IsSound};
 ghost use Rattle.xt_base.specs.State.{Leg};
-ghost use Rattle.xt_mount.specs.Ending.{contents_lost, edits_kept, fresh_lost, is_saved, marks_kept, owner_kept, owner_left};
+ghost use Rattle.xt_mount.specs.Ending.{contents_lost, edits_kept, fresh_lost, is_saved, lost_with, marks_kept, owner_kept, owner_left};
 ghost use Rattle.xt_mount.specs.Machines.{state_of};
 ghost use Rattle.std.specs.Prelude.{filter_map};
 
@@ -171,9 +171,19 @@ fn lose_changes(frames: &mut Frames, opened: &mut OpenTrans)
     requires { length frames.old.fresh + length opened.old.leg.changes ≤ 128 }
     ensures { frames.new ≡ fresh_lost opened.old.leg.changes opened.old.leg frames.old }
 {
-    while let Some((block, _change)) = opened.take_change() {
-        if opened.leg().is_held(block) {
-            frames.make_fresh(block);
-        }
+    while let Some((block, change)) = opened.take_change() {
+        lose_change(frames, opened.leg(), block, change);
+    }
+}
+
+/// The same for one block.
+fn lose_change(frames: &mut Frames, leg: &TransRec, block: u64, change: Change)
+    requires { length frames.old.fresh < 128 }
+    ensures fresh { frames.new ≡ record frames.old { fresh = lost_with leg.now.holds block frames.old.fresh } }
+    ensures count { length frames.new.fresh ≤ length frames.old.fresh + 1 }
+{
+    let _lost = change;
+    if leg.is_held(block) {
+        frames.make_fresh(block);
     }
 }

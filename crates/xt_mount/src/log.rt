@@ -1,7 +1,7 @@
 //! What a transaction sees of its blocks, and writing bytes in its leg.
 
-ghost use Rattle.std.specs.Prelude.{◌≡◌, ◌+◌, ◌<◌, ◌≤◌, ◌||◌, [], None, false, length, nat_lt, IfOk, OnErr, IfSome};
-ghost use Rattle.xt_base.specs.Calls.{edited, first_of, gives, is_fresh, log as log_step, log_refusals, not_fresh, seen, view as view_step, with_leg, with_trans};
+ghost use Rattle.std.specs.Prelude.{◌≡◌, ◌+◌, ◌<◌, ◌≤◌, ◌||◌, [], None, false, true, length, nat_lt, IfOk, OnErr, IfSome};
+ghost use Rattle.xt_base.specs.Calls.{edited, first_of, gives, is_fresh, is_own, log as log_step, log_refusals, not_fresh, seen, view as view_step, with_leg, with_trans};
 ghost use Rattle.xt_base.specs.Legs.{is_stale};
 ghost use Rattle.xt_base.specs.Maps.{at, is_in};
 ghost use Rattle.xt_base.specs.Sound.{IsRising, IsSound};
@@ -61,6 +61,7 @@ impl Machine {
     ) -> Option<Errno>
         ensures refusal { result ≡ first_of (log_refusals trans block first bytes.now opened.now (state_of self.now)) }
         ensures room { result ≡ None → first + length bytes.now ≤ 4096 }
+        ensures own { result ≡ None → is_own (state_of self.now) trans block ≡ true }
     {
         if !self.is_own(trans, block) {
             return Some(Errno::Invalid);

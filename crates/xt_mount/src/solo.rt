@@ -1,8 +1,9 @@
 //! One slot and its workers: the mount if there is one, what the board shows of it, the queue of posted names, and
 //! the names in the workers' hands.
 
-ghost use Rattle.std.specs.Prelude.{◌≡◌, ◌==◌, ◌&&◌, ◌++◌, ◌∷◌, ℕ, length, [], None, true, is_none, option_to_list, slice_index_or, IfOk, OnOk, OnErr};
-ghost use Rattle.xt_base.specs.Alone.{alone, call as call_step, goes_on, mount as mount_step, on_mount, reason_of, shown};
+ghost use Rattle.std.specs.Prelude.{◌≡◌, ◌==◌, ◌&&◌, ◌++◌, ◌∷◌, ℕ, length, [], None, true, if◌then◌else◌, is_none, option_to_list, slice_index_or, IfOk, OnOk, OnErr};
+ghost use Rattle.xt_base.specs.Alone.{alone, call as call_step, goes_on, is_okay, mount as mount_step, on_mount, reason_of, shown};
+ghost use Rattle.xt_base.specs.Calls.{is_unmount};
 ghost use Rattle.xt_base.specs.Jobs.{begin as begin_step, end as end_step, end_offers, fits_pieces, flight_pieces, is_begun, is_ckpt, is_owed_as, is_waiting};
 ghost use Rattle.xt_base.specs.Isolation.{is_no_memory};
 ghost use Rattle.xt_base.specs.Order.{has_in_hand, is_answer, is_first, is_nothing, is_there, mount_is, of_life, same_kind, same_name, suits};
@@ -12,7 +13,7 @@ ghost use Rattle.xt_base.specs.Steps.{slot_of};
 ghost use Rattle.xt_base.specs.Turns.{can_step, hand_after, held_in, keeps_turn};
 ghost use Rattle.xt_base.specs.declared.steps.Step.{Step as AStep};
 ghost use Rattle.xt_mount.specs.Come.{has_come};
-ghost use Rattle.xt_mount.specs.Solo.{hand_of, lone_of, step_has_come, with_lone, IsServedUnlessMemory, IsStepped, IsTurned};
+ghost use Rattle.xt_mount.specs.Solo.{answered_turn, hand_of, lone_of, step_has_come, with_lone, IsServedUnlessMemory, IsStepped, IsTurned};
 
 use crate::mount::{Mount, Stage};
 use crate::offers::log_offers;
@@ -100,6 +101,20 @@ fn fits_pieces(answers: &LogAnswers, pieces: usize) -> bool
     } else {
         taken < pieces
     }
+}
+
+/// Whether a reply is ok.
+fn is_okay(reply: &Reply) -> bool
+    ensures { result ≡ is_okay reply.now }
+{
+    matches!(reply, Reply::Okay)
+}
+
+/// Whether a request emptied its slot.
+fn is_unmounted(request: &Request, reply: &Reply) -> bool
+    ensures { result ≡ (is_unmount request.now && is_okay reply.now) }
+{
+    matches!(request, Request::Unmount) && is_okay(reply)
 }
 
 /// Puts a name behind the others. The one error is want of memory, and then nothing changes.
@@ -283,11 +298,11 @@ impl Solo {
         }
     }
 
-    /// Serves a request to one life of the slot.
-    fn call(&mut self, life: Life, request: &Request, answer: &Answer) -> Reply
+    /// What the mount of a life answers to a request.
+    fn answer(&mut self, life: Life, request: &Request, answer: &Answer) -> Reply
         requires came { has_come request.now ≡ true }
         requires asked { is_there (mount_is (of_life life request.now) self.old.mount) answer.now ≡ true }
-        ensures { IsTurned (call_step [] life request.now answer.now (lone_of self.old) self.old.mount) result self.new self.old }
+        ensures { IsTurned (answered_turn life request.now answer.now (lone_of self.old) self.old.mount) result self.new self.old }
     {
         match &mut self.mount {
             None => Reply::Refused(Errno::NoDevice),
@@ -299,6 +314,27 @@ impl Solo {
                 }
             }
         }
+    }
+
+    /// The slot is emptied, if it is so.
+    fn empty_if(&mut self, is_gone: bool)
+        ensures { self.new ≡ (if is_gone then record self.old { mount = None } else self.old) }
+    {
+        if is_gone {
+            self.mount = None;
+        }
+    }
+
+    /// Serves a request to one life of the slot.
+    fn call(&mut self, life: Life, request: &Request, answer: &Answer) -> Reply
+        requires came { has_come request.now ≡ true }
+        requires asked { is_there (mount_is (of_life life request.now) self.old.mount) answer.now ≡ true }
+        ensures { IsTurned (call_step [] life request.now answer.now (lone_of self.old) self.old.mount) result self.new self.old }
+    {
+        let reply = self.answer(life, request, answer);
+        let is_gone = is_unmounted(request, &reply);
+        self.empty_if(is_gone);
+        reply
     }
 
     /// Begins a checkpoint.

@@ -1,8 +1,10 @@
-use Rattle.std.proofs.Common.{ap, arith}
-use Rattle.xt_jobs.specs.Tables.{Table}
+use Rattle.std.proofs.Common.{◌∙◌, [], ap, arith, refl}
 use Rattle.xt_base.proofs.BusyLemmas.{few_active, few_flying}
+use Rattle.xt_base.specs.Settle.{settled}
 use Rattle.xt_base.specs.State.{State}
+use Rattle.xt_jobs.specs.Tables.{Table}
 use Rattle.xt_mount.specs.Machines.{state_of}
+use Rattle.xt_mount.specs.declared.machine.Machine.{Machine}
 use Rattle.xt_mount.proofs.CkptLemmas.{landed_is}
 use Rattle.xt_mount.proofs.machine.Machine.land.Goals as goal
 
@@ -13,4 +15,7 @@ land-requires-clause-room c =
 
 pub returns : goal.returns
 returns c =
-    landed_is (state_of c.args.self.now) c.args.number c.free_stale.new.self c.land.new.self c.finish.new.self.jobs (state_of c.settle.new.self) c.requires.flying c.free_stale.ensures c.land.ensures (ap (λ (t : Table). t.jobs) c.finish.ensures) c.settle.ensures
+    let s : State = state_of c.args.self.now in
+    let machine : Machine = c.args.self.now in
+    landed_is s c.args.number c.free_stale.new.self c.land.new.self _ (state_of c.settle.new.self) c.requires.flying c.free_stale.ensures c.land.ensures refl
+    (c.settle.ensures ∙ ap (λ (t : Table). settled [] (state_of (record machine { locks = c.free_stale.new.self; items = c.land.new.self; jobs = t }))) c.finish.ensures)

@@ -1,0 +1,6 @@
+use Rattle.xt_mount.specs.Machines.{state_of}
+use Rattle.xt_mount.proofs.KeepLemmas.{room_changed}
+use Rattle.xt_mount.proofs.machine.Machine.inval.Goals as goal
+
+pub mark_stale-requires-clause-few : goal.mark_stale-requires-clause-few
+mark_stale-requires-clause-few c = room_changed (state_of c.args.self.now) c.args.trans c.args.block c.in-Some.opened.now c.requires c.in-Some.ensures (c.inval_refusal.ensures.own c.in_default-inval_refusal.is)

@@ -1,0 +1,6 @@
+use Rattle.xt_mount.specs.Machines.{state_of}
+use Rattle.xt_mount.proofs.KeepLemmas.{room_changed}
+use Rattle.xt_mount.proofs.machine.Machine.log.Goals as goal
+
+pub keep_edit-requires-clause-few : goal.keep_edit-requires-clause-few
+keep_edit-requires-clause-few c = room_changed (state_of c.args.self.now) c.args.trans c.args.block c.in-Some.opened.now c.requires c.in-Some.ensures (c.log_refusal.ensures.own c.in_default-log_refusal.is)
