@@ -7,12 +7,13 @@ use Rattle.std.proofs.lemmas.Fmt.{length-decimal-le}
 use Rattle.xt_base.specs.declared.names.JobKind.{JobKind}
 use Rattle.xt_base.specs.declared.names.JobKind.TheVariants.{Ckpt, Flush}
 use Rattle.xt_base.specs.declared.names.JobName.{JobName}
+use Rattle.xt_base.specs.declared.steps.Answer.{Answer}
 use Rattle.xt_base.specs.declared.steps.Request.{Request}
-use Rattle.xt_base.specs.declared.steps.Request.TheVariants.{Alloc, Commit, Force, Get, Log}
+use Rattle.xt_base.specs.declared.steps.Request.TheVariants.{Alloc, Cancel, Commit, Force, Get, Hold, Join, Log, Read, Release, Relse, Unhold, View}
 use Rattle.xt_base.specs.declared.steps.Step.{Step}
 use Rattle.xt_base.specs.declared.steps.Step.TheVariants.{Begin, Call, End, Mount, Post, Take}
 use Rattle.xt_text.specs.DataText.{after_run, between, hex, is_short, onto_runs, run_text, runs, runs_text, spelling}
-use Rattle.xt_text.specs.Lines.{IsName, IsRequest, IsStep, kind_text, line_of, name_text, perm_text, request_text, sync_text, trans_text, ◌·◌, ◌␣◌}
+use Rattle.xt_text.specs.Lines.{IsAnswer, IsAnswerTo, IsName, IsRequest, IsStep, answer_text, kind_text, line_of, name_text, perm_text, request_text, sync_text, trans_text, ◌·◌, ◌␣◌}
 use Rattle.xt_text.specs.declared.data_text.Run.{Run}
 
 -- ---- numbers
@@ -139,6 +140,10 @@ sync_fits None = omega arith
 sync_fits (Some true) = omega arith
 sync_fits (Some false) = omega arith
 
+-- a transaction and a block have at most 42
+pub own_fits : (trans block : ℕ) → trans < 2 ^ 64 → block < 2 ^ 64 → length (trans_text trans ␣ decimal block) ≤ 42
+own_fits trans block is_trans is_block = omega (arith, joined (trans_text trans) (decimal block), decimal_fits trans is_trans, decimal_fits block is_block)
+
 -- a request has at most 8,300
 pub request_fits : (r : Request) → IsRequest r → length (request_text r) ≤ 8300
 request_fits (Alloc unit count perm) is =
@@ -150,7 +155,9 @@ request_fits (Alloc unit count perm) is =
       decimal_fits count (omega arith),
       perm_fits perm,
     )
-request_fits (Get trans block) is = omega (arith, joined (trans_text trans) (decimal block), decimal_fits trans is.0, decimal_fits block is.1)
+request_fits (Get trans block) is = omega (arith, own_fits trans block is.0 is.1)
+request_fits (Read trans block) is = omega (arith, own_fits trans block is.0 is.1)
+request_fits (View trans block) is = omega (arith, own_fits trans block is.0 is.1)
 request_fits (Log trans block first bytes) is =
     let c = decimal first ␣ spelling bytes in
     omega (
@@ -163,9 +170,27 @@ request_fits (Log trans block first bytes) is =
       decimal_fits first (omega arith),
       spelling_fits bytes is.3.few,
     )
+request_fits (Hold trans block) is = omega (arith, own_fits trans block is.0 is.1)
+request_fits (Unhold trans block) is = omega (arith, own_fits trans block is.0 is.1)
+request_fits (Relse trans block) is = omega (arith, own_fits trans block is.0 is.1)
+request_fits (Join trans block) is = omega (arith, own_fits trans block is.0 is.1)
+request_fits (Release block) is = omega (arith, decimal_fits block is)
 request_fits (Commit trans) is = omega (arith, decimal_fits trans is)
+request_fits (Cancel trans) is = omega (arith, decimal_fits trans is)
 request_fits Force is = omega arith
 request_fits other is = absurd is
+
+-- an answer has at most 8,195
+pub answer_fits : (a : Answer) → IsAnswer a → length (answer_text a) ≤ 8195
+answer_fits Answer.None is = omega arith
+answer_fits (Answer.Content bytes) is = omega (arith, spelling_fits bytes is.0.few)
+answer_fits Answer.Failed is = omega arith
+
+-- a request and its answer have at most 8,300
+pub asked_fits : (r : Request) (a : Answer) → IsRequest r → IsAnswerTo r a → length (request_text r ++ answer_text a) ≤ 8300
+asked_fits (Read trans block) a is fits = omega (arith, length-append (request_text (Read trans block)) (answer_text a), own_fits trans block is.0 is.1, answer_fits a fits)
+asked_fits r Answer.None is fits = omega (arith, length-append (request_text r) [], request_fits r is)
+asked_fits r other is fits = absurd fits
 
 -- a line has at most 8,400 characters
 pub line_fits : (s : Step) → IsStep s → length (line_of s) ≤ 8400
@@ -181,11 +206,11 @@ line_fits (Mount slot log_bytes blocks) is =
 line_fits (Call slot life r answer) is =
     omega (
       arith,
-      joined (decimal slot · decimal life) (request_text r),
+      joined (decimal slot · decimal life) (request_text r ++ answer_text answer),
       dotted (decimal slot) (decimal life),
       decimal_fits slot (omega arith),
       decimal_fits life (omega arith),
-      request_fits r is.2,
+      asked_fits r answer is.2 is.3,
     )
 line_fits (Post name) is = omega (arith, name_fits name is)
 line_fits (Take worker name) is = omega (arith, joined (decimal worker) (name_text name), decimal_fits worker (omega arith), name_fits name is.1)

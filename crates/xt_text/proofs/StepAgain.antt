@@ -1,19 +1,22 @@
 -- The line of a step, read, gives the step back.
-use Rattle.std.proofs.Common.{List, Some, [], ap, append_assoc, arith, codes, false, refl, ℕ, ◌++◌, ◌+◌, ◌<◌, ◌%◌, ◌^◌, ◌∙◌, ◌≡◌, ◌≤◌, ◌∷◌}
+use Rattle.std.proofs.Common.{List, Some, [], ap, append-nil, append_assoc, arith, codes, false, length, refl, subst, sym, ℕ, ◌++◌, ◌+◌, ◌<◌, ◌%◌, ◌^◌, ◌∙◌, ◌≡◌, ◌≤◌, ◌∷◌}
 use Rattle.std.specs.Fmt.{decimal}
 use Rattle.std.specs.Str.{bytes_eq}
-use Rattle.std.proofs.lemmas.Bool.{ne_eqb}
+use Rattle.std.proofs.lemmas.Bool.{false_from_ne_true, ne_eqb}
+use Rattle.std.proofs.lemmas.Option.{none-some}
+use Rattle.std.proofs.lemmas.Slice.Eq.{bytes_eq-Decides}
 use Rattle.std.proofs.lemmas.Fmt.{decimal_by_steps}
 use Rattle.xt_base.specs.declared.steps.Answer.{Answer}
 use Rattle.xt_base.specs.declared.steps.Request.{Request}
-use Rattle.xt_base.specs.declared.steps.Request.TheVariants.{Alloc, Commit, Force, Get, Log}
+use Rattle.xt_base.specs.declared.steps.Request.TheVariants.{Alloc, Cancel, Commit, Force, Get, Hold, Join, Log, Read, Release, Relse, Unhold, View}
 use Rattle.xt_base.specs.declared.steps.Step.{Step}
 use Rattle.xt_base.specs.declared.steps.Step.TheVariants.{Begin, Call, End, Mount, Post, Take}
 use Rattle.xt_text.proofs.ReadAgain.{data_again}
-use Rattle.xt_text.proofs.WordsAgain.{before_joined, behind_joined, below_again, decimal_lacks, lacks_joined, name_again, name_lacks, number_again, perm_again, sync_again, trans_again, u32_again}
-use Rattle.xt_text.specs.DataText.{spelling}
-use Rattle.xt_text.specs.LineReading.{alloc_of, before, begin_of, behind, call_of, commit_of, end_of, get_of, log_of, mount_of, post_of, request_of, step_of, take_of, words_step}
-use Rattle.xt_text.specs.Lines.{IsRequest, IsStep, line_of, name_text, perm_text, request_text, sync_text, trans_text, ◌·◌, ◌␣◌}
+use Rattle.xt_text.proofs.WordsAgain.{before_joined, before_whole, behind_joined, behind_whole, below_again, decimal_lacks, lacks_joined, name_again, name_lacks, number_again, perm_again, sync_again, trans_again, u32_again}
+use Rattle.xt_text.specs.DataReading.{read_content, read_data}
+use Rattle.xt_text.specs.DataText.{IsData, spelling}
+use Rattle.xt_text.specs.LineReading.{alloc_of, answer_of, asked_of, before, begin_of, behind, call_of, drop_of, end_of, log_of, mount_of, own_of, own_request, post_of, read_of, request_of, step_of, take_of, trans_request, words_step}
+use Rattle.xt_text.specs.Lines.{IsAnswer, IsAnswerTo, IsContent, IsRequest, IsStep, answer_text, line_of, name_text, perm_text, request_text, sync_text, trans_text, ◌·◌, ◌␣◌}
 
 -- what stands before the space behind a number
 pub before_number : (n : ℕ) (b : List ℕ) → n < 2 ^ 64 → before 32 (decimal n ␣ b) ≡ decimal n
@@ -32,10 +35,20 @@ pub behind_trans : (n : ℕ) (b : List ℕ) → n < 2 ^ 64 → behind 32 (trans_
 behind_trans n b small = behind_joined 32 (trans_text n) b (refl, decimal_lacks 32 n (omega arith) small)
 
 -- ---- requests
--- a request gives itself
-pub request_again : (r : Request) → IsRequest r → request_of (before 32 (request_text r)) (behind 32 (request_text r)) ≡ Some r
-unfolding request_of alloc_of get_of log_of commit_of
-request_again (Alloc unit count perm) is =
+-- a transaction and a block give themselves
+pub own_again : (trans block : ℕ) → trans < 2 ^ 64 → block < 2 ^ 64 → own_of (trans_text trans ␣ decimal block) ≡ Some (trans, block)
+unfolding own_of
+own_again trans block is_trans is_block = rw (before_trans trans (decimal block) is_trans, behind_trans trans (decimal block) is_trans, trans_again trans is_trans, number_again block is_block) refl
+
+-- the request that may have an answer
+abbrev pub IsRead : Request → Type 0
+IsRead (Read trans block) = Unit {0}
+IsRead other = ⊥
+
+-- a request other than a read gives itself
+pub request_again : (r : Request) → IsRequest r → (IsRead r → ⊥) → request_of (before 32 (request_text r)) (behind 32 (request_text r)) ≡ Some r
+unfolding request_of alloc_of log_of drop_of own_request trans_request
+request_again (Alloc unit count perm) is other =
     rw (
       before_number unit (decimal count ␣ perm_text perm) (omega arith),
       behind_number unit (decimal count ␣ perm_text perm) (omega arith),
@@ -46,9 +59,10 @@ request_again (Alloc unit count perm) is =
       perm_again perm,
     )
     refl
-request_again (Get trans block) is =
-    rw (before_trans trans (decimal block) is.0, behind_trans trans (decimal block) is.0, trans_again trans is.0, number_again block is.1) refl
-request_again (Log trans block first bytes) is =
+request_again (Get trans block) is other = rw (own_again trans block is.0 is.1) refl
+request_again (Read trans block) is other = absurd (other tt)
+request_again (View trans block) is other = rw (own_again trans block is.0 is.1) refl
+request_again (Log trans block first bytes) is other =
     rw (
       before_trans trans (decimal block ␣ decimal first ␣ spelling bytes) is.0,
       behind_trans trans (decimal block ␣ decimal first ␣ spelling bytes) is.0,
@@ -62,9 +76,57 @@ request_again (Log trans block first bytes) is =
       data_again bytes is.3,
     )
     refl
-request_again (Commit trans) is = rw (trans_again trans is) refl
-request_again Force is = refl
-request_again other is = absurd is
+request_again (Hold trans block) is other = rw (own_again trans block is.0 is.1) refl
+request_again (Unhold trans block) is other = rw (own_again trans block is.0 is.1) refl
+request_again (Relse trans block) is other = rw (own_again trans block is.0 is.1) refl
+request_again (Join trans block) is other = rw (own_again trans block is.0 is.1) refl
+request_again (Release block) is other = rw (number_again block is) refl
+request_again (Commit trans) is other = rw (trans_again trans is) refl
+request_again (Cancel trans) is other = rw (trans_again trans is) refl
+request_again Force is other = refl
+request_again rest is other = absurd is
+
+-- ---- answers of a read
+-- the content of a block gives itself
+pub content_again : (bytes : List ℕ) → IsContent bytes → read_content (spelling bytes) ≡ Some bytes
+content_again bytes is = rw (data_again bytes is.0, is.1) refl
+
+-- and is no failure: its text gives it, and fail gives nothing
+pub content_no_fail : (bytes : List ℕ) → IsData bytes → bytes_eq (spelling bytes) (codes "fail") ≡ false
+content_no_fail bytes is = false_from_ne_true (bytes_eq (spelling bytes) (codes "fail")) (λ same. none-some bytes (ap read_data (sym ((bytes_eq-Decides (spelling bytes) (codes "fail")).0 same)) ∙ data_again bytes is))
+
+-- a block and the answer behind it give the block, and the answer
+pub answer_again : (block : ℕ) (a : Answer) → block < 2 ^ 64 → IsAnswer a →
+    (before 32 (decimal block ++ answer_text a) ≡ decimal block) × (answer_of (behind 32 (decimal block ++ answer_text a)) ≡ Some a)
+unfolding answer_of
+answer_again block Answer.None small is =
+    let lacks = decimal_lacks 32 block (omega arith) small in
+    rw (append-nil (decimal block), behind_whole 32 (decimal block) lacks) (before_whole 32 (decimal block) lacks, refl)
+answer_again block (Answer.Content bytes) small is =
+    let tail = codes "= " ++ spelling bytes in
+    rw (behind_number block tail small, ne_eqb (length tail) 0 (λ e. omega arith), content_no_fail bytes is.0, content_again bytes is) (before_number block tail small, refl)
+answer_again block Answer.Failed small is = rw (behind_number block (codes "= fail") small) (before_number block (codes "= fail") small, refl)
+
+-- a read gives itself
+pub read_again : (slot life trans block : ℕ) (a : Answer) → trans < 2 ^ 64 → block < 2 ^ 64 → IsAnswer a →
+    read_of slot life (trans_text trans ␣ (decimal block ++ answer_text a)) ≡ Some (Call slot life (Read trans block) a)
+unfolding read_of
+read_again slot life trans block a is_trans is_block is =
+    let tail = decimal block ++ answer_text a in
+    let both = answer_again block a is_block is in
+    rw (before_trans trans tail is_trans, behind_trans trans tail is_trans, both.0, both.1, trans_again trans is_trans, number_again block is_block) refl
+
+-- the verb and the words of a call give it
+pub asked_again : (slot life : ℕ) (r : Request) (a : Answer) → IsRequest r → IsAnswerTo r a →
+    let text = request_text r ++ answer_text a in
+    asked_of slot life (before 32 text) (behind 32 text) ≡ Some (Call slot life r a)
+unfolding asked_of
+asked_again slot life (Read trans block) a is fits =
+    rw (append_assoc (decimal trans) (32 ∷ decimal block) (answer_text a)) (read_again slot life trans block a is.0 is.1 fits)
+asked_again slot life r Answer.None is fits =
+    subst (λ text. asked_of slot life (before 32 text) (behind 32 text) ≡ Some (Call slot life r Answer.None)) (sym (append-nil (request_text r)))
+    (rw (request_again r is (λ e. e)) refl)
+asked_again slot life r other is fits = absurd fits
 
 -- ---- steps
 -- a word that begins with a digit is none that begins with a letter
@@ -76,35 +138,37 @@ no_verb n c more cs letter small =
     n small more
 
 -- the words of a call give it
-pub call_again : (slot life : ℕ) (r : Request) → slot < 16 → life < 2 ^ 32 → IsRequest r → call_of (decimal slot · decimal life) (request_text r) ≡ Some (Call slot life r Answer.None)
+pub call_again : (slot life : ℕ) (r : Request) (a : Answer) → slot < 16 → life < 2 ^ 32 → IsRequest r → IsAnswerTo r a →
+    call_of (decimal slot · decimal life) (request_text r ++ answer_text a) ≡ Some (Call slot life r a)
 unfolding call_of
-call_again slot life r low small is =
+call_again slot life r a low small is fits =
     let lacks = decimal_lacks 46 slot (omega arith) (omega arith) in
     rw (
       before_joined 46 (decimal slot) (decimal life) lacks,
       behind_joined 46 (decimal slot) (decimal life) lacks,
       below_again 16 slot low (omega arith),
       u32_again life small,
-      request_again r is,
     )
-    refl
+    (asked_again slot life r a is fits)
 
 -- the line of a call gives it
-pub call_line_again : (slot life : ℕ) (r : Request) → slot < 16 → life < 2 ^ 32 → IsRequest r → step_of ((decimal slot · decimal life) ␣ request_text r) ≡ Some (Call slot life r Answer.None)
+pub call_line_again : (slot life : ℕ) (r : Request) (a : Answer) → slot < 16 → life < 2 ^ 32 → IsRequest r → IsAnswerTo r a →
+    step_of ((decimal slot · decimal life) ␣ (request_text r ++ answer_text a)) ≡ Some (Call slot life r a)
 unfolding step_of words_step
-call_line_again slot life r low small is =
+call_line_again slot life r a low small is fits =
     let word = decimal slot · decimal life in
+    let asked = request_text r ++ answer_text a in
     let lacks = lacks_joined 32 (decimal slot) (46 ∷ decimal life) (decimal_lacks 32 slot (omega arith) (omega arith)) (refl, decimal_lacks 32 life (omega arith) (omega arith)) in
     rw (
-      before_joined 32 word (request_text r) lacks,
-      behind_joined 32 word (request_text r) lacks,
+      before_joined 32 word asked lacks,
+      behind_joined 32 word asked lacks,
       no_verb slot 109 (46 ∷ decimal life) (codes "ount") (omega arith) (omega arith),
       no_verb slot 112 (46 ∷ decimal life) (codes "ost") (omega arith) (omega arith),
       no_verb slot 116 (46 ∷ decimal life) (codes "ake") (omega arith) (omega arith),
       no_verb slot 98 (46 ∷ decimal life) (codes "egin") (omega arith) (omega arith),
       no_verb slot 101 (46 ∷ decimal life) (codes "nd") (omega arith) (omega arith),
     )
-    (call_again slot life r low small is)
+    (call_again slot life r a low small is fits)
 
 -- the line of a step gives the step
 pub step_again : (s : Step) → IsStep s → step_of (line_of s) ≡ Some s
@@ -120,8 +184,7 @@ step_again (Mount slot log_bytes blocks) is =
       number_again blocks is.2,
     )
     refl
-step_again (Call slot life r Answer.None) is = call_line_again slot life r is.0 is.1 is.2
-step_again (Call slot life r other) is = absurd is.3
+step_again (Call slot life r a) is = call_line_again slot life r a is.0 is.1 is.2 is.3
 step_again (Post name) is = rw (name_again name is) refl
 step_again (Take worker name) is =
     rw (before_number worker (name_text name) (omega arith), behind_number worker (name_text name) (omega arith), below_again 8 worker is.0 (omega arith), name_again name is.1) refl

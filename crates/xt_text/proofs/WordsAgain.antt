@@ -7,9 +7,12 @@ use Rattle.std.proofs.lemmas.Fmt.{decimal_by_steps}
 use Rattle.xt_base.specs.declared.names.JobKind.{JobKind}
 use Rattle.xt_base.specs.declared.names.JobKind.TheVariants.{Ckpt, Flush}
 use Rattle.xt_base.specs.declared.names.JobName.{JobName}
+use Rattle.xt_base.specs.declared.steps.Answer.{Answer}
+use Rattle.xt_base.specs.declared.steps.Request.{Request}
+use Rattle.xt_base.specs.declared.steps.Request.TheVariants.{Read}
 use Rattle.xt_text.proofs.ReadAgain.{number_on_digit}
 use Rattle.xt_text.specs.LineReading.{before, behind, kind_of, lettered, name_of, perm_of, sync_of, u32_of}
-use Rattle.xt_text.specs.Lines.{IsKind, IsName, kind_text, name_text, perm_text, sync_text, trans_text, ◌·◌}
+use Rattle.xt_text.specs.Lines.{IsAnswerTo, IsKind, IsName, kind_text, name_text, perm_text, sync_text, trans_text, ◌·◌}
 use Rattle.xt_text.specs.Reading.{below, number_of, number_with}
 
 -- ---- cutting at a separator
@@ -29,6 +32,19 @@ behind_joined c (x ∷ a) b lacks =
     let place = position_or_len (λ y. eqb y c) (a ++ c ∷ b) in
     let step : 1 + place + 1 ≡ suc (place + 1) = omega arith in
     rw (lacks.0, step) (behind_joined c a b lacks.1)
+
+-- a text without the separator is all that stands before it
+pub before_whole : (c : ℕ) (a : List ℕ) → Lacks c a → before c a ≡ a
+before_whole c [] lacks = refl
+before_whole c (x ∷ a) lacks = rw (lacks.0, one-add) (ap (λ text. x ∷ text) (before_whole c a lacks.1))
+
+-- and nothing stands behind it
+pub behind_whole : (c : ℕ) (a : List ℕ) → Lacks c a → behind c a ≡ []
+behind_whole c [] lacks = refl
+behind_whole c (x ∷ a) lacks =
+    let place = position_or_len (λ y. eqb y c) a in
+    let step : 1 + place + 1 ≡ suc (place + 1) = omega arith in
+    rw (lacks.0, step) (behind_whole c a lacks.1)
 
 -- joined texts lack what both lack
 pub lacks_joined : (c : ℕ) (a b : List ℕ) → Lacks c a → Lacks c b → Lacks c (a ++ b)
@@ -90,6 +106,11 @@ unfolding sync_of
 sync_again None = refl
 sync_again (Some true) = refl
 sync_again (Some false) = refl
+
+-- any request may have no answer
+pub none_fits : (r : Request) → IsAnswerTo r Answer.None
+none_fits (Read trans block) = tt
+none_fits other = tt
 
 -- ---- names of jobs
 -- what a job does has no dot

@@ -47,3 +47,7 @@ reads bytes place (c ∷ cs) = next bytes place c >>= λ p. reads p.0 p.1 cs
 -- what a text gives; a dash alone gives no bytes
 abbrev pub read_data : List ℕ → Option (List ℕ)
 read_data text = if bytes_eq text (45 ∷ []) then Some [] else reads [] Front text
+
+-- what a text gives where it gives the content of a block
+abbrev pub read_content : List ℕ → Option (List ℕ)
+read_content text = read_data text >>= λ bytes. if length bytes == 4096 then Some bytes else None

@@ -1,16 +1,16 @@
 -- Lines read loosely: more lines are read than are lines of steps, and the line of each step gives that step.
 use Rattle.std.specs.List.{after_first, before_first}
-use Rattle.std.specs.Prelude.{Bool, List, None, Option, Some, [], codes, false, if◌then◌else◌, true, ℕ, ◌==◌, ◌∷◌}
+use Rattle.std.specs.Prelude.{Bool, List, None, Option, Some, [], codes, false, if◌then◌else◌, length, true, ℕ, ◌==◌, ◌∷◌}
 use Rattle.std.specs.Str.{bytes_eq}
 use Rattle.xt_base.specs.declared.names.JobKind.{JobKind}
 use Rattle.xt_base.specs.declared.names.JobKind.TheVariants.{Ckpt}
 use Rattle.xt_base.specs.declared.names.JobName.{JobName}
-use Rattle.xt_base.specs.declared.steps.Answer.TheVariants as Answer
+use Rattle.xt_base.specs.declared.steps.Answer.{Answer}
 use Rattle.xt_base.specs.declared.steps.Request.{Request}
-use Rattle.xt_base.specs.declared.steps.Request.TheVariants.{Alloc, Commit, Force, Get, Log}
+use Rattle.xt_base.specs.declared.steps.Request.TheVariants.{Alloc, Cancel, Commit, Force, Get, Hold, Join, Log, Read, Release, Relse, Unhold, View}
 use Rattle.xt_base.specs.declared.steps.Step.{Step}
 use Rattle.xt_base.specs.declared.steps.Step.TheVariants.{Begin, Call, End, Mount, Post, Take}
-use Rattle.xt_text.specs.DataReading.{read_data}
+use Rattle.xt_text.specs.DataReading.{read_content, read_data}
 use Rattle.xt_text.specs.Reading.{below, number_of, ◌>>=◌}
 
 -- what stands before the first separator of a text, all of it where there is none
@@ -69,11 +69,11 @@ alloc_of words =
     Some (Alloc unit count perm)
 
 -- TRANS BLOCK
-unfoldable pub get_of : List ℕ → Option Request
-get_of words =
+unfoldable pub own_of : List ℕ → Option (ℕ × ℕ)
+own_of words =
     lettered (before 32 words) >>= λ trans.
     number_of (behind 32 words) >>= λ block.
-    Some (Get trans block)
+    Some (trans, block)
 
 -- TRANS BLOCK FIRST DATA
 unfoldable pub log_of : List ℕ → Option Request
@@ -86,19 +86,43 @@ log_of words =
     read_data (behind 32 b) >>= λ bytes.
     Some (Log trans block first bytes)
 
--- TRANS
-unfoldable pub commit_of : List ℕ → Option Request
-commit_of words = lettered words >>= λ trans. Some (Commit trans)
+-- BLOCK
+unfoldable pub drop_of : List ℕ → Option Request
+drop_of words = number_of words >>= λ block. Some (Release block)
 
--- a request: its verb, and what stands behind it
+-- a request of a transaction: its verb, and what stands behind it
+unfoldable pub trans_request : List ℕ → List ℕ → Option Request
+trans_request verb words =
+    if bytes_eq verb (codes "commit") then (lettered words >>= λ trans. Some (Commit trans))
+    else if bytes_eq verb (codes "cancel") then (lettered words >>= λ trans. Some (Cancel trans))
+    else None
+
+-- a request of a transaction's block: its verb, and what stands behind it
+unfoldable pub own_request : List ℕ → List ℕ → Option Request
+own_request verb words =
+    if bytes_eq verb (codes "get") then (own_of words >>= λ p. Some (Get p.0 p.1))
+    else if bytes_eq verb (codes "view") then (own_of words >>= λ p. Some (View p.0 p.1))
+    else if bytes_eq verb (codes "hold") then (own_of words >>= λ p. Some (Hold p.0 p.1))
+    else if bytes_eq verb (codes "unhold") then (own_of words >>= λ p. Some (Unhold p.0 p.1))
+    else if bytes_eq verb (codes "relse") then (own_of words >>= λ p. Some (Relse p.0 p.1))
+    else if bytes_eq verb (codes "join") then (own_of words >>= λ p. Some (Join p.0 p.1))
+    else trans_request verb words
+
+-- a request other than a read: its verb, and what stands behind it
 unfoldable pub request_of : List ℕ → List ℕ → Option Request
 request_of verb words =
     if bytes_eq verb (codes "alloc") then alloc_of words
-    else if bytes_eq verb (codes "get") then get_of words
     else if bytes_eq verb (codes "log") then log_of words
-    else if bytes_eq verb (codes "commit") then commit_of words
+    else if bytes_eq verb (codes "drop") then drop_of words
     else if bytes_eq verb (codes "force") then Some Force
-    else None
+    else own_request verb words
+
+-- what stands behind a read: nothing, = DATA, or = fail
+unfoldable pub answer_of : List ℕ → Option Answer
+answer_of words =
+    if length words == 0 then Some Answer.None
+    else if bytes_eq (behind 32 words) (codes "fail") then Some Answer.Failed
+    else (read_content (behind 32 words) >>= λ bytes. Some (Answer.Content bytes))
 
 -- ---- steps, by what stands behind their first word
 -- SLOT LOG BLOCKS
@@ -110,13 +134,27 @@ mount_of words =
     number_of (behind 32 a) >>= λ blocks.
     Some (Mount slot log_bytes blocks)
 
+-- a read, by what stands behind its verb: TRANS BLOCK, and the answer
+unfoldable pub read_of : ℕ → ℕ → List ℕ → Option Step
+read_of slot life words =
+    let a = behind 32 words in
+    lettered (before 32 words) >>= λ trans.
+    number_of (before 32 a) >>= λ block.
+    answer_of (behind 32 a) >>= λ answer.
+    Some (Call slot life (Read trans block) answer)
+
+-- a call, by its verb and what stands behind that
+unfoldable pub asked_of : ℕ → ℕ → List ℕ → List ℕ → Option Step
+asked_of slot life verb words =
+    if bytes_eq verb (codes "read") then read_of slot life words
+    else (request_of verb words >>= λ request. Some (Call slot life request Answer.None))
+
 -- a call: SLOT.LIFE, and the request
 unfoldable pub call_of : List ℕ → List ℕ → Option Step
 call_of mount words =
     below 16 (before 46 mount) >>= λ slot.
     u32_of (behind 46 mount) >>= λ life.
-    request_of (before 32 words) (behind 32 words) >>= λ request.
-    Some (Call slot life request Answer.None)
+    asked_of slot life (before 32 words) (behind 32 words)
 
 -- NAME
 unfoldable pub post_of : List ℕ → Option Step

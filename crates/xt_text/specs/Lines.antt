@@ -1,12 +1,12 @@
 -- The lines of steps: the text of each step, and which steps have one.
 use Rattle.std.specs.Fmt.{decimal}
-use Rattle.std.specs.Prelude.{Bool, List, None, Option, Some, [], codes, false, true, ℕ, ◌++◌, ◌<◌, ◌^◌, ◌∷◌}
+use Rattle.std.specs.Prelude.{Bool, List, None, Option, Some, [], codes, false, length, true, ℕ, ◌++◌, ◌<◌, ◌^◌, ◌≡◌, ◌∷◌}
 use Rattle.xt_base.specs.declared.names.JobKind.{JobKind}
 use Rattle.xt_base.specs.declared.names.JobKind.TheVariants.{Ckpt, Flush}
 use Rattle.xt_base.specs.declared.names.JobName.{JobName}
 use Rattle.xt_base.specs.declared.steps.Answer.{Answer}
 use Rattle.xt_base.specs.declared.steps.Request.{Request}
-use Rattle.xt_base.specs.declared.steps.Request.TheVariants.{Alloc, Commit, Force, Get, Log}
+use Rattle.xt_base.specs.declared.steps.Request.TheVariants.{Alloc, Cancel, Commit, Force, Get, Hold, Join, Log, Read, Release, Relse, Unhold, View}
 use Rattle.xt_base.specs.declared.steps.Step.{Step}
 use Rattle.xt_base.specs.declared.steps.Step.TheVariants.{Begin, Call, End, Mount, Post, Take}
 use Rattle.xt_text.specs.DataText.{IsData, spelling}
@@ -59,15 +59,29 @@ sync_text (Some ok) = ok_text ok
 abbrev pub request_text : Request → List ℕ
 request_text (Alloc unit count perm) = codes "alloc" ␣ decimal unit ␣ decimal count ␣ perm_text perm
 request_text (Get trans block) = codes "get" ␣ trans_text trans ␣ decimal block
+request_text (Read trans block) = codes "read" ␣ trans_text trans ␣ decimal block
+request_text (View trans block) = codes "view" ␣ trans_text trans ␣ decimal block
 request_text (Log trans block first bytes) = codes "log" ␣ trans_text trans ␣ decimal block ␣ decimal first ␣ spelling bytes
+request_text (Hold trans block) = codes "hold" ␣ trans_text trans ␣ decimal block
+request_text (Unhold trans block) = codes "unhold" ␣ trans_text trans ␣ decimal block
+request_text (Relse trans block) = codes "relse" ␣ trans_text trans ␣ decimal block
+request_text (Join trans block) = codes "join" ␣ trans_text trans ␣ decimal block
+request_text (Release block) = codes "drop" ␣ decimal block
 request_text (Commit trans) = codes "commit" ␣ trans_text trans
+request_text (Cancel trans) = codes "cancel" ␣ trans_text trans
 request_text Force = codes "force"
 request_text other = []
+
+-- what the home device answered, behind a read's text; nothing where it was not asked
+abbrev pub answer_text : Answer → List ℕ
+answer_text Answer.None = []
+answer_text (Answer.Content bytes) = codes " = " ++ spelling bytes
+answer_text Answer.Failed = codes " = fail"
 
 -- the line of a step, without its newline; a step whose word has not come yet has none
 abbrev pub line_of : Step → List ℕ
 line_of (Mount slot log_bytes blocks) = codes "mount" ␣ decimal slot ␣ decimal log_bytes ␣ decimal blocks
-line_of (Call slot life request answer) = (decimal slot · decimal life) ␣ request_text request
+line_of (Call slot life request answer) = (decimal slot · decimal life) ␣ (request_text request ++ answer_text answer)
 line_of (Post name) = codes "post" ␣ name_text name
 line_of (Take worker name) = codes "take" ␣ decimal worker ␣ name_text name
 line_of (Begin worker name) = codes "begin" ␣ decimal worker ␣ name_text name
@@ -88,20 +102,43 @@ IsName name = (name.slot < 16) × (name.life < 2 ^ 32) × IsKind name.kind × (n
 abbrev pub IsRequest : Request → Type 0
 IsRequest (Alloc unit count perm) = (unit < 2 ^ 32) × (count < 2 ^ 32)
 IsRequest (Get trans block) = (trans < 2 ^ 64) × (block < 2 ^ 64)
+IsRequest (Read trans block) = (trans < 2 ^ 64) × (block < 2 ^ 64)
+IsRequest (View trans block) = (trans < 2 ^ 64) × (block < 2 ^ 64)
 IsRequest (Log trans block first bytes) = (trans < 2 ^ 64) × (block < 2 ^ 64) × (first < 2 ^ 32) × IsData bytes
+IsRequest (Hold trans block) = (trans < 2 ^ 64) × (block < 2 ^ 64)
+IsRequest (Unhold trans block) = (trans < 2 ^ 64) × (block < 2 ^ 64)
+IsRequest (Relse trans block) = (trans < 2 ^ 64) × (block < 2 ^ 64)
+IsRequest (Join trans block) = (trans < 2 ^ 64) × (block < 2 ^ 64)
+IsRequest (Release block) = block < 2 ^ 64
 IsRequest (Commit trans) = trans < 2 ^ 64
+IsRequest (Cancel trans) = trans < 2 ^ 64
 IsRequest Force = Unit {0}
 IsRequest other = ⊥
+
+-- the content of a block: 4,096 bytes
+abbrev pub IsContent : List ℕ → Type 0
+IsContent bytes = IsData bytes × (length bytes ≡ 4096)
+
+-- an answer with the values that its types have
+abbrev pub IsAnswer : Answer → Type 0
+IsAnswer Answer.None = Unit {0}
+IsAnswer (Answer.Content bytes) = IsContent bytes
+IsAnswer Answer.Failed = Unit {0}
 
 -- no device was asked
 abbrev pub IsUnasked : Answer → Type 0
 IsUnasked Answer.None = Unit {0}
 IsUnasked other = ⊥
 
+-- an answer that a request may have: a read any, another request none
+abbrev pub IsAnswerTo : Request → Answer → Type 0
+IsAnswerTo (Read trans block) answer = IsAnswer answer
+IsAnswerTo other answer = IsUnasked answer
+
 -- a step whose word has come
 abbrev pub IsStep : Step → Type 0
 IsStep (Mount slot log_bytes blocks) = (slot < 16) × (log_bytes < 2 ^ 32) × (blocks < 2 ^ 64)
-IsStep (Call slot life request answer) = (slot < 16) × (life < 2 ^ 32) × IsRequest request × IsUnasked answer
+IsStep (Call slot life request answer) = (slot < 16) × (life < 2 ^ 32) × IsRequest request × IsAnswerTo request answer
 IsStep (Post name) = IsName name
 IsStep (Take worker name) = (worker < 8) × IsName name
 IsStep (Begin worker name) = (worker < 8) × IsName name

@@ -4,15 +4,16 @@
 ghost use Rattle.std.specs.Prelude.{◌≡◌, ◌==◌, ◌<◌, ◌≤◌, ◌++◌, ◌∷◌, List, ℕ, length, drop, IfSome, IfOk};
 ghost use Rattle.std.specs.List.{All, prefix_len};
 ghost use Rattle.xt_text.specs.Buffer.{put};
-ghost use Rattle.xt_text.specs.DataReading.{at_end, byte_value, front_at, hex_value, next, read_data, with_run};
+ghost use Rattle.xt_text.specs.DataReading.{at_end, byte_value, front_at, hex_value, next, read_content, read_data, with_run};
 ghost use Rattle.xt_text.specs.Reading.{Gives, GivesAs};
+ghost use Rattle.xt_text.specs.Lines.{IsContent};
 ghost use Rattle.xt_text.specs.DataText.{IsData, hex, hex_digit, is_short, run_text, runs, spelling};
 
 use crate::bad_line::BadLine;
 use crate::buffer::Text;
 use crate::numbers::{number_on, put_number};
 use std::alloc::Global;
-use xt_base::content::Data;
+use xt_base::content::{BLOCK_BYTES, Content, Data};
 
 /// The most bytes that data has.
 const DATA_BYTES: usize = 4096;
@@ -137,9 +138,9 @@ fn are_bytes(bytes: &[u8])
 }
 
 /// Reads bytes from their text, loosely: each spelling gives its bytes, and other texts may give some too.
-pub(crate) fn read_data(alloc: Global, text: &[u8]) -> Result<Data, BadLine>
-    ensures value { Gives result (read_data text.now) }
-    ensures valid { IfOk result IsData }
+fn read_bytes(alloc: Global, text: &[u8]) -> Result<Vec<u8>, BadLine>
+    ensures value { GivesAs (λ bytes. bytes.items) result (read_data text.now) }
+    ensures valid { IfOk result (λ bytes. IsData bytes.items) }
 {
     let mut bytes = Vec::new(alloc);
     if text != b"-".as_slice() {
@@ -150,7 +151,28 @@ pub(crate) fn read_data(alloc: Global, text: &[u8]) -> Result<Data, BadLine>
         read_end(&mut bytes, place)?;
     }
     are_bytes(&bytes);
+    Ok(bytes)
+}
+
+/// Reads what a request carries from its text, loosely.
+pub(crate) fn read_data(alloc: Global, text: &[u8]) -> Result<Data, BadLine>
+    ensures value { Gives result (read_data text.now) }
+    ensures valid { IfOk result IsData }
+{
+    let bytes = read_bytes(alloc, text)?;
     Ok(Data::of(bytes).unwrap())
+}
+
+/// Reads the content of a block from its text, loosely; a text of more or fewer bytes is a bad spelling.
+pub(crate) fn read_content(alloc: Global, text: &[u8]) -> Result<Content, BadLine>
+    ensures value { Gives result (read_content text.now) }
+    ensures valid { IfOk result IsContent }
+{
+    let bytes = read_bytes(alloc, text)?;
+    if bytes.len() != BLOCK_BYTES {
+        return Err(BadLine::Spelling);
+    }
+    Ok(Content::of(bytes).unwrap())
 }
 
 /// Two lists of bytes that are spelled alike are one list.

@@ -1,15 +1,17 @@
 //! Steps printed as their lines.
 
 ghost use Rattle.std.specs.Fmt.{decimal};
-ghost use Rattle.std.specs.Prelude.{◌≡◌, ◌∷◌};
+ghost use Rattle.std.specs.Prelude.{◌≡◌, ◌∷◌, ◌++◌, codes};
 ghost use Rattle.xt_text.specs.Buffer.{put};
-ghost use Rattle.xt_text.specs.Lines.{line_of, name_text, perm_text, request_text, sync_text, ◌·◌, ◌␣◌};
+ghost use Rattle.xt_text.specs.DataText.{spelling};
+ghost use Rattle.xt_text.specs.Lines.{answer_text, line_of, name_text, perm_text, request_text, sync_text, trans_text, ◌·◌, ◌␣◌};
 
 use crate::buffer::Text;
 use crate::fields::{then_data, then_name, then_number, then_ok, then_trans, then_word};
 use crate::numbers::put_number;
-use xt_base::names::{JobName, Life, Slot, Worker};
-use xt_base::steps::{Request, Step};
+use xt_base::content::Data;
+use xt_base::names::{Block, JobName, Life, Slot, TransNo, Worker};
+use xt_base::steps::{Answer, Request, Step};
 
 /// Whether a transaction may roll.
 fn then_perm(out: &mut Text, perm: bool)
@@ -32,54 +34,102 @@ fn then_sync(out: &mut Text, sync: Option<bool>)
     }
 }
 
+/// A verb, log bytes for a leg, a count of legs, and whether they may roll.
+#[tactic(auto, using(crate::proofs::BufferLemmas::put_put))]
+fn put_alloc(out: &mut Text, unit: u32, count: u32, perm: bool)
+    ensures { out.new ≡ put out.old (codes "alloc" ␣ decimal unit ␣ decimal count ␣ perm_text perm) }
+{
+    out.put(b"alloc");
+    then_number(out, unit as u64);
+    then_number(out, count as u64);
+    then_perm(out, perm);
+}
+
+/// A verb, a transaction, a block, and the bytes that are written from a first one on.
+#[tactic(auto, using(crate::proofs::BufferLemmas::put_put))]
+fn put_log(out: &mut Text, trans: TransNo, block: Block, first: u32, bytes: &Data)
+    ensures { out.new ≡ put out.old (codes "log" ␣ trans_text trans ␣ decimal block ␣ decimal first ␣ spelling bytes.now) }
+{
+    put_own(out, b"log", trans, block);
+    then_number(out, first as u64);
+    then_data(out, bytes.bytes());
+}
+
+/// A verb and a transaction.
+#[tactic(auto, using(crate::proofs::BufferLemmas::put_put))]
+fn put_trans(out: &mut Text, verb: &[u8], trans: TransNo)
+    ensures { out.new ≡ put out.old (verb.now ␣ trans_text trans) }
+{
+    out.put(verb);
+    then_trans(out, trans);
+}
+
+/// A verb, a transaction and a block.
+#[tactic(auto, using(crate::proofs::BufferLemmas::put_put))]
+fn put_own(out: &mut Text, verb: &[u8], trans: TransNo, block: Block)
+    ensures { out.new ≡ put out.old (verb.now ␣ trans_text trans ␣ decimal block) }
+{
+    put_trans(out, verb, trans);
+    then_number(out, block.0);
+}
+
 /// Puts a request's text.
 #[tactic(auto, using(crate::proofs::BufferLemmas::put_put, crate::proofs::BufferLemmas::put_none))]
 fn put_request(out: &mut Text, request: &Request)
     ensures { out.new ≡ put out.old (request_text request.now) }
 {
     match request {
-        Request::Alloc { unit, count, perm } => {
-            out.put(b"alloc");
-            then_number(out, *unit as u64);
-            then_number(out, *count as u64);
-            then_perm(out, *perm);
-        }
-        Request::Get { trans, block } => {
-            out.put(b"get");
-            then_trans(out, *trans);
-            then_number(out, block.0);
-        }
+        Request::Alloc { unit, count, perm } => put_alloc(out, *unit, *count, *perm),
+        Request::Get { trans, block } => put_own(out, b"get", *trans, *block),
+        Request::Read { trans, block } => put_own(out, b"read", *trans, *block),
+        Request::View { trans, block } => put_own(out, b"view", *trans, *block),
         Request::Log {
             trans,
             block,
             first,
             bytes,
-        } => {
-            out.put(b"log");
-            then_trans(out, *trans);
+        } => put_log(out, *trans, *block, *first, bytes),
+        Request::Hold { trans, block } => put_own(out, b"hold", *trans, *block),
+        Request::Unhold { trans, block } => put_own(out, b"unhold", *trans, *block),
+        Request::Relse { trans, block } => put_own(out, b"relse", *trans, *block),
+        Request::Join { trans, block } => put_own(out, b"join", *trans, *block),
+        Request::Release { block } => {
+            out.put(b"drop");
             then_number(out, block.0);
-            then_number(out, *first as u64);
-            then_data(out, bytes.bytes());
         }
-        Request::Commit { trans } => {
-            out.put(b"commit");
-            then_trans(out, *trans);
-        }
+        Request::Commit { trans } => put_trans(out, b"commit", *trans),
+        Request::Cancel { trans } => put_trans(out, b"cancel", *trans),
         Request::Force => out.put(b"force"),
         _ => (),
     }
 }
 
-/// Puts a mount and its request.
+/// Puts what the home device answered to a read; nothing where it was not asked.
+#[tactic(auto, using(crate::proofs::BufferLemmas::put_put, crate::proofs::BufferLemmas::put_none))]
+fn put_answer(out: &mut Text, answer: &Answer)
+    ensures { out.new ≡ put out.old (answer_text answer.now) }
+{
+    match answer {
+        Answer::None => (),
+        Answer::Content(content) => {
+            out.put(b" =");
+            then_data(out, content.bytes());
+        }
+        Answer::Failed => out.put(b" = fail"),
+    }
+}
+
+/// Puts a mount, its request and the answer.
 #[tactic(auto, using(crate::proofs::BufferLemmas::put_put))]
-fn put_call(out: &mut Text, slot: Slot, life: Life, request: &Request)
-    ensures { out.new ≡ put out.old ((decimal slot · decimal life) ␣ request_text request.now) }
+fn put_call(out: &mut Text, slot: Slot, life: Life, request: &Request, answer: &Answer)
+    ensures { out.new ≡ put out.old ((decimal slot · decimal life) ␣ (request_text request.now ++ answer_text answer.now)) }
 {
     put_number(out, slot.index() as u64);
     out.put(b".");
     put_number(out, life.0 as u64);
     out.put(b" ");
     put_request(out, request);
+    put_answer(out, answer);
 }
 
 /// Puts a word, a worker and the name of a job.
@@ -113,8 +163,8 @@ pub fn print_step(step: &Step, out: &mut Text)
             slot,
             life,
             request,
-            answer: _,
-        } => put_call(out, *slot, *life, request),
+            answer,
+        } => put_call(out, *slot, *life, request, answer),
         Step::Post(name) => {
             out.put(b"post");
             then_name(out, *name);

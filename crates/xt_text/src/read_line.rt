@@ -1,17 +1,18 @@
 //! Lines read loosely: the line of each step gives that step, and other lines may give some step too.
 
-ghost use Rattle.std.specs.Prelude.{IfOk};
-ghost use Rattle.xt_text.specs.LineReading.{alloc_of, begin_of, call_of, commit_of, end_of, get_of, log_of, mount_of, post_of, request_of, step_of, take_of, words_step};
-ghost use Rattle.xt_text.specs.Lines.{IsRequest, IsStep};
+ghost use Rattle.std.specs.Prelude.{◌<◌, ◌^◌, IfOk};
+ghost use Rattle.xt_text.specs.LineReading.{alloc_of, answer_of, asked_of, begin_of, call_of, drop_of, end_of, log_of, mount_of, own_of, own_request, post_of, read_of, request_of, step_of, take_of, trans_request, words_step};
+ghost use Rattle.xt_text.specs.Lines.{IsAnswer, IsRequest, IsStep};
 ghost use Rattle.xt_text.specs.Reading.{Gives};
 
 use crate::bad_line::BadLine;
-use crate::data_text::read_data;
+use crate::data_text::{read_content, read_data};
 use crate::numbers::number_of;
 use crate::words::{
     block_of, cut, life_of, name_of, perm_of, slot_of, sync_of, trans_of, u32_of, worker_of,
 };
 use std::alloc::Global;
+use xt_base::names::{Block, Life, Slot, TransNo};
 use xt_base::steps::{Answer, LogAnswers, Request, Step};
 
 /// UNIT COUNT plain, or perm.
@@ -29,15 +30,15 @@ fn alloc_of(words: &[u8]) -> Result<Request, BadLine>
 }
 
 /// TRANS BLOCK.
-#[tactic(auto, unfolding(crate::specs::LineReading::get_of))]
-fn get_of(words: &[u8]) -> Result<Request, BadLine>
-    ensures value { Gives result (get_of words.now) }
-    ensures valid { IfOk result IsRequest }
+#[tactic(auto, unfolding(crate::specs::LineReading::own_of))]
+fn own_of(words: &[u8]) -> Result<(TransNo, Block), BadLine>
+    ensures value { Gives result (own_of words.now) }
+    ensures range { IfOk result (λ p. (p.0 < 2 ^ 64) × (p.1 < 2 ^ 64)) }
 {
     let (trans, block) = cut(words, b' ');
     let trans = trans_of(trans)?;
     let block = block_of(block)?;
-    Ok(Request::Get { trans, block })
+    Ok((trans, block))
 }
 
 /// TRANS BLOCK FIRST DATA.
@@ -61,17 +62,63 @@ fn log_of(alloc: Global, words: &[u8]) -> Result<Request, BadLine>
     })
 }
 
-/// TRANS.
-#[tactic(auto, unfolding(crate::specs::LineReading::commit_of))]
-fn commit_of(words: &[u8]) -> Result<Request, BadLine>
-    ensures value { Gives result (commit_of words.now) }
+/// BLOCK.
+#[tactic(auto, unfolding(crate::specs::LineReading::drop_of))]
+fn drop_of(words: &[u8]) -> Result<Request, BadLine>
+    ensures value { Gives result (drop_of words.now) }
     ensures valid { IfOk result IsRequest }
 {
-    let trans = trans_of(words)?;
-    Ok(Request::Commit { trans })
+    let block = block_of(words)?;
+    Ok(Request::Release { block })
 }
 
-/// A request: its verb, and what stands behind it.
+/// A request of a transaction: its verb, and what stands behind it.
+#[tactic(auto, unfolding(crate::specs::LineReading::trans_request))]
+fn trans_request(verb: &[u8], words: &[u8]) -> Result<Request, BadLine>
+    ensures value { Gives result (trans_request verb.now words.now) }
+    ensures valid { IfOk result IsRequest }
+{
+    if verb == b"commit".as_slice() {
+        let trans = trans_of(words)?;
+        Ok(Request::Commit { trans })
+    } else if verb == b"cancel".as_slice() {
+        let trans = trans_of(words)?;
+        Ok(Request::Cancel { trans })
+    } else {
+        Err(BadLine::Spelling)
+    }
+}
+
+/// A request of a transaction's block: its verb, and what stands behind it.
+#[tactic(auto, unfolding(crate::specs::LineReading::own_request))]
+fn own_request(verb: &[u8], words: &[u8]) -> Result<Request, BadLine>
+    ensures value { Gives result (own_request verb.now words.now) }
+    ensures valid { IfOk result IsRequest }
+{
+    if verb == b"get".as_slice() {
+        let (trans, block) = own_of(words)?;
+        Ok(Request::Get { trans, block })
+    } else if verb == b"view".as_slice() {
+        let (trans, block) = own_of(words)?;
+        Ok(Request::View { trans, block })
+    } else if verb == b"hold".as_slice() {
+        let (trans, block) = own_of(words)?;
+        Ok(Request::Hold { trans, block })
+    } else if verb == b"unhold".as_slice() {
+        let (trans, block) = own_of(words)?;
+        Ok(Request::Unhold { trans, block })
+    } else if verb == b"relse".as_slice() {
+        let (trans, block) = own_of(words)?;
+        Ok(Request::Relse { trans, block })
+    } else if verb == b"join".as_slice() {
+        let (trans, block) = own_of(words)?;
+        Ok(Request::Join { trans, block })
+    } else {
+        trans_request(verb, words)
+    }
+}
+
+/// A request other than a read: its verb, and what stands behind it.
 #[tactic(auto, unfolding(crate::specs::LineReading::request_of))]
 fn request_of(alloc: Global, verb: &[u8], words: &[u8]) -> Result<Request, BadLine>
     ensures value { Gives result (request_of verb.now words.now) }
@@ -79,16 +126,32 @@ fn request_of(alloc: Global, verb: &[u8], words: &[u8]) -> Result<Request, BadLi
 {
     if verb == b"alloc".as_slice() {
         alloc_of(words)
-    } else if verb == b"get".as_slice() {
-        get_of(words)
     } else if verb == b"log".as_slice() {
         log_of(alloc, words)
-    } else if verb == b"commit".as_slice() {
-        commit_of(words)
+    } else if verb == b"drop".as_slice() {
+        drop_of(words)
     } else if verb == b"force".as_slice() {
         Ok(Request::Force)
     } else {
-        Err(BadLine::Spelling)
+        own_request(verb, words)
+    }
+}
+
+/// What stands behind a read: nothing, = DATA, or = fail.
+#[tactic(auto, unfolding(crate::specs::LineReading::answer_of))]
+fn answer_of(alloc: Global, words: &[u8]) -> Result<Answer, BadLine>
+    ensures value { Gives result (answer_of words.now) }
+    ensures valid { IfOk result IsAnswer }
+{
+    if words.is_empty() {
+        return Ok(Answer::None);
+    }
+    let (_equals, given) = cut(words, b' ');
+    if given == b"fail".as_slice() {
+        Ok(Answer::Failed)
+    } else {
+        let content = read_content(alloc, given)?;
+        Ok(Answer::Content(content))
     }
 }
 
@@ -110,6 +173,49 @@ fn mount_of(words: &[u8]) -> Result<Step, BadLine>
     })
 }
 
+/// A read, by what stands behind its verb: TRANS BLOCK, and the answer.
+#[tactic(auto, unfolding(crate::specs::LineReading::read_of))]
+fn read_of(alloc: Global, slot: Slot, life: Life, words: &[u8]) -> Result<Step, BadLine>
+    ensures value { Gives result (read_of slot life words.now) }
+    ensures valid { IfOk result IsStep }
+{
+    let (trans, words) = cut(words, b' ');
+    let (block, answer) = cut(words, b' ');
+    let trans = trans_of(trans)?;
+    let block = block_of(block)?;
+    let answer = answer_of(alloc, answer)?;
+    Ok(Step::Call {
+        slot,
+        life,
+        request: Request::Read { trans, block },
+        answer,
+    })
+}
+
+/// A call, by its verb and what stands behind that.
+#[tactic(auto, unfolding(crate::specs::LineReading::asked_of), using(crate::proofs::WordsAgain::none_fits))]
+fn asked_of(
+    alloc: Global,
+    slot: Slot,
+    life: Life,
+    verb: &[u8],
+    words: &[u8],
+) -> Result<Step, BadLine>
+    ensures value { Gives result (asked_of slot life verb.now words.now) }
+    ensures valid { IfOk result IsStep }
+{
+    if verb == b"read".as_slice() {
+        return read_of(alloc, slot, life, words);
+    }
+    let request = request_of(alloc, verb, words)?;
+    Ok(Step::Call {
+        slot,
+        life,
+        request,
+        answer: Answer::None,
+    })
+}
+
 /// A call: SLOT.LIFE, and the request.
 #[tactic(auto, unfolding(crate::specs::LineReading::call_of))]
 fn call_of(alloc: Global, mount: &[u8], words: &[u8]) -> Result<Step, BadLine>
@@ -120,13 +226,7 @@ fn call_of(alloc: Global, mount: &[u8], words: &[u8]) -> Result<Step, BadLine>
     let (verb, words) = cut(words, b' ');
     let slot = slot_of(slot)?;
     let life = life_of(life)?;
-    let request = request_of(alloc, verb, words)?;
-    Ok(Step::Call {
-        slot,
-        life,
-        request,
-        answer: Answer::None,
-    })
+    asked_of(alloc, slot, life, verb, words)
 }
 
 /// NAME.

@@ -10,7 +10,7 @@ use std::process::Abort;
 use std::test::Fail;
 use xt_base::content::{Content, Data, HeldBlocks};
 use xt_base::names::{Block, CkptNo, Life, Slot, TransNo};
-use xt_base::steps::{Errno, HomeOffer, LogOffer, Reason, Reply, Request, Step};
+use xt_base::steps::{Answer, Errno, HomeOffer, LogOffer, Reason, Reply, Request, Step};
 
 /// Whether a line is refused for its spelling.
 fn is_bad(alloc: Global, line: &[u8]) -> Result<bool, Fail> {
@@ -52,6 +52,19 @@ fn lines_of_steps_are_read_and_printed(rt: HostRuntime) -> Result<(), Fail> {
         "0.1 get t1 7",
         "0.1 get t18446744073709551615 18446744073709551615",
         "0.0 get t0 0",
+        "0.1 read t1 7",
+        "0.1 read t1 7 = 55*4096",
+        "0.1 read t1 7 = 11.00*4095",
+        "0.1 read t1 7 = fail",
+        "15.4294967295 read t18446744073709551615 18446744073709551615 = fail",
+        "0.1 view t1 7",
+        "0.1 hold t1 7",
+        "0.1 unhold t1 7",
+        "0.1 relse t1 7",
+        "0.1 join t1 7",
+        "0.1 drop 7",
+        "15.4294967295 drop 18446744073709551615",
+        "0.1 cancel t1",
         "0.1 log t1 7 0 aa*4096",
         "0.1 log t1 7 4294967295 -",
         "0.1 commit t1",
@@ -87,6 +100,103 @@ fn fields_are_where_they_belong(rt: HostRuntime) -> Result<(), Fail> {
             assert_eq!(rt; (*unit, *count, *perm), (5000, 2, true));
         }
         _ => assert!(rt; false, "not an alloc"),
+    }
+    Ok(())
+}
+
+#[test]
+fn answers_of_reads_are_read(rt: HostRuntime) -> Result<(), Fail> {
+    let step = parse_line(rt.alloc(), b"3.9 read t5 7 = 11.00*4095")?;
+    match &step {
+        Step::Call {
+            request: Request::Read { trans, block },
+            answer: Answer::Content(content),
+            ..
+        } => {
+            assert_eq!(rt; (trans.0, block.0), (5, 7));
+            assert_eq!(rt; content.bytes()[0], 0x11);
+            assert!(rt; content.bytes()[1..].iter().all(|b| *b == 0));
+        }
+        _ => assert!(rt; false, "not a read with a content"),
+    }
+    let step = parse_line(rt.alloc(), b"3.9 read t5 7 = fail")?;
+    assert!(rt;
+        matches!(
+            &step,
+            Step::Call {
+                answer: Answer::Failed,
+                ..
+            }
+        )
+    );
+    let step = parse_line(rt.alloc(), b"3.9 read t5 7")?;
+    assert!(rt;
+        matches!(
+            &step,
+            Step::Call {
+                answer: Answer::None,
+                ..
+            }
+        )
+    );
+    Ok(())
+}
+
+#[test]
+fn other_answers_of_reads_are_bad(rt: HostRuntime) -> Result<(), Fail> {
+    for line in [
+        "0.1 read t1 7 =",
+        "0.1 read t1 7 = ",
+        "0.1 read t1 7 = -",
+        "0.1 read t1 7 = 55",
+        "0.1 read t1 7 = 55*512",
+        "0.1 read t1 7 = 55*4095",
+        "0.1 read t1 7 = 55*4097",
+        "0.1 read t1 7 = ok",
+        "0.1 read t1 7 = none",
+        "0.1 read t1 7 = fail ",
+        "0.1 read t1 7 fail",
+        "0.1 read t1 7 55*4096",
+        "0.1 read t1 7=55*4096",
+        "0.1 read t1 7 =55*4096",
+        "0.1 read t1 7  = 55*4096",
+        "0.1 read t1 7 = 55*4096 =",
+        "0.1 read t1 = 55*4096",
+        "0.1 view t1 7 = 55*4096",
+        "0.1 get t1 7 = fail",
+    ] {
+        assert!(rt; is_bad(rt.alloc(), line.as_bytes())?, "{line}");
+    }
+    Ok(())
+}
+
+#[test]
+fn other_spellings_of_buffer_words_are_bad(rt: HostRuntime) -> Result<(), Fail> {
+    for line in [
+        "0.1 view t1",
+        "0.1 view t1 7 7",
+        "0.1 view 1 7",
+        "0.1 View t1 7",
+        "0.1 hold t1",
+        "0.1 hold t1 07",
+        "0.1 un hold t1 7",
+        "0.1 unhold t1",
+        "0.1 unhold t1 18446744073709551616",
+        "0.1 relse t1",
+        "0.1 relse 7",
+        "0.1 release t1 7",
+        "0.1 brelse t1 7",
+        "0.1 join t1",
+        "0.1 join 7",
+        "0.1 drop",
+        "0.1 drop t1 7",
+        "0.1 drop t1",
+        "0.1 drop 7 ",
+        "0.1 cancel",
+        "0.1 cancel 1",
+        "0.1 cancel t1 7",
+    ] {
+        assert!(rt; is_bad(rt.alloc(), line.as_bytes())?, "{line}");
     }
     Ok(())
 }
@@ -182,8 +292,11 @@ fn other_spellings_of_data_are_bad(rt: HostRuntime) -> Result<(), Fail> {
 #[test]
 fn words_that_have_not_come_are_bad(rt: HostRuntime) -> Result<(), Fail> {
     for line in [
-        "0.1 view t1 7",
-        "0.1 read t1 7",
+        "0.1 roll t1",
+        "0.1 inval t1 7",
+        "0.1 forceto c1",
+        "0.1 push",
+        "0.1 shutdown",
         "0.1 unmount",
         "flush 0 0.1.flush.1",
         "post 0.1.flush.1",
