@@ -145,7 +145,7 @@ module _ {V : Type 0} where
   replaced v m i e lt here =
       let whole : List (ℕ × V) = set {A = ℕ × V} m i (e.0, v) in
       let split : whole ≡ take i m ++ ((e.0, v) ∷ drop (i + 1) m) =
-          sym (take-append-drop i whole) ∙ ap (λ xs. xs ++ drop i whole) (take-set m i (e.0, v)) ∙ ap (λ xs. take i m ++ xs) (drop-set m i (e.0, v) lt) in
+      sym (take-append-drop i whole) ∙ ap (λ xs. xs ++ drop i whole) (take-set m i (e.0, v)) ∙ ap (λ xs. take i m ++ xs) (drop-set m i (e.0, v) lt) in
       subst (λ o. IfSome o (λ x. whole ≡ take i m ++ ((x.0, v) ∷ drop (i + 1) m))) (sym (slice_get-get_or m i e lt))
       (split ∙ ap (λ (x : ℕ × V). take i m ++ ((x.0, v) ∷ drop (i + 1) m)) here)
 

@@ -21,25 +21,8 @@ kind_come Flush valid = absurd valid
 
 -- a request of a line has come
 pub request_come : (r : Request) → IsRequest r → has_come r ≡ true
-request_come (Request.Alloc unit count perm) valid = refl
-request_come (Request.Get trans block) valid = refl
-request_come (Request.Read trans block) valid = absurd valid
-request_come (Request.View trans block) valid = absurd valid
-request_come (Request.Log trans block first bytes) valid = refl
-request_come (Request.Hold trans block) valid = absurd valid
-request_come (Request.Unhold trans block) valid = absurd valid
-request_come (Request.Relse trans block) valid = absurd valid
-request_come (Request.Join trans block) valid = absurd valid
-request_come (Request.Release block) valid = absurd valid
-request_come (Request.Inval trans block) valid = absurd valid
-request_come (Request.Commit trans) valid = refl
 request_come (Request.Roll trans) valid = absurd valid
-request_come (Request.Cancel trans) valid = absurd valid
-request_come Request.Force valid = refl
-request_come (Request.ForceTo number) valid = absurd valid
-request_come Request.Push valid = absurd valid
-request_come Request.Shutdown valid = absurd valid
-request_come Request.Unmount valid = absurd valid
+request_come other valid = refl
 
 -- a step of a line has come
 pub step_come : (x : Step) → IsStep x → step_has_come x ≡ true

@@ -1,8 +1,12 @@
 //! Worked scripts: what they print, and how they end.
 
+mod buffers;
+mod idle;
 mod rows;
 
 use crate::script::run_script;
+use buffers::*;
+use idle::*;
 use rows::*;
 use std::alloc::Global;
 use std::io::{self, Read, Write};
@@ -93,6 +97,68 @@ fn one_force_one_checkpoint(rt: HostRuntime) {
 #[test]
 fn a_failed_offer_fails_the_force(rt: HostRuntime) {
     says(&rt, rt.alloc(), ROW13_R1_IN, ROW13_R1_OUT, 0);
+}
+
+/// Asserts what the steps after the idle list has been filled print, and the status.
+fn says_idle(
+    rt: &impl Abort,
+    alloc: Global,
+    input: &str,
+    want: &str,
+    status: u8,
+) -> Result<(), Fail> {
+    let (mut script, mut all) = (String::new(alloc), String::new(alloc));
+    script.push_str(IDLE_IN)?;
+    script.push_str(input)?;
+    all.push_str(IDLE_OUT)?;
+    all.push_str(want)?;
+    says(rt, alloc, script.as_str(), all.as_str(), status);
+    Ok(())
+}
+
+#[test]
+fn chunks_are_marked_and_joined(rt: HostRuntime) {
+    let alloc = rt.alloc();
+    says(&rt, alloc, ROW02_IN, ROW02_OUT, 0);
+    says(&rt, alloc, ROW03_IN, ROW03_OUT, 0);
+    says(&rt, alloc, ROW04_IN, ROW04_OUT, 0);
+    says(&rt, alloc, WHOLE_PIECES_IN, WHOLE_PIECES_OUT, 0);
+}
+
+#[test]
+fn blocks_are_locked_and_given_back(rt: HostRuntime) {
+    let alloc = rt.alloc();
+    says(&rt, alloc, ROW05_IN, ROW05_OUT, 0);
+    says(&rt, alloc, ROW06_IN, ROW06_OUT, 0);
+    says(&rt, alloc, ROW07_IN, ROW07_OUT, 0);
+}
+
+#[test]
+fn a_clean_cancel_gives_back_blocks_and_space(rt: HostRuntime) {
+    says(&rt, rt.alloc(), ROW09_IN, ROW09_OUT, 0);
+    says(&rt, rt.alloc(), ROW09_VIEWED_IN, ROW09_VIEWED_OUT, 0);
+}
+
+#[test]
+fn a_dirty_cancel_shuts_the_mount(rt: HostRuntime) {
+    says(&rt, rt.alloc(), ROW10_IN, ROW10_OUT, 0);
+}
+
+#[test]
+fn a_failed_read_shuts_the_mount_of_a_dirty_leg(rt: HostRuntime) {
+    says(&rt, rt.alloc(), ROW14_IN, ROW14_OUT, 0);
+}
+
+#[test]
+fn the_idle_list_is_cut_at_64(rt: HostRuntime) -> Result<(), Fail> {
+    let alloc = rt.alloc();
+    let kept = "0.1 read t1 0 = 00*4096\n0.1 read t1 1\n0.1 view t1 1\n";
+    says_idle(&rt, alloc, kept, "0 ok\n0 ok\n0 data 01*4096\n", 0)?;
+    let cut = "0.1 read t1 0 = 00*4096\n0.1 relse t1 0\n0.1 read t1 1 = 99*4096\n0.1 view t1 1\n";
+    says_idle(&rt, alloc, cut, "0 ok\n0 free\n0 ok\n0 data 99*4096\n", 0)?;
+    says_idle(&rt, alloc, "0.1 read t1 0\n", "disorder 133\n", 3)?;
+    let unasked = "0.1 read t1 0 = 00*4096\n0.1 read t1 1 = 01*4096\n";
+    says_idle(&rt, alloc, unasked, "0 ok\ndisorder 134\n", 3)
 }
 
 #[test]

@@ -78,10 +78,11 @@ served_call b life request answer reply mid new old is turned left =
           ∙ by_true (is_no_memory reply) (mid ≡ old) ((reply ≡ first.reply) × (mid ≡ with_lone first.slot old)) refused turned)
       | inr went ↦
           let h = by_false (is_no_memory reply) (mid ≡ old) ((reply ≡ first.reply) × (mid ≡ with_lone first.slot old)) went turned in
-          to_false (is_no_memory reply) (new ≡ old) ((reply ≡ last.reply) × (new ≡ with_lone last.slot old)) went
-          (h.0 ∙ reply_is life request answer (lone_of old) old.mount,
-          left ∙ ap (λ (u : Solo). if b then record u { mount = None } else u) h.1 ∙ solo_emptied b first.slot old
-          ∙ ap (λ l. with_lone l old) (slot_is life request answer (lone_of old) old.mount reply b h.0 is))
+          to_false (is_no_memory reply) (new ≡ old) ((reply ≡ last.reply) × (new ≡ with_lone last.slot old)) went (
+            h.0 ∙ reply_is life request answer (lone_of old) old.mount,
+            left ∙ ap (λ (u : Solo). if b then record u { mount = None } else u) h.1 ∙ solo_emptied b first.slot old
+                ∙ ap (λ l. with_lone l old) (slot_is life request answer (lone_of old) old.mount reply b h.0 is),
+          )
     ]
 
 -- what the mount of this life answers
@@ -94,7 +95,7 @@ turned_by life request answer reply m n old there lives served =
     let last : Turn = mounted_turn true s o in
     let is : answered_turn life request answer s old.mount ≡ last = ap (answered_turn life request answer s) there ∙ ap (λ e. mounted_turn e s o) lives in
     let want : is_no_memory o.reply ≡ false = ap (λ e. is_no_memory (if e then called request (record s { mounted = Some m }) o else turn (Refused Stale) (record s { mounted = Some m })).reply) (sym lives)
-        ∙ alone_no_want (Call 0 life request answer) (record s { mounted = Some m }) in
+    ∙ alone_no_want (Call 0 life request answer) (record s { mounted = Some m }) in
     subst (λ t. IsTurned t reply new old) (sym is)
     (elim served [
       | inl gave ↦ to_false (is_no_memory reply) (new ≡ old) ((reply ≡ last.reply) × (new ≡ with_lone last.slot old)) (ap (λ (x : Outcome). is_no_memory x.reply) gave ∙ want)

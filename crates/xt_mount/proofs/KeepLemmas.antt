@@ -34,7 +34,7 @@ module _ {V : Type 0} where
 
 -- a transaction that was changed in its leg is put back
 module _ (s : State) (t : ℕ) (f : Leg → Leg) (u v : Transaction) (m ts : List (ℕ × Transaction)) (there : at t s.transactions ≡ Some u) (rises : IsRising s.transactions)
-  (out : m ≡ without t s.transactions) (changed : v ≡ record u { leg = f u.leg }) (in_again : ts ≡ put t v m) where
+    (out : m ≡ without t s.transactions) (changed : v ≡ record u { leg = f u.leg }) (in_again : ts ≡ put t v m) where
   back : ts ≡ set_at t (record u { leg = f u.leg }) s.transactions
   back = in_again ∙ ap (put t v) out ∙ put_back t u v s.transactions rises there ∙ ap (λ x. set_at t x s.transactions) changed
 

@@ -1,4 +1,5 @@
 pub mod FrameLemmas
+pub mod FreshLemmas
 pub mod LandedLemmas
 pub mod SettleLemmas
 pub mod KeepLemmas

@@ -3,6 +3,7 @@ pub mod Lists
 pub mod Machines
 pub mod Settling
 pub mod Ending
+pub mod Fresh
 pub mod Reads
 pub mod Texts
 pub mod Come

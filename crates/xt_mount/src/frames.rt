@@ -4,11 +4,11 @@ ghost use Rattle.std.specs.Prelude.{◌≡◌, ◌+◌, Some, ◌<◌, ◌≤◌
 ghost use Rattle.xt_base.specs.Maps.{at, has, is_in, put, with_member, without, without_member};
 ghost use Rattle.xt_mount.specs.Layers.{no_frames, brought_in};
 
+use crate::fresh::FreshBlocks;
 use std::alloc::{AllocError, Global};
 use std::marker::Model;
 use xt_base::content::Content;
 use xt_base::map::{NumberMap, spot_of};
-use xt_base::set::NumberSet;
 
 /// How many idle blocks a mount keeps.
 const IDLE: usize = 64;
@@ -18,7 +18,7 @@ const IDLE: usize = 64;
 #[derive(Debug, Drop)]
 pub struct Frames {
     committed: NumberMap<Content>,
-    fresh: NumberSet,
+    fresh: FreshBlocks,
     idle: Vec<(u64, Content)>,
 }
 
@@ -39,7 +39,7 @@ impl Frames {
         ensures { IfOk result (λ frames. frames ≡ no_frames) }
     {
         let committed = NumberMap::new(alloc)?;
-        let fresh = NumberSet::new(alloc)?;
+        let fresh = FreshBlocks::new(alloc)?;
         let idle = Vec::with_capacity(alloc, IDLE + 1)?;
         Ok(Frames {
             committed,
@@ -177,7 +177,7 @@ impl Frames {
         requires { index < length self.now.fresh }
         ensures { slice_get self.now.fresh index ≡ Some result }
     {
-        self.fresh.members()[index]
+        self.fresh.at(index)
     }
 
     /// The fresh block at a place goes.

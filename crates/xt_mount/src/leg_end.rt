@@ -87,11 +87,8 @@ fn owner_left(leg: &TransRec, number: u64, block: u64) -> Option<Owner>
 fn owner_kept(leg: &TransRec, block: u64) -> Option<Owner>
     ensures { result ≡ owner_kept leg.now block }
 {
-    if leg.is_held(block) {
-        Some(Owner::Held)
-    } else {
-        None
-    }
+    let is_kept = leg.is_held(block);
+    if is_kept { Some(Owner::Held) } else { None }
 }
 
 /// The blocks of a leg that was committed pass on.

@@ -6,6 +6,7 @@ mod ckpt;
 mod commit;
 mod force;
 mod frames;
+mod fresh;
 mod get;
 mod hold;
 mod items;

@@ -82,9 +82,7 @@ impl Machine {
         } else {
             u64::from(self.log_bytes / 8)
         };
-        !self.is_shut()
-            && self.is_worth(least)
-            && self.jobs.next(JobKind::Ckpt).is_some()
+        !self.is_shut() && self.is_worth(least) && self.jobs.next(JobKind::Ckpt).is_some()
     }
 
     /// The next job of a kind, if the mount owes one; no flush is owed yet.

@@ -10,7 +10,7 @@ use Rattle.xt_mount.specs.Ending.{edits_kept, emptied, marks_kept, with_first}
 pub loop-block-preserved : goal.loop-block-preserved
 loop-block-preserved c =
     let took : c.loop-block.opened ≡ with_first (c.in-Some.block, c.in-Some.change) c.take_change.new.self =
-        taken c.take_change.result _ (λ e. c.loop-block.opened ≡ with_first e c.take_change.new.self) (c.in-Some.block, c.in-Some.change) c.in-Some.is c.take_change.ensures in
+    taken c.take_change.result _ (λ e. c.loop-block.opened ≡ with_first e c.take_change.new.self) (c.in-Some.block, c.in-Some.change) c.in-Some.is c.take_change.ensures in
     record {
       contents = ap (edits_kept c.take_change.new.self.leg.changes) c.keep_change.ensures.contents ∙ ap (λ (t : Transaction). edits_kept t.leg.changes c.loop-block.frames) (sym took) ∙ c.loop-block.invariant.contents;
       cil = ap (marks_kept c.take_change.new.self.leg.changes) c.keep_change.ensures.cil ∙ ap (λ (t : Transaction). marks_kept t.leg.changes c.loop-block.items) (sym took) ∙ c.loop-block.invariant.cil;

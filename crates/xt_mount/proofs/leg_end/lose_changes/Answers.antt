@@ -8,7 +8,7 @@ pub loop-block-preserved : goal.loop-block-preserved
 loop-block-preserved c =
     let leg : Leg = c.args.opened.now.leg in
     let took : c.loop-block.opened ≡ with_first (c.in-Some.block, c.in-Some.change) c.take_change.new.self =
-        taken c.take_change.result _ (λ e. c.loop-block.opened ≡ with_first e c.take_change.new.self) (c.in-Some.block, c.in-Some.change) c.in-Some.is c.take_change.ensures in
+    taken c.take_change.result _ (λ e. c.loop-block.opened ≡ with_first e c.take_change.new.self) (c.in-Some.block, c.in-Some.change) c.in-Some.is c.take_change.ensures in
     let holds : c.take_change.new.self.leg.holds ≡ leg.holds = ap (λ (t : Transaction). t.leg.holds) (sym took) ∙ c.loop-block.invariant.holds in
     let held : c.leg.result.now.holds ≡ leg.holds = ap (λ (l : Leg). l.holds) c.leg.ensures ∙ holds in
     let frames : List ℕ → Frames = λ h. record c.loop-block.frames { fresh = lost_with h c.in-Some.block c.loop-block.frames.fresh } in
