@@ -1,0 +1,2 @@
+pub mod LandedLemmas
+pub mod LegLemmas
