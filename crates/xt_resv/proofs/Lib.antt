@@ -1,0 +1,3 @@
+pub mod LandedLemmas
+pub mod LegLemmas
+pub mod MountLemmas

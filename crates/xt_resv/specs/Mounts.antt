@@ -1,0 +1,18 @@
+-- The ledger of a mount: the numbers of its state that `LogSpace` keeps.
+use Rattle.std.specs.Prelude.{None, Option, Some, ℕ}
+use Rattle.xt_base.specs.Space.{charge, cost, granted}
+use Rattle.xt_base.specs.State.{Flight, State, Transaction}
+use Rattle.xt_resv.specs.Ledgers.{Grant, Ledger}
+
+-- what a flight costs, if there is one
+abbrev pub flight_of : Option Flight → Option ℕ
+flight_of None = None
+flight_of (Some f) = Some (cost f.items)
+
+-- the ledger of a mount
+abbrev pub ledger_of : State → Ledger
+ledger_of s = record { size = s.log_bytes; granted = granted s.transactions; cil = cost s.items.cil; flight = flight_of s.items.flight; landed = s.items.landed }
+
+-- the grant of a transaction
+abbrev pub grant_of : Transaction → Grant
+grant_of trans = record { unit = trans.unit; legs = trans.legs; perm = trans.perm; charged = charge trans.leg.changes }

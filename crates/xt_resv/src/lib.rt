@@ -1,0 +1,6 @@
+//! The ledger of a mount's log space, and the tickets of what transactions were granted.
+#![tactic(auto)]
+
+pub mod space;
+#[cfg(test)]
+mod tests;
