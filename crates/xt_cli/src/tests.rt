@@ -150,6 +150,11 @@ fn a_failed_read_shuts_the_mount_of_a_dirty_leg(rt: HostRuntime) {
 }
 
 #[test]
+fn at_most_64_blocks_are_busy(rt: HostRuntime) {
+    says(&rt, rt.alloc(), BUSY_IN, BUSY_OUT, 0);
+}
+
+#[test]
 fn the_idle_list_is_cut_at_64(rt: HostRuntime) -> Result<(), Fail> {
     let alloc = rt.alloc();
     let kept = "0.1 read t1 0 = 00*4096\n0.1 read t1 1\n0.1 view t1 1\n";

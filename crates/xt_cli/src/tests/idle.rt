@@ -1,4 +1,4 @@
-//! A script that reads and gives back one block more than the idle list keeps.
+//! Scripts of more blocks than a mount keeps busy, and than its idle list keeps.
 
 /// Blocks 0 to 64 are read and given back, one after another.
 pub const IDLE_IN: &str = "\
@@ -269,3 +269,143 @@ pub const IDLE_OUT: &str = "\
     0 free\n\
     0 ok\n\
     0 free\n";
+
+/// Blocks 0 to 64 are locked by one transaction.
+pub const BUSY_IN: &str = "\
+    mount 0 65536 1024\n\
+    0.1 alloc 1 1 plain\n\
+    0.1 get t1 0\n\
+    0.1 get t1 1\n\
+    0.1 get t1 2\n\
+    0.1 get t1 3\n\
+    0.1 get t1 4\n\
+    0.1 get t1 5\n\
+    0.1 get t1 6\n\
+    0.1 get t1 7\n\
+    0.1 get t1 8\n\
+    0.1 get t1 9\n\
+    0.1 get t1 10\n\
+    0.1 get t1 11\n\
+    0.1 get t1 12\n\
+    0.1 get t1 13\n\
+    0.1 get t1 14\n\
+    0.1 get t1 15\n\
+    0.1 get t1 16\n\
+    0.1 get t1 17\n\
+    0.1 get t1 18\n\
+    0.1 get t1 19\n\
+    0.1 get t1 20\n\
+    0.1 get t1 21\n\
+    0.1 get t1 22\n\
+    0.1 get t1 23\n\
+    0.1 get t1 24\n\
+    0.1 get t1 25\n\
+    0.1 get t1 26\n\
+    0.1 get t1 27\n\
+    0.1 get t1 28\n\
+    0.1 get t1 29\n\
+    0.1 get t1 30\n\
+    0.1 get t1 31\n\
+    0.1 get t1 32\n\
+    0.1 get t1 33\n\
+    0.1 get t1 34\n\
+    0.1 get t1 35\n\
+    0.1 get t1 36\n\
+    0.1 get t1 37\n\
+    0.1 get t1 38\n\
+    0.1 get t1 39\n\
+    0.1 get t1 40\n\
+    0.1 get t1 41\n\
+    0.1 get t1 42\n\
+    0.1 get t1 43\n\
+    0.1 get t1 44\n\
+    0.1 get t1 45\n\
+    0.1 get t1 46\n\
+    0.1 get t1 47\n\
+    0.1 get t1 48\n\
+    0.1 get t1 49\n\
+    0.1 get t1 50\n\
+    0.1 get t1 51\n\
+    0.1 get t1 52\n\
+    0.1 get t1 53\n\
+    0.1 get t1 54\n\
+    0.1 get t1 55\n\
+    0.1 get t1 56\n\
+    0.1 get t1 57\n\
+    0.1 get t1 58\n\
+    0.1 get t1 59\n\
+    0.1 get t1 60\n\
+    0.1 get t1 61\n\
+    0.1 get t1 62\n\
+    0.1 get t1 63\n\
+    0.1 get t1 64\n";
+
+/// Blocks 0 to 64 are locked by one transaction: what is printed.
+pub const BUSY_OUT: &str = "\
+    0 life 1\n\
+    0 t1\n\
+    0 ok\n\
+    0 ok\n\
+    0 ok\n\
+    0 ok\n\
+    0 ok\n\
+    0 ok\n\
+    0 ok\n\
+    0 ok\n\
+    0 ok\n\
+    0 ok\n\
+    0 ok\n\
+    0 ok\n\
+    0 ok\n\
+    0 ok\n\
+    0 ok\n\
+    0 ok\n\
+    0 ok\n\
+    0 ok\n\
+    0 ok\n\
+    0 ok\n\
+    0 ok\n\
+    0 ok\n\
+    0 ok\n\
+    0 ok\n\
+    0 ok\n\
+    0 ok\n\
+    0 ok\n\
+    0 ok\n\
+    0 ok\n\
+    0 ok\n\
+    0 ok\n\
+    0 ok\n\
+    0 ok\n\
+    0 ok\n\
+    0 ok\n\
+    0 ok\n\
+    0 ok\n\
+    0 ok\n\
+    0 ok\n\
+    0 ok\n\
+    0 ok\n\
+    0 ok\n\
+    0 ok\n\
+    0 ok\n\
+    0 ok\n\
+    0 ok\n\
+    0 ok\n\
+    0 ok\n\
+    0 ok\n\
+    0 ok\n\
+    0 ok\n\
+    0 ok\n\
+    0 ok\n\
+    0 ok\n\
+    0 ok\n\
+    0 ok\n\
+    0 ok\n\
+    0 ok\n\
+    0 ok\n\
+    0 ok\n\
+    0 ok\n\
+    0 ok\n\
+    0 ok\n\
+    0 ok\n\
+    0 ENOBUFS\n";
