@@ -1,6 +1,5 @@
 pub mod ChunkLemmas
 pub mod PlaceLemmas
-pub mod RankLemmas
 pub mod MapLemmas
 pub mod RisingLemmas
 pub mod KeyLemmas

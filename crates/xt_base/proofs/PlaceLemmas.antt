@@ -5,7 +5,7 @@ use Rattle.std.proofs.Math.ListN.{set}
 use Rattle.std.proofs.lemmas.List.{drop-set, take-append-drop, take-set}
 use Rattle.std.proofs.lemmas.Option.{slice_get-get_or}
 use Rattle.std.proofs.lemmas.Bool.Decides.{nat_tests}
-use Rattle.std.proofs.lemmas.Bool.{cases_eq, cases_order}
+use Rattle.std.proofs.lemmas.Bool.{cases_eq, cases_order, false≢true}
 use Rattle.xt_base.proofs.RisingLemmas.{none_below, rises_weaker}
 use Rattle.xt_base.specs.Maps.{at, is_in, put, without}
 use Rattle.xt_base.specs.Places.{place, spot}
@@ -169,6 +169,26 @@ module _ {V : Type 0} where
   pub absent_last : (k : ℕ) (m : List (ℕ × V)) (p : ℕ) → IsRising m → p ≡ place k m → length m ≤ p → is_in k m ≡ false
   absent_last k [] p r is le = refl
   absent_last k (e ∷ es) p r is le = ap is_some (absent_is 0 k (e ∷ es) e p r is (λ h. absurd (omega arith)))
+
+  -- a key that is not there goes in at its place
+  pub put_absent : (k : ℕ) (v : V) (m : List (ℕ × V)) (p : ℕ) → p ≡ place k m → is_in k m ≡ false → insert {X = ℕ × V} m p (k, v) ≡ put k v m
+  put_absent k v [] p is h = subst (λ n. insert {X = ℕ × V} [] n (k, v) ≡ (k, v) ∷ []) (sym is) refl
+  put_absent k v (e ∷ es) p is h =
+      elim (cases_order k e.0) [
+        | inl same ↦ absurd (false≢true (sym h ∙ ap is_some (at_here k e es (sym same))))
+        | inr (inl lt) ↦ subst (λ n. insert {X = ℕ × V} (e ∷ es) n (k, v) ≡ put k v (e ∷ es)) (sym (is ∙ place_here k e es (omega arith))) (sym (put_less k v e es lt))
+        | inr (inr gt) ↦ subst (λ n. insert {X = ℕ × V} (e ∷ es) n (k, v) ≡ put k v (e ∷ es)) (sym (is ∙ place_low k e es gt))
+            (ap (λ xs. e ∷ xs) (put_absent k v es (place k es) refl (ap is_some (sym (at_later k e es (λ s. omega (arith, s, gt)))) ∙ h)) ∙ sym (put_more k v e es gt))
+      ]
+
+  -- a key that was taken away is not there
+  pub absent_after : (n k : ℕ) (m : List (ℕ × V)) → RisesFrom n m → is_in k (without k m) ≡ false
+  absent_after n k [] r = refl
+  absent_after n k (e ∷ es) r =
+      elim (cases_eq e.0 k) [
+        | inl same ↦ ap (is_in k) (without_here k e es same) ∙ ap is_some (none_below k (suc e.0) es (omega (arith, same)) r.1)
+        | inr other ↦ ap (is_in k) (without_later k e es other) ∙ ap is_some (at_later k e (without k es) other) ∙ absent_after (suc e.0) k es r.1
+      ]
 
   -- what is left of a rising map rises
   pub rises_remove : (n : ℕ) (m : List (ℕ × V)) (p : ℕ) → RisesFrom n m → RisesFrom n (remove m p)

@@ -11,8 +11,3 @@ module _ {V : Type 0} where
   abbrev pub spot : ℕ → List (ℕ × V) → ℕ
   spot k [] = 0
   spot k (e ∷ es) = if e.0 == k then 0 else suc (spot k es)
-
--- how many numbers stand before the first that is not below k
-abbrev pub rank : ℕ → List ℕ → ℕ
-rank k [] = 0
-rank k (x ∷ xs) = if nat_lt x k then suc (rank k xs) else 0

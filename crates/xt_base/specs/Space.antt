@@ -1,6 +1,6 @@
 -- Charges, costs, the log space in use, and which blocks are busy.
 use Rattle.std.specs.List.{list_any}
-use Rattle.std.specs.Prelude.{Bool, List, None, Option, Some, [], count_by, filter, if◌then◌else◌, length, nat_le, not, sum_by, ℕ, ◌*◌, ◌+◌, ◌==◌, ◌||◌}
+use Rattle.std.specs.Prelude.{◌∷◌, Bool, List, None, Option, Some, [], count_by, filter, if◌then◌else◌, length, nat_le, not, sum_by, ℕ, ◌*◌, ◌+◌, ◌==◌, ◌||◌}
 use Rattle.xt_base.specs.Maps.{is_in}
 use Rattle.xt_base.specs.State.{Change, Flight, Items, State, Transaction}
 use Rattle.xt_base.specs.declared.steps.Owner.{Owner}
@@ -33,6 +33,16 @@ flight_items (Some f) = f.items
 -- whether a checkpoint is no older than some block on the active list; none is where that is empty
 abbrev pub is_needed : List (ℕ × ℕ) → ℕ → Bool
 is_needed ail number = list_any (λ e. nat_le e.1 number) ail
+
+-- a number, or one that is less
+abbrev pub lesser : ℕ → Option ℕ → ℕ
+lesser n None = n
+lesser n (Some m) = if nat_le n m then n else m
+
+-- the least number of an active list
+abbrev pub least_number : List (ℕ × ℕ) → Option ℕ
+least_number [] = None
+least_number (e ∷ es) = Some (lesser e.1 (least_number es))
 
 -- landed checkpoints that still count
 abbrev pub still_needed : List (ℕ × ℕ) → List (ℕ × ℕ) → List (ℕ × ℕ)

@@ -10,5 +10,4 @@ pub mod marks;
 pub mod names;
 pub mod newly;
 pub mod outcomes;
-pub mod set;
 pub mod steps;

@@ -97,10 +97,32 @@ impl<V> NumberMap<V> {
         }
     }
 
+    /// Puts a value at a key that it does not have, also one that can't be let go. It takes no memory.
+    pub fn put_new(&mut self, key: u64, value: V)
+        requires absent { is_in key self.old ≡ false }
+        requires room { length self.old < 128 }
+        ensures { self.new ≡ with_entry key value self.old }
+    {
+        let at = place_of(&self.entries, key);
+        match self.entries.insert(at, (key, value)) {
+            Ok(()) => {}
+            Err(_) => unreachable!(),
+        }
+    }
+
+    /// Lets an empty map go, also one of values that can't be.
+    pub fn destroy_empty(self)
+        requires { self ≡ [] }
+    {
+        let NumberMap { entries } = self;
+        entries.destroy_empty();
+    }
+
     /// Takes the entry of a key away.
     pub fn remove(&mut self, key: u64) -> Option<V>
         ensures value { result ≡ at key self.old }
         ensures rest { self.new ≡ without key self.old }
+        ensures gone { is_in key self.new ≡ false }
         ensures room { IfSome result (λ _. length self.new < 128) }
         ensures missing { IfNone result (self.new ≡ self.old) }
     {

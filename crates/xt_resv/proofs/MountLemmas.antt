@@ -11,9 +11,9 @@ use Rattle.xt_base.specs.Jobs.{activated, cleaned, flown, landed_items}
 use Rattle.xt_base.specs.Legs.{clean_leg, ended, is_dirty, with_marks}
 use Rattle.xt_base.specs.Maps.{at, put, set_at, without}
 use Rattle.xt_base.specs.Sound.{IsSound}
-use Rattle.xt_base.specs.Space.{change_cost, charge, cost, flight_items, granted, is_needed, still_needed, used as used_of}
+use Rattle.xt_base.specs.Space.{change_cost, charge, cost, flight_items, granted, is_needed, least_number, lesser, still_needed, used as used_of}
 use Rattle.xt_base.specs.State.{Change, Flight, Leg, State, Transaction}
-use Rattle.xt_resv.specs.Ledgers.{Ledger, flight_cost, is_counted, is_no_room, least_number, lesser, new_grant, next_grant, regranted, still_counted, ungranted, used}
+use Rattle.xt_resv.specs.Ledgers.{Ledger, flight_cost, is_counted, is_no_room, new_grant, next_grant, regranted, still_counted, ungranted, used}
 use Rattle.xt_resv.specs.Mounts.{flight_of, grant_of, ledger_of}
 
 -- ---- the space in use

@@ -100,13 +100,3 @@ still_counted least landed = filter (λ e. is_counted least e.0) landed
 abbrev pub is_front_uncounted : Option ℕ → List (ℕ × ℕ) → Bool
 is_front_uncounted least [] = false
 is_front_uncounted least (e ∷ es) = not (is_counted least e.0)
-
--- a number, or one that is less
-abbrev pub lesser : ℕ → Option ℕ → ℕ
-lesser n None = n
-lesser n (Some m) = if nat_le n m then n else m
-
--- the least number of an active list
-abbrev pub least_number : List (ℕ × ℕ) → Option ℕ
-least_number [] = None
-least_number (e ∷ es) = Some (lesser e.1 (least_number es))
