@@ -1,6 +1,5 @@
 pub mod FrameLemmas
 pub mod FreshLemmas
-pub mod LandedLemmas
 pub mod SettleLemmas
 pub mod KeepLemmas
 pub mod EndLemmas
@@ -8,3 +7,6 @@ pub mod CkptLemmas
 pub mod MountLemmas
 pub mod SoloLemmas
 pub mod CallLemmas
+pub mod ChargeLemmas
+pub mod JournalLemmas
+pub mod RollLemmas

@@ -1,4 +1,4 @@
--- The requests that have come so far, and what a mount owes of the jobs that have come.
+-- What a mount owes of the jobs that have come, and what is asked of its requests.
 use Rattle.std.specs.Prelude.{ℕ, ◌+◌, ◌==◌, ◌||◌, List, [], ◌∷◌, Option, None, Some, Bool, true, false, nat_lt, if◌then◌else◌}
 use Rattle.xt_base.specs.Jobs.{is_ckpt, is_owed}
 use Rattle.xt_base.specs.State.{State}
@@ -16,11 +16,6 @@ is_of_mount Request.Push = true
 is_of_mount Request.Shutdown = true
 is_of_mount Request.Unmount = true
 is_of_mount other = false
-
--- all have come but roll
-abbrev pub has_come : Request → Bool
-has_come (Request.Roll trans) = false
-has_come other = true
 
 -- what refuses a new mount, after a last life
 abbrev pub new_refusals : ℕ → ℕ → ℕ → List (Bool × Errno)

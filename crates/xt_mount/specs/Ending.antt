@@ -2,9 +2,10 @@
 use Rattle.std.specs.Prelude.{Bool, List, None, Option, Some, [], filter, if◌then◌else◌, not, ◌∷◌, ℕ}
 use Rattle.xt_base.specs.Legs.{is_lost, is_stale, with_edit, with_edits, with_lost, with_marks}
 use Rattle.xt_base.specs.Maps.{has, with_member}
-use Rattle.xt_base.specs.State.{Change, Frames, Items, Leg, Transaction}
+use Rattle.xt_base.specs.State.{Change, Frames, Leg}
 use Rattle.xt_base.specs.declared.steps.Owner.{Owner}
 use Rattle.xt_base.specs.declared.steps.Owner.TheVariants.{Held, Stale}
+use Rattle.xt_mount.specs.Lists.{Lists}
 
 -- who has a block of a leg that was committed
 abbrev pub owner_left : Leg → ℕ → ℕ → Option Owner
@@ -19,7 +20,7 @@ abbrev pub edits_kept : List (ℕ × Change) → Frames → Frames
 edits_kept cs f = record f { committed = with_edits cs f.committed }
 
 -- the commit list with the marks of a leg
-abbrev pub marks_kept : List (ℕ × Change) → Items → Items
+abbrev pub marks_kept : List (ℕ × Change) → Lists → Lists
 marks_kept cs l = record l { cil = with_marks cs l.cil }
 
 -- whether a block keeps its content where a leg is given up
@@ -38,10 +39,10 @@ lost_with holds b fresh = if has holds b then with_member b fresh else fresh
 abbrev pub fresh_lost : List (ℕ × Change) → Leg → Frames → Frames
 fresh_lost cs leg f = record f { fresh = with_lost cs leg f.fresh }
 
--- a transaction with one more change before the others
-abbrev pub with_first : ℕ × Change → Transaction → Transaction
-with_first e t = record t { leg = record t.leg { changes = e ∷ t.leg.changes } }
+-- the frames after a leg was given up
+abbrev pub leg_lost : Leg → Frames → Frames
+leg_lost leg f = fresh_lost leg.changes leg (contents_lost leg f)
 
--- a transaction with no change
-abbrev pub emptied : Transaction → Transaction
-emptied t = record t { leg = record t.leg { changes = [] } }
+-- a leg with one more change before the others
+abbrev pub with_first : ℕ × Change → Leg → Leg
+with_first e leg = record leg { changes = e ∷ leg.changes }

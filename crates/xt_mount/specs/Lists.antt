@@ -1,18 +1,23 @@
--- The item lists at the start, and what is asked of them.
-use Rattle.std.specs.Prelude.{ℕ, List, [], ◌∷◌, Option, None, Some, Bool, false, not}
-use Rattle.xt_base.specs.Space.{is_needed}
+-- The item lists of a mount.
+use Rattle.std.specs.Prelude.{ℕ, List, [], ◌∷◌, Option, None, Some}
 use Rattle.xt_base.specs.State.{Flight, Items}
 
+-- the number of the open checkpoint, the commit list, the flight, and the active list
+pub record Lists : Type 0 where
+  pub open_number : ℕ
+  pub cil : List (ℕ × List ℕ)
+  pub flight : Option Flight
+  pub ail : List (ℕ × ℕ)
+
 -- empty lists, and the first number open
-abbrev pub no_items : Items
-no_items = record { open_number = 1; cil = []; flight = None; ail = []; landed = [] }
+abbrev pub no_lists : Lists
+no_lists = record { open_number = 1; cil = []; flight = None; ail = [] }
+
+-- the lists of a mount's state, with what landed checkpoints cost
+abbrev pub with_landed : List (ℕ × ℕ) → Lists → Items
+with_landed landed l = record { open_number = l.open_number; cil = l.cil; flight = l.flight; ail = l.ail; landed = landed }
 
 -- the number of the checkpoint in flight
 abbrev pub flight_number : Option Flight → Option ℕ
 flight_number None = None
 flight_number (Some f) = Some f.number
-
--- whether there is a first landed checkpoint, and it counts no more
-abbrev pub is_front_unneeded : List (ℕ × ℕ) → List (ℕ × ℕ) → Bool
-is_front_unneeded ail [] = false
-is_front_unneeded ail (e ∷ es) = not (is_needed ail e.0)

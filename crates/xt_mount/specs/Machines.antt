@@ -7,13 +7,13 @@ abbrev pub state_of : Machine → State
 state_of m = record {
   slot = m.jobs.slot;
   life = m.jobs.life;
-  log_bytes = m.log_bytes;
+  log_bytes = m.journal.log_bytes;
   blocks = m.blocks;
   frames = m.frames;
   owners = m.locks;
-  transactions = m.transactions;
+  transactions = m.journal.transactions;
   last_trans = m.last_trans;
-  items = m.items;
+  items = m.journal.items;
   jobs = m.jobs.jobs;
   shut = m.shut;
 }

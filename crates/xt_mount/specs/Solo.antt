@@ -17,7 +17,6 @@ use Rattle.xt_base.specs.declared.steps.Reply.TheVariants.{Refused}
 use Rattle.xt_base.specs.declared.steps.Request.{Request}
 use Rattle.xt_base.specs.declared.steps.Step.{Step}
 use Rattle.xt_base.specs.declared.steps.Step.TheVariants.{Begin, Call, End, Flush, Mount, Peek, Post, Show, Take}
-use Rattle.xt_mount.specs.Come.{has_come}
 use Rattle.xt_mount.specs.declared.solo.Solo.{Solo}
 
 -- the slot's state
@@ -35,7 +34,7 @@ with_lone l s = record s { last_life = l.last_life; seen_life = l.seen_life; see
 -- the steps that have come so far: no flush, and no post of one
 abbrev pub step_has_come : Step → Bool
 step_has_come (Mount slot log_bytes blocks) = true
-step_has_come (Call slot life request answer) = has_come request
+step_has_come (Call slot life request answer) = true
 step_has_come (Post name) = is_ckpt name.kind
 step_has_come (Take worker name) = true
 step_has_come (Begin worker name) = true

@@ -1,12 +1,12 @@
 //! Opening a transaction.
 
-ghost use Rattle.std.specs.Prelude.{◌≡◌, IfOk, OnErr};
+ghost use Rattle.std.specs.Prelude.{◌≡◌, ◌<◌, None, false, length, IfOk, OnErr};
 ghost use Rattle.xt_base.specs.Calls.{alloc as alloc_step, alloc_refusals, first_of, gives};
 ghost use Rattle.xt_base.specs.Sound.{IsSound};
 ghost use Rattle.xt_mount.specs.Machines.{state_of};
+ghost use Rattle.xt_resv.specs.Ledgers.{is_invalid};
 
 use crate::machine::Machine;
-use crate::open_trans::OpenTrans;
 use std::alloc::AllocError;
 use xt_base::names::TransNo;
 use xt_base::steps::{Errno, Reply};
@@ -17,14 +17,12 @@ const OPEN: usize = 32;
 impl Machine {
     /// What refuses an alloc before the space does.
     fn alloc_refusal(&self, unit: u32, count: u32, perm: bool) -> Option<Errno>
-        ensures { result ≡ first_of (alloc_refusals unit count perm (state_of self.now)) }
+        ensures refusal { result ≡ first_of (alloc_refusals unit count perm (state_of self.now)) }
+        ensures valid { result ≡ None → is_invalid unit count perm self.now.journal.log_bytes ≡ false }
+        ensures number { result ≡ None → self.now.last_trans < 18446744073709551615 }
+        ensures few { result ≡ None → length self.now.journal.transactions < 32 }
     {
-        if unit == 0
-            || count == 0
-            || count > 8
-            || (count > 1 && !perm)
-            || u64::from(unit) * u64::from(count) > u64::from(self.log_bytes)
-        {
+        if self.journal.is_invalid(unit, count, perm) {
             return Some(Errno::Invalid);
         }
         if self.is_shut() {
@@ -33,7 +31,7 @@ impl Machine {
         if self.last_trans == u64::MAX {
             return Some(Errno::NoSpace);
         }
-        if self.transactions.len() >= OPEN {
+        if self.journal.open_count() >= OPEN {
             return Some(Errno::Again);
         }
         None
@@ -49,14 +47,13 @@ impl Machine {
         if let Some(errno) = self.alloc_refusal(unit, count, perm) {
             return Ok(Reply::Refused(errno));
         }
-        let grant = u64::from(unit) * u64::from(count);
-        if self.used() + grant > u64::from(self.log_bytes) {
+        if !self.journal.has_room(unit, count) {
             self.ask_space();
             return Ok(Reply::Refused(Errno::Again));
         }
-        let trans = OpenTrans::new(self.alloc, unit, count, perm)?;
-        self.last_trans += 1;
-        self.transactions.put(self.last_trans, trans);
-        Ok(Reply::Trans(TransNo(self.last_trans)))
+        let trans = self.last_trans + 1;
+        self.journal.begin(self.alloc, trans, unit, count, perm)?;
+        self.last_trans = trans;
+        Ok(Reply::Trans(TransNo(trans)))
     }
 }

@@ -26,12 +26,12 @@ use xt_ckpt::writing::write_checkpoint;
 impl Machine {
     /// The committed items with the bytes of their chunks, as they are now.
     fn items_now(&self) -> Result<Vec<Item>, AllocError>
-        ensures text { IfOk result (λ items. flat_map item_bytes items.items ≡ flat_map (entry_bytes self.now.frames.committed) self.now.items.cil) }
-        ensures blocks { IfOk result (λ items. map entry_block self.now.items.cil ≡ map (λ (i : AnItem). i.block) items.items) }
+        ensures text { IfOk result (λ items. flat_map item_bytes items.items ≡ flat_map (entry_bytes self.now.frames.committed) self.now.journal.items.cil) }
+        ensures blocks { IfOk result (λ items. map entry_block self.now.journal.items.cil ≡ map (λ (i : AnItem). i.block) items.items) }
         ensures form { IfOk result (λ items. All HasForm items.items) }
     {
         let mut items = Vec::new(self.alloc);
-        for e in self.items.cil() {
+        for e in self.journal.cil() {
             let content = chunk_bytes_of(self.alloc, self.frames.content(e.0), e.1)?;
             items.push(Item {
                 block: Block(e.0),
@@ -45,12 +45,12 @@ impl Machine {
     /// The pieces of a checkpoint of the committed items, as they are now.
     fn pieces_now(&self) -> Result<Vec<Bytes>, AllocError>
         requires sound { IsSound (state_of self.now) }
-        requires worth { 0 < length self.now.items.cil }
+        requires worth { 0 < length self.now.journal.items.cil }
         ensures pieces { IfOk result (λ pieces. pieces.items ≡ next_pieces (state_of self.now)) }
         ensures few { IfOk result (λ pieces. length pieces.items ≤ 65) }
     {
         let items = self.items_now()?;
-        match write_checkpoint(self.alloc, CkptNo(self.items.open_number()), &items) {
+        match write_checkpoint(self.alloc, CkptNo(self.journal.open_number()), &items) {
             Ok(pieces) => Ok(pieces),
             Err(_) => Err(AllocError),
         }
@@ -61,7 +61,7 @@ impl Machine {
     pub fn begin(&mut self) -> Result<Reply, AllocError>
         requires sound { IsSound (state_of self.old) }
         requires outstanding { is_some (state_of self.old).jobs.ckpt ≡ true }
-        requires waiting { is_none self.old.items.flight ≡ true }
+        requires waiting { is_none self.old.journal.items.flight ≡ true }
         ensures ok { IfOk result (λ reply. gives reply (state_of self.new) ≡ begin_step (state_of self.old)) }
         ensures err { OnErr result (state_of self.new ≡ state_of self.old) }
     {
@@ -70,9 +70,9 @@ impl Machine {
             return Ok(Reply::Nothing);
         }
         let pieces = self.pieces_now()?;
-        let number = CkptNo(self.items.open_number());
+        let number = CkptNo(self.journal.open_number());
         let count = pieces.len() as u32;
-        self.items.fly(self.alloc, pieces)?;
+        self.journal.fly(self.alloc, pieces)?;
         self.jobs.clear(JobKind::Ckpt);
         Ok(Reply::Begun {
             number,
@@ -83,11 +83,11 @@ impl Machine {
     /// The flight has landed. It takes no memory.
     fn land(&mut self, number: u64)
         requires sound { IsSound (state_of self.old) }
-        requires flying { flight_number self.old.items.flight ≡ Some number }
-        ensures { IfSome self.old.items.flight (λ f. state_of self.new ≡ landed_step [] f (state_of self.old)) }
+        requires flying { flight_number self.old.journal.items.flight ≡ Some number }
+        ensures { IfSome self.old.journal.items.flight (λ f. state_of self.new ≡ landed_step [] f (state_of self.old)) }
     {
         self.locks.free_stale(CkptNo(number));
-        self.items.land();
+        self.journal.land();
         self.jobs.finish(JobKind::Ckpt);
         self.settle();
     }
@@ -96,7 +96,7 @@ impl Machine {
     fn fail(&mut self)
         ensures { state_of self.new ≡ failed_step [] (state_of self.old) }
     {
-        self.items.fail();
+        self.journal.fail();
         self.shut_down(Reason::LogIoError);
         self.jobs.finish(JobKind::Ckpt);
         self.settle();
@@ -108,7 +108,7 @@ impl Machine {
         requires sound { IsSound (state_of self.old) }
         ensures { gives result (state_of self.new) ≡ end_step [] answers (state_of self.old) }
     {
-        let Some(number) = self.items.flight_number() else {
+        let Some(number) = self.journal.flight_number() else {
             return Reply::Nothing;
         };
         if is_synced(answers) {

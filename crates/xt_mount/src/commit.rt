@@ -15,11 +15,11 @@ use xt_base::steps::{Errno, Reason, Reply};
 
 impl Machine {
     /// The number that a leg's commit answers: 0 for a clean leg.
-    fn commit_number(&self, is_dirty: bool) -> CkptNo
+    pub fn commit_number(&self, is_dirty: bool) -> CkptNo
         ensures { result ≡ (if is_dirty then (state_of self.now).items.open_number else 0) }
     {
         CkptNo(if is_dirty {
-            self.items.open_number()
+            self.journal.open_number()
         } else {
             0
         })
@@ -36,10 +36,10 @@ impl Machine {
     /// given up, which is EIO. The one error is want of memory to name the held blocks, and then nothing changes.
     pub fn commit(&mut self, trans: u64) -> Result<Reply, AllocError>
         requires { IsSound (state_of self.old) }
-        ensures ok { IfOk result (λ reply. gives reply (state_of self.new) ≡ with_trans (at trans self.old.transactions) (state_of self.old) (commit_step [] trans (state_of self.old))) }
+        ensures ok { IfOk result (λ reply. gives reply (state_of self.new) ≡ with_trans (at trans self.old.journal.transactions) (state_of self.old) (commit_step [] trans (state_of self.old))) }
         ensures err { OnErr result (state_of self.new ≡ state_of self.old) }
     {
-        let Some(opened) = self.transactions.get(trans) else {
+        let Some(opened) = self.journal.get(trans) else {
             return Ok(Reply::Refused(Errno::Invalid));
         };
         let held = opened.leg().held(self.alloc)?;
@@ -68,10 +68,10 @@ impl Machine {
     /// held blocks, and then nothing changes.
     pub fn cancel(&mut self, trans: u64) -> Result<Reply, AllocError>
         requires { IsSound (state_of self.old) }
-        ensures ok { IfOk result (λ reply. gives reply (state_of self.new) ≡ with_trans (at trans self.old.transactions) (state_of self.old) (cancel_step [] trans (state_of self.old))) }
+        ensures ok { IfOk result (λ reply. gives reply (state_of self.new) ≡ with_trans (at trans self.old.journal.transactions) (state_of self.old) (cancel_step [] trans (state_of self.old))) }
         ensures err { OnErr result (state_of self.new ≡ state_of self.old) }
     {
-        let Some(opened) = self.transactions.get(trans) else {
+        let Some(opened) = self.journal.get(trans) else {
             return Ok(Reply::Refused(Errno::Invalid));
         };
         let held = opened.leg().held(self.alloc)?;

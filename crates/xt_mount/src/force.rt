@@ -16,11 +16,11 @@ impl Machine {
         if self.is_shut() {
             return Reply::Refused(Errno::Io);
         }
-        if !self.items.cil().is_empty() {
+        if !self.journal.cil().is_empty() {
             self.ask_ckpt();
-            return Reply::Wait(CkptNo(self.items.open_number()));
+            return Reply::Wait(CkptNo(self.journal.open_number()));
         }
-        match self.items.flight_number() {
+        match self.journal.flight_number() {
             Some(number) => Reply::Wait(CkptNo(number)),
             None => Reply::Done,
         }
@@ -30,7 +30,7 @@ impl Machine {
     fn force_to_refusal(&self, number: u64) -> Option<Errno>
         ensures { result ≡ first_of (force_to_refusals number (state_of self.now)) }
     {
-        if number == 0 || number > self.items.open_number() {
+        if number == 0 || number > self.journal.open_number() {
             return Some(Errno::Invalid);
         }
         if self.is_shut() {
@@ -43,7 +43,7 @@ impl Machine {
     fn is_flight(&self, number: u64) -> bool
         ensures { result ≡ is_flight number (state_of self.now).items.flight }
     {
-        match self.items.flight_number() {
+        match self.journal.flight_number() {
             Some(flying) => flying == number,
             None => false,
         }
@@ -56,7 +56,7 @@ impl Machine {
         if let Some(errno) = self.force_to_refusal(number) {
             return Reply::Refused(errno);
         }
-        if number == self.items.open_number() && !self.items.cil().is_empty() {
+        if number == self.journal.open_number() && !self.journal.cil().is_empty() {
             self.ask_ckpt();
             return Reply::Wait(CkptNo(number));
         }
@@ -91,9 +91,9 @@ impl Machine {
         ensures { result ≡ (is_none (state_of self.now).shut && not ((length (state_of self.now).items.cil == 0) && is_none (state_of self.now).items.flight && (length (state_of self.now).items.ail == 0))) }
     {
         !self.is_shut()
-            && !(self.items.cil().is_empty()
-                && !self.items.is_flying()
-                && self.items.ail().is_empty())
+            && !(self.journal.cil().is_empty()
+                && !self.journal.is_flying()
+                && self.journal.ail().is_empty())
     }
 
     /// Whether something keeps the mount: an open transaction, a held block, an outstanding job, or, if it is live, a
@@ -101,7 +101,7 @@ impl Machine {
     fn is_kept(&self) -> bool
         ensures { result ≡ is_kept (state_of self.now) }
     {
-        !self.transactions.is_empty()
+        self.journal.open_count() > 0
             || self.locks.has_held()
             || self.jobs.outstanding(JobKind::Ckpt).is_some()
             || self.jobs.outstanding(JobKind::Flush).is_some()

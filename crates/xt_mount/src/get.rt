@@ -70,9 +70,9 @@ impl Machine {
     /// Locks a block, unread. A block that the transaction has is locked once more. It takes no memory.
     pub fn get(&mut self, trans: u64, block: u64) -> Reply
         requires { IsSound (state_of self.old) }
-        ensures { gives result (state_of self.new) ≡ with_trans (at trans self.old.transactions) (state_of self.old) (λ t. get_step trans block (state_of self.old)) }
+        ensures { gives result (state_of self.new) ≡ with_trans (at trans self.old.journal.transactions) (state_of self.old) (λ t. get_step trans block (state_of self.old)) }
     {
-        if !self.transactions.contains(trans) {
+        if !self.journal.is_open(trans) {
             return Reply::Refused(Errno::Invalid);
         }
         if let Some(errno) = self.get_refusal(trans, block) {

@@ -1,16 +1,14 @@
-//! The item lists: committed items, the flight, the active list, and what landed checkpoints cost.
+//! The item lists: committed items, the flight, the active list.
 
-ghost use Rattle.std.specs.Prelude.{◌≡◌, ◌+◌, ◌<◌, ◌≤◌, ◌==◌, [], ◌∷◌, length, not, sum_by, Some, None, true, is_some, is_none, unwrap_or, if◌then◌else◌, IfOk, IfSome, OnOk, OnErr};
+ghost use Rattle.std.specs.Prelude.{◌≡◌, ◌+◌, ◌<◌, ◌≤◌, ◌==◌, [], length, Some, None, true, is_some, unwrap_or, if◌then◌else◌, IfOk, IfSome};
 ghost use Rattle.xt_base.specs.Chunks.{union};
 ghost use Rattle.xt_base.specs.Maps.{at, is_in, put, without};
-ghost use Rattle.xt_base.specs.Space.{cost, flight_items, is_listed, is_needed, still_needed};
-ghost use Rattle.xt_base.specs.Jobs.{activated, flight_pieces, landed_items};
-ghost use Rattle.xt_base.specs.Sound.{IsRising, AllBelow};
-ghost use Rattle.xt_mount.specs.Lists.{no_items, flight_number, is_front_unneeded};
+ghost use Rattle.xt_base.specs.Jobs.{activated, flight_pieces};
+ghost use Rattle.xt_base.specs.Space.{cost, flight_items, is_listed, least_number, lesser};
+ghost use Rattle.xt_mount.specs.Lists.{no_lists, flight_number, with_landed};
 
 use bytes::Bytes;
 use std::alloc::{AllocError, Global};
-use std::collections::VecDeque;
 use std::marker::Model;
 use std::mem;
 use xt_base::chunks::Chunks;
@@ -32,34 +30,27 @@ impl Model for Flight {
     ghost view = { λ f. record { number = f.number; items = f.items; pieces = f.pieces.items } };
 }
 
-/// The lists of items of a mount (commit list, checkpoint in flight, active list), and the costs of
-/// landed checkpoints that still count, with their total.
+/// The lists of items of a mount: commit list, checkpoint in flight, active list.
 #[derive(Debug, Drop)]
 pub struct Items {
     open_number: u64,
     cil: NumberMap<Chunks>,
     flight: Option<Flight>,
     ail: NumberMap<u64>,
-    landed: VecDeque<(u64, u64)>,
-    landed_total: u64,
 }
 
 impl Model for Items {
-    ghost use Rattle.std.specs.Prelude.{◌≡◌, ◌<◌, sum_by, is_some, true};
-    ghost use Rattle.std.specs.VecDeque.{deque_len, deque_capacity};
-    ghost use Rattle.xt_base.specs.State.{Items as ItemsValue};
+    ghost use Rattle.xt_mount.specs.Lists.{Lists};
 
-    ghost Value = { ItemsValue };
+    ghost Value = { Lists };
 
-    ghost view = { λ l. record { open_number = l.open_number; cil = l.cil; flight = l.flight; ail = l.ail; landed = l.landed.items } };
-
-    ghost invariant = { λ l. (l.landed_total ≡ sum_by (λ e. e.1) l.landed.items) × (is_some l.flight ≡ true → deque_len l.landed < deque_capacity l.landed) };
+    ghost view = { λ l. record { open_number = l.open_number; cil = l.cil; flight = l.flight; ail = l.ail } };
 }
 
 impl Items {
     /// Empty lists; the open checkpoint has number 1. The one error is want of memory.
     pub fn new(alloc: Global) -> Result<Self, AllocError>
-        ensures { IfOk result (λ items. items ≡ no_items) }
+        ensures { IfOk result (λ items. items ≡ no_lists) }
     {
         let cil = NumberMap::new(alloc)?;
         let ail = NumberMap::new(alloc)?;
@@ -68,8 +59,6 @@ impl Items {
             cil,
             flight: None,
             ail,
-            landed: VecDeque::new(alloc),
-            landed_total: 0,
         })
     }
 
@@ -86,6 +75,13 @@ impl Items {
         ensures small { length result.now ≤ 128 }
     {
         self.cil.entries()
+    }
+
+    /// The commit list, by rising block.
+    pub fn list(&self) -> &NumberMap<Chunks>
+        ensures { result.now ≡ self.now.cil }
+    {
+        &self.cil
     }
 
     /// Whether a block is in flight.
@@ -107,7 +103,7 @@ impl Items {
 
     /// Whether a block is on a list.
     pub fn is_listed(&self, block: u64) -> bool
-        ensures { result ≡ is_listed self.now block }
+        ensures { result ≡ is_listed (with_landed [] self.now) block }
     {
         self.is_committed(block) || self.is_in_flight(block) || self.ail.contains(block)
     }
@@ -194,53 +190,42 @@ impl Items {
         }
     }
 
-    /// What landed checkpoints cost, as far as they still count.
-    pub fn landed_cost(&self) -> u64
-        ensures { result ≡ sum_by (λ e. e.1) self.now.landed }
+    /// The least number of the active list.
+    pub fn least(&self) -> Option<u64>
+        ensures { result ≡ least_number self.now.ail }
     {
-        self.landed_total
+        least_of(self.ail.entries())
     }
 
-    /// The committed items become the flight, with these pieces, and the next number opens.
-    /// Where memory is refused nothing changes. Room for the landing is made here.
-    pub fn fly(&mut self, alloc: Global, pieces: Vec<Bytes>) -> Result<(), AllocError>
-        requires none { is_none self.old.flight ≡ true }
+    /// The committed items become the flight, with these pieces; `next`, an empty list, takes their place under the next number.
+    /// It takes no memory.
+    pub fn fly(&mut self, next: NumberMap<Chunks>, pieces: Vec<Bytes>)
+        requires next { next ≡ [] }
         requires number { self.old.open_number < 18446744073709551615 }
-        ensures ok { OnOk result (self.new ≡ record self.old {
+        ensures { self.new ≡ record self.old {
           open_number = self.old.open_number + 1;
           cil = [];
           flight = Some (record { number = self.old.open_number; items = self.old.cil; pieces = pieces.items });
-        }) }
-        ensures err { OnErr result (self.new ≡ self.old) }
+        } }
     {
-        let cil = NumberMap::new(alloc)?;
-        self.landed.reserve(1)?;
-        let items = mem::replace(&mut self.cil, cil);
+        let items = mem::replace(&mut self.cil, next);
         self.flight = Some(Flight {
             number: self.open_number,
             items,
             pieces,
         });
         self.open_number += 1;
-        Ok(())
     }
 
-    /// The flight has landed: cancelled blocks leave the active list, each other block goes there unless it
-    /// is there, and the cost of the flight counts as landed. It takes no memory.
+    /// The flight has landed: cancelled blocks leave the active list, and each other block goes there unless it
+    /// is there. It takes no memory.
     pub fn land(&mut self)
         requires flying { is_some self.old.flight ≡ true }
-        requires rising { IsRising self.old.landed }
-        requires below { IfSome self.old.flight (λ f. AllBelow f.number self.old.landed) }
         requires room { length self.old.ail + length (flight_items self.old.flight) ≤ 128 }
-        requires small { cost (flight_items self.old.flight) + sum_by (λ e. e.1) self.old.landed ≤ 16777216 }
-        ensures { IfSome self.old.flight (λ f. self.new ≡ landed_items f self.old) }
+        ensures { IfSome self.old.flight (λ f. self.new ≡ record self.old { flight = None; ail = activated f.number f.items self.old.ail }) }
     {
         if let Some(flight) = self.flight.take() {
-            let price = cost_of(flight.items.entries());
             activate(&mut self.ail, flight.number, flight.items.entries());
-            self.landed.push_back((flight.number, price)).unwrap();
-            self.landed_total += price;
-            prune(&mut self.landed, &mut self.landed_total, &self.ail);
         }
     }
 
@@ -291,33 +276,23 @@ fn activate_one(ail: &mut NumberMap<u64>, number: u64, block: u64, chunks: Chunk
     }
 }
 
-/// Gives up the costs of checkpoints that are older than each block of the active list.
-fn prune(landed: &mut VecDeque<(u64, u64)>, total: &mut u64, ail: &NumberMap<u64>)
-    requires rising { IsRising landed.old.items }
-    requires total { total.old ≡ sum_by (λ e. e.1) landed.old.items }
-    ensures landed { landed.new.items ≡ still_needed ail.now landed.old.items }
-    ensures total { total.new ≡ sum_by (λ e. e.1) landed.new.items }
+/// The least number of an active list.
+fn least_of(entries: &[(u64, u64)]) -> Option<u64>
+    ensures { result ≡ least_number entries.now }
 {
-    while is_front_unneeded(landed, ail) {
-        if let Some((_, price)) = landed.pop_front() {
-            *total -= price;
-        }
+    let mut least = None;
+    for e in entries {
+        least = Some(lesser(e.1, least));
     }
+    least
 }
 
-/// Whether there is a first checkpoint, and it is older than each block of the active list.
-fn is_front_unneeded(landed: &VecDeque<(u64, u64)>, ail: &NumberMap<u64>) -> bool
-    ensures { result ≡ is_front_unneeded ail.now landed.now.items }
+/// A number, or one that is less.
+fn lesser(number: u64, other: Option<u64>) -> u64
+    ensures { result ≡ lesser number other }
 {
-    match landed.front() {
-        Some(front) => !is_needed(ail, front.0),
-        None => false,
+    match other {
+        Some(other) if other < number => other,
+        _ => number,
     }
-}
-
-/// Whether a checkpoint is no older than some block of the active list.
-fn is_needed(ail: &NumberMap<u64>, number: u64) -> bool
-    ensures { result ≡ is_needed ail.now number }
-{
-    ail.entries().iter().any(|e| e.1 <= number)
 }

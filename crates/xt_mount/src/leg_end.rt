@@ -1,73 +1,81 @@
 //! The end of a leg: its blocks pass on, and its changes are committed or given up.
 
-ghost use Rattle.std.specs.Prelude.{◌≡◌, ◌+◌, ◌≤◌, ◌<◌, [], length, IfSome};
-ghost use Rattle.xt_base.specs.Calls.{closed};
-ghost use Rattle.xt_base.specs.Legs.{aborted, ended, is_lost, owner_aborted, owner_after, with_edit, joined_marks};
+ghost use Rattle.std.specs.Prelude.{◌≡◌, ◌+◌, ◌≤◌, ◌<◌, ◌&&◌, false, is_none, is_some, length, filter_map, IfSome, true};
+ghost use Rattle.xt_base.specs.Calls.{closed, is_no_room, legs_after, with_legs};
+ghost use Rattle.xt_base.specs.Legs.{aborted, ended, is_dirty, owner_aborted, owner_after, with_edit, joined_marks};
 ghost use Rattle.xt_base.specs.Maps.{at, put};
-ghost use Rattle.xt_base.specs.Settle.{settled};
 ghost use Rattle.xt_base.specs.Sound.{IsSound};
-ghost use Rattle.xt_base.specs.State.{Leg};
-ghost use Rattle.xt_mount.specs.Ending.{contents_lost, edits_kept, fresh_lost, is_saved, lost_with, marks_kept, owner_kept, owner_left};
+ghost use Rattle.xt_mount.specs.Ending.{contents_lost, edits_kept, fresh_lost, is_saved, leg_lost, lost_with, marks_kept, owner_kept, owner_left};
 ghost use Rattle.xt_mount.specs.Machines.{state_of};
-ghost use Rattle.std.specs.Prelude.{filter_map};
 
 use crate::frames::Frames;
 use crate::items::Items;
 use crate::machine::Machine;
-use crate::open_trans::OpenTrans;
 use xt_base::names::{CkptNo, TransNo};
 use xt_base::steps::Owner;
 use xt_locks::locks::Locks;
 use xt_trans::trans::{Change, TransRec};
 
 impl Machine {
-    /// A leg is committed: its blocks pass on, its edits are the committed contents, and its marks are joined to the
-    /// commit list. It takes no memory.
-    pub fn end_leg(&mut self, trans: u64, opened: &mut OpenTrans)
-        requires contents { length self.old.frames.committed + length opened.old.leg.changes ≤ 128 }
-        requires cil { length self.old.items.cil + length opened.old.leg.changes ≤ 128 }
-        ensures state { state_of self.new ≡ ended trans opened.old.leg (state_of self.old) }
-        ensures left { opened.new ≡ record opened.old { leg = record opened.old.leg { changes = [] } } }
+    /// A transaction ends, and its leg is committed. It takes no memory.
+    pub fn close(&mut self, trans: u64)
+        requires sound { IsSound (state_of self.old) }
+        requires kept { IfSome (at trans self.old.journal.transactions) (λ t. (is_dirty t.leg && is_some self.old.shut) ≡ false) }
+        ensures { IfSome (at trans self.old.journal.transactions) (λ t. state_of self.new ≡ closed trans (ended trans t.leg (state_of self.old))) }
     {
+        let Some(opened) = self.journal.get(trans) else {
+            return;
+        };
         pass_on(
             &mut self.locks,
             trans,
             opened.leg(),
-            self.items.open_number(),
+            self.journal.open_number(),
         );
-        keep_changes(&mut self.frames, &mut self.items, opened);
+        self.journal.commit(trans, &mut self.frames);
     }
 
-    /// A leg is given up: what it changed and holds is held as fresh. It takes no memory.
-    pub fn abort_leg(&mut self, trans: u64, opened: &mut OpenTrans)
-        requires fresh { length self.old.frames.fresh + length opened.old.leg.changes ≤ 128 }
-        ensures { state_of self.new ≡ aborted trans opened.old.leg (state_of self.old) }
+    /// A leg is committed, and the next one of its transaction begins. It takes no memory.
+    pub fn next_leg(&mut self, trans: u64)
+        requires sound { IsSound (state_of self.old) }
+        requires live { is_none self.old.shut ≡ true }
+        requires room { IfSome (at trans self.old.journal.transactions) (λ t. is_no_room trans t (state_of self.old) ≡ false) }
+        ensures { IfSome (at trans self.old.journal.transactions) (λ t. state_of self.new ≡ with_legs trans (legs_after t.legs) t (ended trans t.leg (state_of self.old))) }
     {
-        pass_held(&mut self.locks, trans, opened.leg());
-        lose_contents(&mut self.frames, opened.leg());
-        lose_changes(&mut self.frames, opened);
-    }
-
-    /// A transaction ends, and its leg is committed. It takes no memory.
-    pub fn close(&mut self, trans: u64)
-        requires { IsSound (state_of self.old) }
-        ensures { IfSome (at trans self.old.transactions) (λ t. state_of self.new ≡ closed trans (ended trans t.leg (state_of self.old))) }
-    {
-        let Some(mut opened) = self.transactions.remove(trans) else {
+        let Some(opened) = self.journal.get(trans) else {
             return;
         };
-        self.end_leg(trans, &mut opened);
+        pass_on(
+            &mut self.locks,
+            trans,
+            opened.leg(),
+            self.journal.open_number(),
+        );
+        self.journal.roll(trans, &mut self.frames);
     }
 
     /// A transaction ends, and its leg is given up. It takes no memory.
     pub fn close_aborted(&mut self, trans: u64)
         requires { IsSound (state_of self.old) }
-        ensures { IfSome (at trans self.old.transactions) (λ t. state_of self.new ≡ closed trans (aborted trans t.leg (state_of self.old))) }
+        ensures { IfSome (at trans self.old.journal.transactions) (λ t. state_of self.new ≡ closed trans (aborted trans t.leg (state_of self.old))) }
     {
-        let Some(mut opened) = self.transactions.remove(trans) else {
+        let Some(opened) = self.journal.get(trans) else {
             return;
         };
-        self.abort_leg(trans, &mut opened);
+        pass_held(&mut self.locks, trans, opened.leg());
+        self.journal.cancel(trans, &mut self.frames);
+    }
+
+    /// A leg is given up, and its transaction stays with no leg left. It takes no memory.
+    pub fn give_up_leg(&mut self, trans: u64)
+        requires { IsSound (state_of self.old) }
+        ensures { IfSome (at trans self.old.journal.transactions) (λ t. state_of self.new ≡ with_legs trans 0 t (aborted trans t.leg (state_of self.old))) }
+    {
+        let Some(opened) = self.journal.get(trans) else {
+            return;
+        };
+        pass_held(&mut self.locks, trans, opened.leg());
+        self.journal.give_up(trans, &mut self.frames);
     }
 }
 
@@ -106,14 +114,13 @@ fn pass_held(locks: &mut Locks, trans: u64, leg: &TransRec)
 }
 
 /// The edits of a leg are committed, and its marks joined to the commit list. It takes no memory.
-fn keep_changes(frames: &mut Frames, items: &mut Items, opened: &mut OpenTrans)
-    requires contents { length frames.old.committed + length opened.old.leg.changes ≤ 128 }
-    requires cil { length items.old.cil + length opened.old.leg.changes ≤ 128 }
-    ensures contents { frames.new ≡ edits_kept opened.old.leg.changes frames.old }
-    ensures cil { items.new ≡ marks_kept opened.old.leg.changes items.old }
-    ensures left { opened.new ≡ record opened.old { leg = record opened.old.leg { changes = [] } } }
+pub fn keep_changes(frames: &mut Frames, items: &mut Items, leg: &mut TransRec)
+    requires contents { length frames.old.committed + length leg.old.changes ≤ 128 }
+    requires cil { length items.old.cil + length leg.old.changes ≤ 128 }
+    ensures contents { frames.new ≡ edits_kept leg.old.changes frames.old }
+    ensures cil { items.new ≡ marks_kept leg.old.changes items.old }
 {
-    while let Some((block, change)) = opened.take_change() {
+    while let Some((block, change)) = leg.take_change() {
         keep_change(frames, items, block, change);
     }
 }
@@ -163,13 +170,22 @@ fn lose_contents(frames: &mut Frames, leg: &TransRec)
     }
 }
 
-/// Blocks that a leg changed and holds are fresh, where it is given up. It takes no memory.
-fn lose_changes(frames: &mut Frames, opened: &mut OpenTrans)
-    requires { length frames.old.fresh + length opened.old.leg.changes ≤ 128 }
-    ensures { frames.new ≡ fresh_lost opened.old.leg.changes opened.old.leg frames.old }
+/// A leg is given up: what it changed and holds is held as fresh, with no content. It takes no memory.
+pub fn lose_leg(frames: &mut Frames, leg: &mut TransRec)
+    requires { length frames.old.fresh + length leg.old.changes ≤ 128 }
+    ensures { frames.new ≡ leg_lost leg.old frames.old }
 {
-    while let Some((block, change)) = opened.take_change() {
-        lose_change(frames, opened.leg(), block, change);
+    lose_contents(frames, leg);
+    lose_changes(frames, leg);
+}
+
+/// Blocks that a leg changed and holds are fresh, where it is given up. It takes no memory.
+fn lose_changes(frames: &mut Frames, leg: &mut TransRec)
+    requires { length frames.old.fresh + length leg.old.changes ≤ 128 }
+    ensures { frames.new ≡ fresh_lost leg.old.changes leg.old frames.old }
+{
+    while let Some((block, change)) = leg.take_change() {
+        lose_change(frames, leg, block, change);
     }
 }
 

@@ -1,7 +1,8 @@
 //! What a transaction sees of its blocks, and writing bytes in its leg.
 
-ghost use Rattle.std.specs.Prelude.{◌≡◌, ◌+◌, ◌<◌, ◌≤◌, ◌||◌, [], None, false, true, length, nat_lt, IfOk, OnErr, IfSome};
+ghost use Rattle.std.specs.Prelude.{◌≡◌, ◌+◌, ◌<◌, ◌≤◌, ◌||◌, [], None, false, true, length, IfOk, OnErr, IfSome};
 ghost use Rattle.xt_base.specs.Calls.{edited, first_of, gives, is_fresh, is_own, log as log_step, log_refusals, not_fresh, seen, view as view_step, with_leg, with_trans};
+ghost use Rattle.xt_base.specs.Chunks.{marks};
 ghost use Rattle.xt_base.specs.Legs.{is_stale};
 ghost use Rattle.xt_base.specs.Maps.{at, is_in};
 ghost use Rattle.xt_base.specs.Sound.{IsRising, IsSound};
@@ -31,9 +32,9 @@ impl Machine {
 
     /// What a transaction sees of its block. The one error is want of memory for the copy.
     pub fn view(&self, trans: u64, block: u64) -> Result<Reply, AllocError>
-        ensures { IfOk result (λ reply. gives reply (state_of self.now) ≡ with_trans (at trans self.now.transactions) (state_of self.now) (view_step trans block (state_of self.now))) }
+        ensures { IfOk result (λ reply. gives reply (state_of self.now) ≡ with_trans (at trans self.now.journal.transactions) (state_of self.now) (view_step trans block (state_of self.now))) }
     {
-        let Some(opened) = self.transactions.get(trans) else {
+        let Some(opened) = self.journal.get(trans) else {
             return Ok(Reply::Refused(Errno::Invalid));
         };
         if !self.is_own(trans, block) {
@@ -62,6 +63,7 @@ impl Machine {
         ensures refusal { result ≡ first_of (log_refusals trans block first bytes.now opened.now (state_of self.now)) }
         ensures room { result ≡ None → first + length bytes.now ≤ 4096 }
         ensures own { result ≡ None → is_own (state_of self.now) trans block ≡ true }
+        ensures fits { result ≡ None → charge (edited block [] (marks first (length bytes.now)) opened.now.leg).changes ≤ opened.now.unit }
     {
         if !self.is_own(trans, block) {
             return Some(Errno::Invalid);
@@ -74,7 +76,7 @@ impl Machine {
             return Some(Errno::Invalid);
         }
         let marked = Chunks::mark(first, len as u32);
-        if is_over(opened, block, marked) {
+        if !opened.fits_logged(block, marked) {
             return Some(Errno::NoSpace);
         }
         None
@@ -82,15 +84,12 @@ impl Machine {
 
     /// A transaction's leg has these bytes of a block, which is fresh no more. It takes no memory.
     fn keep_edit(&mut self, trans: u64, block: u64, content: Content, marked: Chunks)
-        requires rising { IsRising self.old.transactions }
-        requires few { IfSome (at trans self.old.transactions) (λ t. is_in block t.leg.changes ≡ false → length t.leg.changes + length t.leg.holds < 128) }
-        ensures { IfSome (at trans self.old.transactions) (λ t. state_of self.new ≡ not_fresh block (with_leg trans t (edited block content marked t.leg) (state_of self.old))) }
+        requires rising { IsRising self.old.journal.transactions }
+        requires few { IfSome (at trans self.old.journal.transactions) (λ t. is_in block t.leg.changes ≡ false → length t.leg.changes + length t.leg.holds < 128) }
+        requires fits { IfSome (at trans self.old.journal.transactions) (λ t. charge (edited block [] marked t.leg).changes ≤ t.unit) }
+        ensures { IfSome (at trans self.old.journal.transactions) (λ t. state_of self.new ≡ not_fresh block (with_leg trans t (edited block content marked t.leg) (state_of self.old))) }
     {
-        let Some(mut opened) = self.transactions.remove(trans) else {
-            return;
-        };
-        opened.log(block, content, marked);
-        self.transactions.put(trans, opened);
+        self.journal.log(trans, block, content, marked);
         self.frames.leave_fresh(block);
     }
 
@@ -103,10 +102,10 @@ impl Machine {
         bytes: &Data,
     ) -> Result<Reply, AllocError>
         requires { IsSound (state_of self.old) }
-        ensures ok { IfOk result (λ reply. gives reply (state_of self.new) ≡ with_trans (at trans self.old.transactions) (state_of self.old) (log_step trans block first bytes.now (state_of self.old))) }
+        ensures ok { IfOk result (λ reply. gives reply (state_of self.new) ≡ with_trans (at trans self.old.journal.transactions) (state_of self.old) (log_step trans block first bytes.now (state_of self.old))) }
         ensures err { OnErr result (state_of self.new ≡ state_of self.old) }
     {
-        let Some(opened) = self.transactions.get(trans) else {
+        let Some(opened) = self.journal.get(trans) else {
             return Ok(Reply::Refused(Errno::Invalid));
         };
         if let Some(errno) = self.log_refusal(opened, trans, block, first, bytes) {
@@ -118,11 +117,4 @@ impl Machine {
         self.keep_edit(trans, block, content, marked);
         Ok(Reply::Okay)
     }
-}
-
-/// Whether the charge would pass the unit of a transaction, were these chunks of a block changed too.
-fn is_over(opened: &OpenTrans, block: u64, marked: Chunks) -> bool
-    ensures { result ≡ nat_lt opened.now.unit (charge (edited block [] marked opened.now.leg).changes) }
-{
-    opened.leg().charge_logged(block, marked) > u64::from(opened.unit())
 }

@@ -1,20 +1,17 @@
 //! The parts of a mount, and what several requests ask of them.
 
-ghost use Rattle.std.specs.Prelude.{◌≡◌, ◌+◌, ◌<◌, ◌≤◌, is_some, IfOk};
+ghost use Rattle.std.specs.Prelude.{◌≡◌, ◌≤◌, is_some, IfOk};
 ghost use Rattle.xt_base.specs.Calls.{asks_ckpt, asks_flush, is_elsewhere, is_own, shut_down};
 ghost use Rattle.xt_base.specs.Legs.{own_count};
 ghost use Rattle.xt_base.specs.Maps.{at};
-ghost use Rattle.xt_base.specs.Space.{busy_count, is_busy, used};
-ghost use Rattle.xt_base.specs.Sound.{IsSound};
+ghost use Rattle.xt_base.specs.Space.{busy_count, is_busy};
 ghost use Rattle.xt_base.specs.State.{mount_of};
 ghost use Rattle.xt_mount.specs.Machines.{state_of};
 
 use crate::frames::Frames;
-use crate::items::Items;
-use crate::open_trans::OpenTrans;
-use crate::space::{beside_ail, beside_cil, beside_flight, granted};
+use crate::journal::Journal;
+use crate::space::{beside_ail, beside_cil, beside_flight};
 use std::alloc::{AllocError, Global};
-use xt_base::map::NumberMap;
 use xt_base::names::{Block, JobKind, Life, Slot, TransNo};
 use xt_base::steps::Reason;
 use xt_jobs::table::JobTable;
@@ -24,13 +21,11 @@ use xt_locks::locks::Locks;
 #[derive(Debug, Drop)]
 pub struct Machine {
     pub alloc: Global,
-    pub log_bytes: u32,
     pub blocks: u64,
     pub frames: Frames,
     pub locks: Locks,
-    pub transactions: NumberMap<OpenTrans>,
+    pub journal: Journal,
     pub last_trans: u64,
-    pub items: Items,
     pub jobs: JobTable,
     pub shut: Option<Reason>,
 }
@@ -44,21 +39,19 @@ impl Machine {
         log_bytes: u32,
         blocks: u64,
     ) -> Result<Self, AllocError>
+        requires { log_bytes ≤ 16777216 }
         ensures { IfOk result (λ machine. state_of machine ≡ mount_of slot life log_bytes blocks) }
     {
         let frames = Frames::new(alloc)?;
         let locks = Locks::new(alloc)?;
-        let transactions = NumberMap::new(alloc)?;
-        let items = Items::new(alloc)?;
+        let journal = Journal::new(alloc, log_bytes)?;
         Ok(Machine {
             alloc,
-            log_bytes,
             blocks,
             frames,
             locks,
-            transactions,
+            journal,
             last_trans: 0,
-            items,
             jobs: JobTable::new(slot, life),
             shut: None,
         })
@@ -75,7 +68,7 @@ impl Machine {
     pub fn is_busy(&self, block: u64) -> bool
         ensures { result ≡ is_busy (state_of self.now) block }
     {
-        self.locks.is_locked(Block(block)) || self.items.is_listed(block)
+        self.locks.is_locked(Block(block)) || self.journal.is_listed(block)
     }
 
     /// How many blocks are busy.
@@ -83,20 +76,9 @@ impl Machine {
         ensures { result ≡ busy_count (state_of self.now) }
     {
         self.locks.owners().len()
-            + beside_cil(&self.locks, &self.items)
-            + beside_flight(&self.locks, &self.items)
-            + beside_ail(&self.locks, &self.items)
-    }
-
-    /// The log space in use.
-    pub fn used(&self) -> u64
-        requires { used (state_of self.now) ≤ 16777216 }
-        ensures { result ≡ used (state_of self.now) }
-    {
-        granted(self.transactions.entries())
-            + self.items.cil_cost()
-            + self.items.flight_cost()
-            + self.items.landed_cost()
+            + beside_cil(&self.locks, &self.journal)
+            + beside_flight(&self.locks, &self.journal)
+            + beside_ail(&self.locks, &self.journal)
     }
 
     /// The recursion count of a block that a transaction has.
@@ -140,7 +122,7 @@ impl Machine {
     pub fn ask_ckpt(&mut self)
         ensures { state_of self.new ≡ asks_ckpt (state_of self.old) }
     {
-        if !self.items.cil().is_empty() {
+        if !self.journal.cil().is_empty() {
             self.jobs.ask(JobKind::Ckpt);
         }
     }

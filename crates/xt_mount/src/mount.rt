@@ -7,7 +7,7 @@ ghost use Rattle.xt_base.specs.Jobs.{begin as begin_step, end as end_step, fits_
 ghost use Rattle.xt_base.specs.Order.{is_there};
 ghost use Rattle.xt_base.specs.State.{mount_of};
 ghost use Rattle.xt_base.specs.declared.steps.Errno.TheVariants.{NoMemory};
-ghost use Rattle.xt_mount.specs.Come.{has_come, new_refusals, owed_now, read_block};
+ghost use Rattle.xt_mount.specs.Come.{new_refusals, owed_now, read_block};
 ghost use Rattle.xt_mount.specs.Stages.{stage_of};
 
 use crate::machine::Machine;
@@ -96,7 +96,7 @@ impl Mount {
     pub fn pieces(&self) -> &[Bytes]
         ensures { result.now ≡ flight_pieces self.now.items.flight }
     {
-        self.machine.items.pieces()
+        self.machine.journal.pieces()
     }
 
     /// The block that a request must ask the home device for, if there is one: a read's, where nothing refuses it and
@@ -111,8 +111,7 @@ impl Mount {
     /// Serves a request: its reply and the state that it leaves are those of the machine of one mount. Where
     /// memory is refused the reply is ENOMEM, and nothing changes.
     pub fn serve(&mut self, request: &Request, answer: &Answer) -> Reply
-        requires came { has_come request.now ≡ true }
-        requires asked { is_there (asks request.now self.old) answer.now ≡ true }
+        requires { is_there (asks request.now self.old) answer.now ≡ true }
         ensures { IsCallUnlessMemory (alone_with [] request.now answer.now self.old) result self.new self.old }
     {
         match self.machine.serve(request, answer) {
@@ -123,8 +122,7 @@ impl Mount {
 
     /// The same, of a request and an answer that are handed over.
     pub fn call(&mut self, request: Request, answer: Answer) -> Reply
-        requires came { has_come request ≡ true }
-        requires asked { is_there (asks request self.old) answer ≡ true }
+        requires { is_there (asks request self.old) answer ≡ true }
         ensures { IsCallUnlessMemory (alone_with [] request answer self.old) result self.new self.old }
     {
         self.serve(&request, &answer)

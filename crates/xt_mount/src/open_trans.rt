@@ -1,66 +1,69 @@
-//! An open transaction: its grant, and what its present leg did.
+//! An open transaction: its ticket, and what its present leg did.
 
-ghost use Rattle.std.specs.Prelude.{◌≡◌, ◌+◌, ◌<◌, ◌∷◌, [], false, length, IfOk, MatchOption};
-ghost use Rattle.xt_base.specs.Calls.{edited, invalidated, new_trans, without_hold};
-ghost use Rattle.xt_base.specs.Legs.{clean_leg};
+ghost use Rattle.std.specs.Prelude.{◌≡◌, ◌+◌, ◌<◌, ◌≤◌, [], false, length, nat_le};
+ghost use Rattle.xt_base.specs.Calls.{edited, invalidated, without_hold};
 ghost use Rattle.xt_base.specs.Maps.{has, is_in, with_member};
+ghost use Rattle.xt_base.specs.Space.{charge};
+ghost use Rattle.xt_mount.specs.Journals.{opened_with};
+ghost use Rattle.xt_resv.specs.Ledgers.{charged_with};
+ghost use Rattle.xt_resv.specs.Mounts.{grant_of};
 
-use std::alloc::{AllocError, Global};
 use std::marker::Model;
 use xt_base::chunks::Chunks;
 use xt_base::content::Content;
-use xt_trans::trans::{Change, TransRec};
+use xt_base::newly::Newly;
+use xt_resv::space::{LogSpace, Ticket};
+use xt_trans::trans::TransRec;
 
-/// An open transaction: the log bytes of a leg, the legs left, whether it may roll, and the leg.
-#[derive(Debug, Drop)]
+/// An open transaction: its ticket, which is charged what the leg is, and the leg. Like its ticket it can't be let go.
+#[derive(Debug)]
 pub struct OpenTrans {
-    unit: u32,
-    legs: u32,
-    perm: bool,
+    ticket: Ticket,
     leg: TransRec,
 }
 
 impl Model for OpenTrans {
+    ghost use Rattle.std.specs.Prelude.{◌≡◌};
+    ghost use Rattle.xt_base.specs.Space.{charge};
     ghost use Rattle.xt_base.specs.State.{Transaction};
 
     ghost Value = { Transaction };
 
-    ghost view = { λ t. record { unit = t.unit; legs = t.legs; perm = t.perm; leg = t.leg } };
+    ghost view = { λ t. record { unit = t.ticket.unit; legs = t.ticket.legs; perm = t.ticket.perm; leg = t.leg } };
+
+    ghost invariant = { λ t. t.ticket.charged ≡ charge t.leg.changes };
 }
 
 impl OpenTrans {
-    /// A transaction of `legs` legs of `unit` log bytes, which has done nothing yet.
-    pub fn new(alloc: Global, unit: u32, legs: u32, perm: bool) -> Result<Self, AllocError>
-        ensures { IfOk result (λ trans. trans ≡ new_trans unit legs perm) }
+    /// A transaction of a ticket and a leg, which was charged as the ticket says.
+    pub fn new(ticket: Ticket, leg: TransRec) -> Self
+        requires { ticket.charged ≡ charge leg.changes }
+        ensures { result ≡ opened_with ticket leg }
     {
-        let leg = TransRec::new(alloc)?;
-        Ok(OpenTrans {
-            unit,
-            legs,
-            perm,
-            leg,
-        })
+        OpenTrans { ticket, leg }
     }
 
-    /// The log bytes of a leg.
-    pub fn unit(&self) -> u32
-        ensures { result ≡ self.now.unit }
+    /// Its ticket and its leg.
+    pub fn into_parts(self) -> (Ticket, TransRec)
+        ensures ticket { result.0 ≡ grant_of self }
+        ensures leg { result.1 ≡ self.leg }
     {
-        self.unit
+        let OpenTrans { ticket, leg } = self;
+        (ticket, leg)
     }
 
-    /// The legs left, the present one counted.
+    /// The legs left, the present one counted; 0 after a roll that was given up.
     pub fn legs(&self) -> u32
         ensures { result ≡ self.now.legs }
     {
-        self.legs
+        self.ticket.legs()
     }
 
     /// Whether it may roll.
     pub fn perm(&self) -> bool
         ensures { result ≡ self.now.perm }
     {
-        self.perm
+        self.ticket.perm()
     }
 
     /// What its present leg did.
@@ -70,19 +73,46 @@ impl OpenTrans {
         &self.leg
     }
 
+    /// Its ticket.
+    pub fn ticket(&self) -> &Ticket
+        ensures { result.now ≡ grant_of self.now }
+    {
+        &self.ticket
+    }
+
+    /// Whether the charge would keep within the unit, were these chunks of a block changed too.
+    pub fn fits_logged(&self, block: u64, marked: Chunks) -> bool
+        ensures { result ≡ nat_le (charge (edited block [] marked self.now.leg).changes) self.now.unit }
+    {
+        LogSpace::fits(&self.ticket, self.leg.newly_logged(block, marked))
+    }
+
+    /// Whether the charge would keep within the unit, were a block invalidated too.
+    pub fn fits_invalidated(&self, block: u64) -> bool
+        ensures { result ≡ nat_le (charge (invalidated block self.now.leg).changes) self.now.unit }
+    {
+        LogSpace::fits(&self.ticket, self.leg.newly_invalidated(block))
+    }
+
     /// A block has these bytes in the leg, and these chunks are marked and charged too.
     pub fn log(&mut self, block: u64, edit: Content, marked: Chunks)
-        requires { is_in block self.old.leg.changes ≡ false → length self.old.leg.changes + length self.old.leg.holds < 128 }
+        requires few { is_in block self.old.leg.changes ≡ false → length self.old.leg.changes + length self.old.leg.holds < 128 }
+        requires fits { charge (edited block [] marked self.old.leg).changes ≤ self.old.unit }
         ensures { self.new ≡ record self.old { leg = edited block edit marked self.old.leg } }
     {
+        let newly = self.leg.newly_logged(block, marked);
+        pay(&mut self.ticket, newly);
         self.leg.log(block, edit, marked);
     }
 
     /// The leg invalidates a block.
     pub fn inval(&mut self, block: u64)
-        requires { is_in block self.old.leg.changes ≡ false → length self.old.leg.changes + length self.old.leg.holds < 128 }
+        requires few { is_in block self.old.leg.changes ≡ false → length self.old.leg.changes + length self.old.leg.holds < 128 }
+        requires fits { charge (invalidated block self.old.leg).changes ≤ self.old.unit }
         ensures { self.new ≡ record self.old { leg = invalidated block self.old.leg } }
     {
+        let newly = self.leg.newly_invalidated(block);
+        pay(&mut self.ticket, newly);
         self.leg.inval(block);
     }
 
@@ -100,19 +130,17 @@ impl OpenTrans {
     {
         self.leg.unhold(block);
     }
+}
 
-    /// Takes the change of the least block out of the leg.
-    pub fn take_change(&mut self) -> Option<(u64, Change)>
-        ensures { MatchOption result ((self.old.leg.changes ≡ []) × (self.new ≡ self.old)) (λ e. self.old ≡ record self.new { leg = record self.new.leg { changes = e ∷ self.new.leg.changes } }) }
-    {
-        self.leg.take_change()
-    }
-
-    /// A clean leg, with so many legs left.
-    pub fn next_leg(&mut self, legs: u32)
-        ensures { self.new ≡ record self.old { legs = legs; leg = clean_leg } }
-    {
-        self.legs = legs;
-        self.leg.next_leg();
+/// Charges a ticket, whose unit has the room.
+fn pay(ticket: &mut Ticket, newly: Newly)
+    requires blocks { newly.blocks ≤ 1 }
+    requires chunks { newly.chunks ≤ 32 }
+    requires fits { charged_with newly ticket.old.charged ≤ ticket.old.unit }
+    ensures { ticket.new ≡ record ticket.old { charged = charged_with newly ticket.old.charged } }
+{
+    match LogSpace::charge(ticket, newly) {
+        Ok(()) => {}
+        Err(_) => unreachable!(),
     }
 }

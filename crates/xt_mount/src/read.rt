@@ -79,10 +79,10 @@ impl Machine {
 
     /// The same for a read.
     fn needs_block(&self, trans: u64, block: Block) -> Option<Block>
-        ensures asked { is_some result ≡ read_asks trans block (state_of self.now) (at trans self.now.transactions) }
+        ensures asked { is_some result ≡ read_asks trans block (state_of self.now) (at trans self.now.journal.transactions) }
         ensures block { IfSome result (λ asked. asked ≡ block) }
     {
-        let opened = self.transactions.get(trans)?;
+        let opened = self.journal.get(trans)?;
         if self.read_refusal(opened.leg(), trans, block.0).is_none()
             && self.is_absent(trans, block.0)
         {
@@ -131,10 +131,10 @@ impl Machine {
     /// answer handed in.
     pub fn read(&mut self, trans: u64, block: u64, answer: &Answer) -> Result<Reply, AllocError>
         requires { IsSound (state_of self.old) }
-        ensures ok { IfOk result (λ reply. gives reply (state_of self.new) ≡ with_trans (at trans self.old.transactions) (state_of self.old) (read_step trans block answer.now (state_of self.old))) }
+        ensures ok { IfOk result (λ reply. gives reply (state_of self.new) ≡ with_trans (at trans self.old.journal.transactions) (state_of self.old) (read_step trans block answer.now (state_of self.old))) }
         ensures err { OnErr result (state_of self.new ≡ state_of self.old) }
     {
-        let Some(opened) = self.transactions.get(trans) else {
+        let Some(opened) = self.journal.get(trans) else {
             return Ok(Reply::Refused(Errno::Invalid));
         };
         if let Some(errno) = self.read_refusal(opened.leg(), trans, block) {

@@ -23,7 +23,7 @@ impl Machine {
     /// A block of a transaction, with its hold mark, is given back and settles.
     fn give_back(&mut self, trans: u64, block: u64)
         requires { IsSound (state_of self.old) }
-        ensures { IfSome (at trans self.old.transactions) (λ t. state_of self.new ≡ settled [] (unowned block (with_leg trans t (without_hold block t.leg) (state_of self.old)))) }
+        ensures { IfSome (at trans self.old.journal.transactions) (λ t. state_of self.new ≡ settled [] (unowned block (with_leg trans t (without_hold block t.leg) (state_of self.old)))) }
     {
         self.mark_unheld(trans, block);
         self.free(block);
@@ -33,9 +33,9 @@ impl Machine {
     /// It takes no memory.
     pub fn relse(&mut self, trans: u64, block: u64) -> Reply
         requires { IsSound (state_of self.old) }
-        ensures { gives result (state_of self.new) ≡ with_trans (at trans self.old.transactions) (state_of self.old) (relse_step [] trans block (state_of self.old)) }
+        ensures { gives result (state_of self.new) ≡ with_trans (at trans self.old.journal.transactions) (state_of self.old) (relse_step [] trans block (state_of self.old)) }
     {
-        let Some(opened) = self.transactions.get(trans) else {
+        let Some(opened) = self.journal.get(trans) else {
             return Reply::Refused(Errno::Invalid);
         };
         let Some(count) = self.own_count(trans, block) else {
@@ -67,9 +67,9 @@ impl Machine {
 
     /// Takes a held block over. It takes no memory.
     pub fn join(&mut self, trans: u64, block: u64) -> Reply
-        ensures { gives result (state_of self.new) ≡ with_trans (at trans self.old.transactions) (state_of self.old) (join_step trans block (state_of self.old)) }
+        ensures { gives result (state_of self.new) ≡ with_trans (at trans self.old.journal.transactions) (state_of self.old) (join_step trans block (state_of self.old)) }
     {
-        if !self.transactions.contains(trans) {
+        if !self.journal.is_open(trans) {
             return Reply::Refused(Errno::Invalid);
         }
         if let Some(errno) = self.join_refusal(block) {

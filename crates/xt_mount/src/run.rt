@@ -7,28 +7,19 @@ ghost use Rattle.xt_base.specs.Isolation.{told_then, TellsOne};
 ghost use Rattle.xt_base.specs.Order.{suits};
 ghost use Rattle.xt_base.specs.Own.{IsOwnOf};
 ghost use Rattle.xt_base.specs.Steps.{slot_of};
-ghost use Rattle.xt_mount.specs.Come.{has_come};
 ghost use Rattle.xt_mount.specs.Solo.{lone_of, step_has_come, IsFaultOne, IsMore};
 
 use crate::solo::{Solo, is_no_memory};
 use std::alloc::{AllocError, Global};
 use xt_base::names::JobKind;
 use xt_base::outcomes::{Outcomes, RunFault, Turn};
-use xt_base::steps::{Reason, Request, Step};
+use xt_base::steps::{Reason, Step};
 
-/// Whether a request has come so far: all but roll.
-fn request_has_come(request: &Request) -> bool
-    ensures { result ≡ has_come request.now }
-{
-    !matches!(request, Request::Roll { .. })
-}
-
-/// Whether a step has come so far: of the requests all but roll, of the posts those of checkpoints, and no flush.
+/// Whether a step has come so far: of the posts those of checkpoints, and no flush.
 pub fn has_come(step: &Step) -> bool
     ensures { result ≡ step_has_come step.now }
 {
     match step {
-        Step::Call { request, .. } => request_has_come(request),
         Step::Post(name) => matches!(name.kind, JobKind::Ckpt),
         Step::Flush { .. } => false,
         _ => true,

@@ -5,7 +5,7 @@ ghost use Rattle.xt_base.specs.Calls.{alone_with, gives};
 ghost use Rattle.xt_base.specs.Jobs.{is_ckpt, is_owed, is_worth};
 ghost use Rattle.xt_base.specs.Sound.{IsSound};
 ghost use Rattle.xt_base.specs.declared.steps.Answer.{Answer as AnyAnswer};
-ghost use Rattle.xt_mount.specs.Come.{has_come, is_of_mount, owed_now};
+ghost use Rattle.xt_mount.specs.Come.{is_of_mount, owed_now};
 ghost use Rattle.xt_mount.specs.Machines.{state_of};
 ghost use Rattle.xt_mount.specs.Stages.{stage_of};
 
@@ -19,7 +19,6 @@ impl Machine {
     /// Serves a request, with the home device's answer where it asks one. Where memory is refused nothing changes.
     pub fn serve(&mut self, request: &Request, answer: &Answer) -> Result<Reply, AllocError>
         requires sound { IsSound (state_of self.old) }
-        requires came { has_come request.now ≡ true }
         ensures ok { IfOk result (λ reply. gives reply (state_of self.new) ≡ alone_with [] request.now answer.now (state_of self.old)) }
         ensures err { OnErr result (state_of self.new ≡ state_of self.old) }
     {
@@ -41,7 +40,7 @@ impl Machine {
             Request::Release { block } => Ok(self.release(block.0)),
             Request::Inval { trans, block } => Ok(self.inval(trans.0, block.0)),
             Request::Commit { trans } => self.commit(trans.0),
-            Request::Roll { .. } => unreachable!(),
+            Request::Roll { trans } => self.roll(trans.0),
             Request::Cancel { trans } => self.cancel(trans.0),
             _ => Ok(self.serve_mount(request)),
         }
@@ -67,10 +66,10 @@ impl Machine {
     fn is_worth(&self, least: u64) -> bool
         ensures { result ≡ is_worth least (state_of self.now).items }
     {
-        !self.items.is_flying()
-            && self.items.open_number() != u64::MAX
-            && !self.items.cil().is_empty()
-            && least <= self.items.cil_cost()
+        !self.journal.is_flying()
+            && self.journal.open_number() != u64::MAX
+            && !self.journal.cil().is_empty()
+            && least <= self.journal.cil_cost()
     }
 
     /// Whether a live mount owes a checkpoint.
@@ -80,7 +79,7 @@ impl Machine {
         let least = if self.jobs.asked(JobKind::Ckpt) {
             0
         } else {
-            u64::from(self.log_bytes / 8)
+            u64::from(self.journal.log_bytes() / 8)
         };
         !self.is_shut() && self.is_worth(least) && self.jobs.next(JobKind::Ckpt).is_some()
     }
@@ -103,7 +102,7 @@ impl Machine {
         if !self.jobs.is_outstanding(&name) {
             return None;
         }
-        if is_ckpt(kind) && self.items.is_flying() {
+        if is_ckpt(kind) && self.journal.is_flying() {
             Some(Stage::Begun)
         } else {
             Some(Stage::Waiting)

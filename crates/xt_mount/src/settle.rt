@@ -6,7 +6,7 @@ ghost use Rattle.xt_mount.specs.Machines.{state_of};
 ghost use Rattle.xt_mount.specs.Settling.{is_busy_in, settled_contents, settled_fresh};
 
 use crate::frames::Frames;
-use crate::items::Items;
+use crate::journal::Journal;
 use crate::machine::Machine;
 use xt_base::names::Block;
 use xt_locks::locks::Locks;
@@ -18,25 +18,25 @@ impl Machine {
         ensures { state_of self.new ≡ settled [] (state_of self.old) }
     {
         let is_live = self.shut.is_none();
-        settle_contents(&mut self.frames, &self.locks, &self.items, is_live);
-        settle_fresh(&mut self.frames, &self.locks, &self.items);
+        settle_contents(&mut self.frames, &self.locks, &self.journal, is_live);
+        settle_fresh(&mut self.frames, &self.locks, &self.journal);
     }
 }
 
 /// Whether a block is locked, held or on a list.
-fn is_busy_in(locks: &Locks, items: &Items, block: u64) -> bool
-    ensures { result ≡ is_busy_in locks.now items.now block }
+fn is_busy_in(locks: &Locks, journal: &Journal, block: u64) -> bool
+    ensures { result ≡ is_busy_in locks.now journal.now.items block }
 {
-    locks.is_locked(Block(block)) || items.is_listed(block)
+    locks.is_locked(Block(block)) || journal.is_listed(block)
 }
 
 /// Committed contents of blocks that are no longer busy go; those that are kept, to the idle list.
-fn settle_contents(frames: &mut Frames, locks: &Locks, items: &Items, is_kept: bool)
-    ensures { frames.new ≡ settled_contents (is_busy_in locks.now items.now) is_kept frames.old }
+fn settle_contents(frames: &mut Frames, locks: &Locks, journal: &Journal, is_kept: bool)
+    ensures { frames.new ≡ settled_contents (is_busy_in locks.now journal.now.items) is_kept frames.old }
 {
     let mut index = 0;
     while index < frames.committed_len() {
-        if is_busy_in(locks, items, frames.committed_at(index)) {
+        if is_busy_in(locks, journal, frames.committed_at(index)) {
             index += 1;
         } else {
             frames.settle_at(index, is_kept);
@@ -45,12 +45,12 @@ fn settle_contents(frames: &mut Frames, locks: &Locks, items: &Items, is_kept: b
 }
 
 /// Fresh marks of blocks that are no longer busy go.
-fn settle_fresh(frames: &mut Frames, locks: &Locks, items: &Items)
-    ensures { frames.new ≡ settled_fresh (is_busy_in locks.now items.now) frames.old }
+fn settle_fresh(frames: &mut Frames, locks: &Locks, journal: &Journal)
+    ensures { frames.new ≡ settled_fresh (is_busy_in locks.now journal.now.items) frames.old }
 {
     let mut index = 0;
     while index < frames.fresh_len() {
-        if is_busy_in(locks, items, frames.fresh_at(index)) {
+        if is_busy_in(locks, journal, frames.fresh_at(index)) {
             index += 1;
         } else {
             frames.drop_fresh_at(index);

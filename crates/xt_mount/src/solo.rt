@@ -12,7 +12,6 @@ ghost use Rattle.xt_base.specs.State.{empty};
 ghost use Rattle.xt_base.specs.Steps.{slot_of};
 ghost use Rattle.xt_base.specs.Turns.{can_step, hand_after, held_in, keeps_turn};
 ghost use Rattle.xt_base.specs.declared.steps.Step.{Step as AStep};
-ghost use Rattle.xt_mount.specs.Come.{has_come};
 ghost use Rattle.xt_mount.specs.Solo.{answered_turn, hand_of, lone_of, step_has_come, with_lone, IsServedUnlessMemory, IsStepped, IsTurned};
 
 use crate::mount::{Mount, Stage};
@@ -300,8 +299,7 @@ impl Solo {
 
     /// What the mount of a life answers to a request.
     fn answer(&mut self, life: Life, request: &Request, answer: &Answer) -> Reply
-        requires came { has_come request.now ≡ true }
-        requires asked { is_there (mount_is (of_life life request.now) self.old.mount) answer.now ≡ true }
+        requires { is_there (mount_is (of_life life request.now) self.old.mount) answer.now ≡ true }
         ensures { IsTurned (answered_turn life request.now answer.now (lone_of self.old) self.old.mount) result self.new self.old }
     {
         match &mut self.mount {
@@ -327,8 +325,7 @@ impl Solo {
 
     /// Serves a request to one life of the slot.
     fn call(&mut self, life: Life, request: &Request, answer: &Answer) -> Reply
-        requires came { has_come request.now ≡ true }
-        requires asked { is_there (mount_is (of_life life request.now) self.old.mount) answer.now ≡ true }
+        requires { is_there (mount_is (of_life life request.now) self.old.mount) answer.now ≡ true }
         ensures { IsTurned (call_step [] life request.now answer.now (lone_of self.old) self.old.mount) result self.new self.old }
     {
         let reply = self.answer(life, request, answer);

@@ -1,7 +1,7 @@
 -- The ledger of a mount: the numbers of its state that `LogSpace` keeps.
-use Rattle.std.specs.Prelude.{None, Option, Some, ℕ}
+use Rattle.std.specs.Prelude.{List, None, Option, Some, ℕ}
 use Rattle.xt_base.specs.Space.{charge, cost, granted}
-use Rattle.xt_base.specs.State.{Flight, State, Transaction}
+use Rattle.xt_base.specs.State.{Flight, Items, State, Transaction}
 use Rattle.xt_resv.specs.Ledgers.{Grant, Ledger}
 
 -- what a flight costs, if there is one
@@ -9,9 +9,13 @@ abbrev pub flight_of : Option Flight → Option ℕ
 flight_of None = None
 flight_of (Some f) = Some (cost f.items)
 
+-- the ledger of a log of so many bytes, with such open transactions and item lists
+abbrev pub ledger : ℕ → List (ℕ × Transaction) → Items → Ledger
+ledger log_bytes ts l = record { size = log_bytes; granted = granted ts; cil = cost l.cil; flight = flight_of l.flight; landed = l.landed }
+
 -- the ledger of a mount
 abbrev pub ledger_of : State → Ledger
-ledger_of s = record { size = s.log_bytes; granted = granted s.transactions; cil = cost s.items.cil; flight = flight_of s.items.flight; landed = s.items.landed }
+ledger_of s = ledger s.log_bytes s.transactions s.items
 
 -- the grant of a transaction
 abbrev pub grant_of : Transaction → Grant

@@ -242,12 +242,11 @@ impl LogSpace {
         self.granted -= ticket.end();
     }
 
-    /// Takes a ticket back whose leg was committed: the commit list costs `cil_cost` now. A leg has to be left, and the
-    /// list may cost no more than the leg was charged above what it did.
+    /// Takes a ticket back whose leg was committed: the commit list costs `cil_cost` now, no more than what the ticket was
+    /// granted above what it did.
     pub fn commit(&mut self, ticket: Ticket, cil_cost: u64)
         requires granted { ticket.unit * ticket.legs ≤ self.old.granted }
-        requires legs { 1 ≤ ticket.legs }
-        requires cost { cil_cost ≤ self.old.cil + ticket.charged }
+        requires cost { cil_cost ≤ self.old.cil + ticket.unit * ticket.legs }
         ensures { self.new ≡ ungranted ticket cil_cost self.old }
     {
         self.granted -= ticket.end();
@@ -275,7 +274,7 @@ impl LogSpace {
     }
 
     /// Whether the last leg finds no space for one new unit, where its commit makes the commit list cost this.
-    fn is_no_room(&self, ticket: &Ticket, cil_cost: u64) -> bool
+    pub fn is_no_room(&self, ticket: &Ticket, cil_cost: u64) -> bool
         requires granted { ticket.now.unit * ticket.now.legs ≤ self.now.granted }
         requires cost { cil_cost ≤ self.now.cil + ticket.now.charged }
         ensures { result ≡ is_no_room ticket.now cil_cost self.now }

@@ -1,5 +1,6 @@
 -- The entries that keep a leg: what stands of a block, and the leg that they make.
 use Rattle.std.specs.Prelude.{Bool, List, None, Option, Some, [], false, if◌then◌else◌, is_none, length, unwrap_or, ℕ, ◌&&◌, ◌*◌, ◌+◌, ◌||◌, ◌≡◌, true}
+use Rattle.xt_base.specs.Legs.{joined_marks}
 use Rattle.xt_base.specs.Maps.{at}
 use Rattle.xt_base.specs.Marks.{Marks, marks_of}
 use Rattle.xt_base.specs.Sound.{Each, IsRising}
@@ -65,3 +66,24 @@ item_at b es = unwrap_or (at b es) blank
 -- what a leg is charged for the block of an entry
 abbrev pub item_charge : BufItem → ℕ
 item_charge i = if is_item_dirty i then 16 + 128 * length i.charged else 0
+
+-- ---- a commit list
+-- what an item of a commit list costs, if it stands there
+abbrev pub standing_cost : Option (List ℕ) → ℕ
+standing_cost None = 0
+standing_cost (Some chunks) = 16 + 128 * length chunks
+
+-- what the item of an entry's block costs with the entry's marks, if the entry changes it
+abbrev pub item_gain : BufItem → Option (List ℕ) → ℕ
+item_gain i old = if is_item_dirty i then 16 + 128 * length (joined_marks old (change_in i)) else 0
+
+-- what it costs without them
+abbrev pub item_loss : BufItem → Option (List ℕ) → ℕ
+item_loss i old = if is_item_dirty i then standing_cost old else 0
+
+-- the same, by the commit list
+abbrev pub gain_in : List (ℕ × List ℕ) → ℕ × BufItem → ℕ
+gain_in list e = item_gain e.1 (at e.0 list)
+
+abbrev pub loss_in : List (ℕ × List ℕ) → ℕ × BufItem → ℕ
+loss_in list e = item_loss e.1 (at e.0 list)

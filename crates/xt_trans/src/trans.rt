@@ -4,12 +4,13 @@
 ghost use Rattle.std.specs.Prelude.{◌≡◌, ◌+◌, ◌*◌, ◌<◌, ◌≤◌, ◌==◌, ◌∷◌, [], Some, None, false, true, if◌then◌else◌, length, option_copied, option_map, sum_by, unwrap_or, IfOk, IfSome, MatchOption, is_none};
 ghost use Rattle.xt_base.specs.Calls.{edited, held_of, invalidated as invalidated_leg, seen_with, without_hold};
 ghost use Rattle.xt_base.specs.Chunks.{union as either};
-ghost use Rattle.xt_base.specs.Legs.{change_of, clean_leg, is_dirty, is_stale};
+ghost use Rattle.xt_base.specs.Legs.{change_of, clean_leg, is_dirty, is_stale, joined_marks, with_marks};
 ghost use Rattle.xt_base.specs.Maps.{at, has, is_in, with_member, without};
 ghost use Rattle.xt_base.specs.Marks.{marks_of, no_marks};
-ghost use Rattle.xt_base.specs.Space.{charge};
+ghost use Rattle.xt_base.specs.Sound.{IsRising};
+ghost use Rattle.xt_base.specs.Space.{charge, cost, item_cost};
 ghost use Rattle.xt_base.specs.Text.{zeros};
-ghost use Rattle.xt_trans.specs.LegItems.{AreItems, blank, change_in, item_at, item_charge, leg_of, no_change};
+ghost use Rattle.xt_trans.specs.LegItems.{AreItems, blank, change_in, gain_in, item_at, item_charge, item_gain, item_loss, leg_of, loss_in, no_change};
 
 use std::alloc::{AllocError, Global};
 use std::marker::Model;
@@ -148,6 +149,18 @@ impl TransRec {
         ensures range { result ≤ 526368 }
     {
         let total = total_charge(self.items.entries());
+        if total == 0 { 0 } else { 32 + total }
+    }
+
+    /// What a commit list costs once the marks of this leg were joined to it: the length of its checkpoint text, at most
+    /// 1,052,704.
+    pub fn cost_with(&self, list: &NumberMap<Chunks>) -> u64
+        requires { IsRising list.now }
+        ensures value { result ≡ cost (with_marks self.now.changes list.now) }
+        ensures range { result ≤ 1052704 }
+    {
+        let entries = self.items.entries();
+        let total = standing(list.entries()) + gained(entries, list) - lost(entries, list);
         if total == 0 { 0 } else { 32 + total }
     }
 
@@ -328,6 +341,78 @@ fn total_charge(items: &[(u64, BufItem)]) -> u64
     let mut total = 0;
     for e in items {
         total += charge_of(&e.1);
+    }
+    total
+}
+
+/// What the items of a commit list cost.
+fn standing(list: &[(u64, Chunks)]) -> u64
+    requires { length list.now ≤ 128 }
+    ensures value { result ≡ sum_by item_cost list.now }
+    ensures range { result ≤ 526336 }
+{
+    let mut total = 0;
+    for e in list {
+        total += 16 + 128 * e.1.count() as u64;
+    }
+    total
+}
+
+/// The marks of a commit list's item with those of an entry joined to them; none for an invalidated block.
+fn joined(item: &BufItem, old: Option<&Chunks>) -> Chunks
+    ensures { result ≡ joined_marks (option_copied old.entry) (change_in item.now) }
+{
+    match item.edit {
+        None => Chunks::none(),
+        Some(_) => old.copied().unwrap_or(Chunks::none()).union(item.chunks),
+    }
+}
+
+/// What the commit list's item of an entry's block costs with the entry's marks.
+fn gain(item: &BufItem, old: Option<&Chunks>) -> u64
+    ensures value { result ≡ item_gain item.now (option_copied old.entry) }
+    ensures range { result ≤ 4112 }
+{
+    if item.marks.is_dirty() {
+        16 + 128 * joined(item, old).count() as u64
+    } else {
+        0
+    }
+}
+
+/// What the commit list's item of an entry's block costs, if the entry changes it.
+fn loss(item: &BufItem, old: Option<&Chunks>) -> u64
+    ensures value { result ≡ item_loss item.now (option_copied old.entry) }
+    ensures range { result ≤ 4112 }
+{
+    match old {
+        Some(chunks) if item.marks.is_dirty() => 16 + 128 * chunks.count() as u64,
+        _ => 0,
+    }
+}
+
+/// What the items of changed blocks cost on a commit list with the marks of these entries.
+fn gained(items: &[(u64, BufItem)], list: &NumberMap<Chunks>) -> u64
+    requires { length items.now ≤ 128 }
+    ensures value { result ≡ sum_by (gain_in list.now) items.now }
+    ensures range { result ≤ 526336 }
+{
+    let mut total = 0;
+    for e in items {
+        total += gain(&e.1, list.get(e.0));
+    }
+    total
+}
+
+/// What the items of changed blocks cost on a commit list without them.
+fn lost(items: &[(u64, BufItem)], list: &NumberMap<Chunks>) -> u64
+    requires { length items.now ≤ 128 }
+    ensures value { result ≡ sum_by (loss_in list.now) items.now }
+    ensures range { result ≤ 526336 }
+{
+    let mut total = 0;
+    for e in items {
+        total += loss(&e.1, list.get(e.0));
     }
     total
 }

@@ -4,12 +4,11 @@ use Rattle.xt_mount.proofs.leg_end.keep_changes.Given as goal
 
 abbrev pub invariant-loop-block : goal.invariant-loop-block
 invariant-loop-block l = record {
-  contents : edits_kept l.opened.leg.changes l.frames ≡ edits_kept l.fn.opened.leg.changes l.fn.frames;
-  cil : marks_kept l.opened.leg.changes l.items ≡ marks_kept l.fn.opened.leg.changes l.fn.items;
-  rest : record l.opened { leg = record l.opened.leg { changes = [] } } ≡ record l.fn.opened { leg = record l.fn.opened.leg { changes = [] } };
-  contents_room : length l.frames.committed + length l.opened.leg.changes ≤ 128;
-  cil_room : length l.items.cil + length l.opened.leg.changes ≤ 128;
+  contents : edits_kept l.leg.changes l.frames ≡ edits_kept l.fn.leg.changes l.fn.frames;
+  cil : marks_kept l.leg.changes l.items ≡ marks_kept l.fn.leg.changes l.fn.items;
+  contents_room : length l.frames.committed + length l.leg.changes ≤ 128;
+  cil_room : length l.items.cil + length l.leg.changes ≤ 128;
 }
 
 abbrev pub decreases-loop-block : goal.decreases-loop-block
-decreases-loop-block l = length l.opened.leg.changes
+decreases-loop-block l = length l.leg.changes

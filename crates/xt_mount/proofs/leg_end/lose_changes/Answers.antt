@@ -1,20 +1,19 @@
 use Rattle.std.proofs.Common.{◌∙◌, ◌≡◌, List, ap, arith, length, sym, ℕ}
-use Rattle.xt_base.specs.State.{Frames, Leg, Transaction}
+use Rattle.xt_base.specs.State.{Frames, Leg}
 use Rattle.xt_mount.proofs.EndLemmas.{taken}
 use Rattle.xt_mount.proofs.leg_end.lose_changes.Goals as goal
 use Rattle.xt_mount.specs.Ending.{fresh_lost, lost_with, with_first}
 
 pub loop-block-preserved : goal.loop-block-preserved
 loop-block-preserved c =
-    let leg : Leg = c.args.opened.now.leg in
-    let took : c.loop-block.opened ≡ with_first (c.in-Some.block, c.in-Some.change) c.take_change.new.self =
-    taken c.take_change.result _ (λ e. c.loop-block.opened ≡ with_first e c.take_change.new.self) (c.in-Some.block, c.in-Some.change) c.in-Some.is c.take_change.ensures in
-    let holds : c.take_change.new.self.leg.holds ≡ leg.holds = ap (λ (t : Transaction). t.leg.holds) (sym took) ∙ c.loop-block.invariant.holds in
-    let held : c.leg.result.now.holds ≡ leg.holds = ap (λ (l : Leg). l.holds) c.leg.ensures ∙ holds in
+    let leg : Leg = c.args.leg.now in
+    let took : c.loop-block.leg ≡ with_first (c.in-Some.block, c.in-Some.change) c.take_change.new.self =
+    taken c.take_change.result _ (λ e. c.loop-block.leg ≡ with_first e c.take_change.new.self) (c.in-Some.block, c.in-Some.change) c.in-Some.is c.take_change.ensures in
+    let holds : c.take_change.new.self.holds ≡ leg.holds = ap (λ (t : Leg). t.holds) (sym took) ∙ c.loop-block.invariant.holds in
     let frames : List ℕ → Frames = λ h. record c.loop-block.frames { fresh = lost_with h c.in-Some.block c.loop-block.frames.fresh } in
     record {
-      fresh = ap (fresh_lost c.take_change.new.self.leg.changes leg) c.lose_change.ensures.fresh ∙ ap (λ (h : List ℕ). fresh_lost c.take_change.new.self.leg.changes leg (frames h)) held
-          ∙ ap (λ (t : Transaction). fresh_lost t.leg.changes leg c.loop-block.frames) (sym took) ∙ c.loop-block.invariant.fresh;
+      fresh = ap (fresh_lost c.take_change.new.self.changes leg) c.lose_change.ensures.fresh ∙ ap (λ (h : List ℕ). fresh_lost c.take_change.new.self.changes leg (frames h)) holds
+          ∙ ap (λ (t : Leg). fresh_lost t.changes leg c.loop-block.frames) (sym took) ∙ c.loop-block.invariant.fresh;
       holds = holds;
-      room = omega (arith, c.lose_change.ensures.count, ap (λ (t : Transaction). length t.leg.changes) took, c.loop-block.invariant.room);
+      room = omega (arith, c.lose_change.ensures.count, ap (λ (t : Leg). length t.changes) took, c.loop-block.invariant.room);
     }

@@ -4,10 +4,10 @@ use Rattle.xt_mount.proofs.leg_end.lose_changes.Given as goal
 
 abbrev pub invariant-loop-block : goal.invariant-loop-block
 invariant-loop-block l = record {
-  fresh : fresh_lost l.opened.leg.changes l.fn.opened.leg l.frames ≡ fresh_lost l.fn.opened.leg.changes l.fn.opened.leg l.fn.frames;
-  holds : l.opened.leg.holds ≡ l.fn.opened.leg.holds;
-  room : length l.frames.fresh + length l.opened.leg.changes ≤ 128;
+  fresh : fresh_lost l.leg.changes l.fn.leg l.frames ≡ fresh_lost l.fn.leg.changes l.fn.leg l.fn.frames;
+  holds : l.leg.holds ≡ l.fn.leg.holds;
+  room : length l.frames.fresh + length l.leg.changes ≤ 128;
 }
 
 abbrev pub decreases-loop-block : goal.decreases-loop-block
-decreases-loop-block l = length l.opened.leg.changes
+decreases-loop-block l = length l.leg.changes

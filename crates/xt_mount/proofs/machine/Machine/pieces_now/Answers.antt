@@ -15,4 +15,4 @@ write_checkpoint-requires-clause-count c =
 
 pub write_checkpoint-requires-clause-rising : goal.write_checkpoint-requires-clause-rising
 write_checkpoint-requires-clause-rising c =
-    subst BlocksRise (sym c.deref.ensures.value) (blocks_rise c.args.self.now.items.cil c.in_ok-items.items.items c.requires.sound.parts.cil_rises c.in_ok-items.ensures.blocks)
+    subst BlocksRise (sym c.deref.ensures.value) (blocks_rise c.args.self.now.journal.items.cil c.in_ok-items.items.items c.requires.sound.parts.cil_rises c.in_ok-items.ensures.blocks)

@@ -1,0 +1,78 @@
+-- A journal whose ledger agrees with its transactions and lists.
+use Rattle.std.proofs.Common.{◌≡◌, ◌∙◌, ◌+◌, ◌*◌, ◌≤◌, ℕ, List, None, Ok, Option, Some, false, true, sym, ap, refl, subst, arith, IfSome}
+use Rattle.std.specs.Prelude.{is_some, sum_by}
+use Rattle.std.proofs.lemmas.Bool.{false≢true}
+use Rattle.xt_base.proofs.RisingLemmas.{sum_put, sum_without, weight_at}
+use Rattle.xt_base.proofs.ViewLemmas.{put_without}
+use Rattle.xt_base.specs.Maps.{at, is_in, put, set_at, without}
+use Rattle.xt_base.specs.Sound.{IsRising}
+use Rattle.xt_base.specs.Space.{granted}
+use Rattle.xt_base.specs.Legs.{clean_leg}
+use Rattle.xt_base.specs.State.{Items, Leg, Transaction}
+use Rattle.xt_base.specs.declared.steps.Errno.{Errno}
+use Rattle.xt_mount.proofs.KeepLemmas.{put_back}
+use Rattle.xt_mount.specs.Journals.{Pages, legs_in, releg}
+use Rattle.xt_resv.specs.Ledgers.{Grant, grant_unless}
+use Rattle.xt_resv.specs.Mounts.{grant_of}
+
+-- what a transaction was granted
+abbrev grant_in : ℕ × Transaction → ℕ
+grant_in e = e.1.unit * e.1.legs
+
+-- ---- one transaction of many
+module _ (t : ℕ) (u : Transaction) (ts m : List (ℕ × Transaction)) (is : at t ts ≡ Some u) (out : m ≡ without t ts) where
+  -- the grant without it
+  pub granted_out : granted m + u.unit * u.legs ≡ granted ts
+  granted_out = omega (arith, ap granted out, sum_without grant_in t ts, ap (weight_at grant_in t) is)
+
+  -- its ticket has no more than the grant
+  pub covered : (g : Grant) (whole : ℕ) → g ≡ grant_of u → whole ≡ granted ts → g.unit * g.legs ≤ whole
+  covered g whole same balance = omega (arith, ap (λ (x : Grant). x.unit * x.legs) same, balance, granted_out)
+
+  -- the grant with another in its place
+  pub granted_in : (v : Transaction) (ns : List (ℕ × Transaction)) → IsRising ts → ns ≡ put t v m → granted ns + u.unit * u.legs ≡ granted ts + v.unit * v.legs
+  granted_in v ns rises back =
+      omega (arith, ap granted (back ∙ ap (put t v) out ∙ put_without 0 t v ts rises), sum_put grant_in 0 t v ts rises, ap (weight_at grant_in t) is)
+
+  -- which has the same grant
+  pub granted_same : (v : Transaction) (ns : List (ℕ × Transaction)) → IsRising ts → ns ≡ put t v m → (f : Leg) → v ≡ record u { leg = f } → granted ns ≡ granted ts
+  granted_same v ns rises back f same = omega (arith, granted_in v ns rises back, ap (λ (x : Transaction). x.unit * x.legs) same)
+
+-- what is not there
+none_is : {A : Type 0} (o : Option A) → is_some o ≡ false → o ≡ None
+none_is None h = refl
+none_is (Some a) h = absurd (false≢true (sym h))
+
+-- one transaction more
+pub granted_more : (t : ℕ) (v : Transaction) (ts ns : List (ℕ × Transaction)) → IsRising ts → is_in t ts ≡ false → ns ≡ put t v ts → granted ns ≡ granted ts + v.unit * v.legs
+granted_more t v ts ns rises absent back = omega (arith, ap granted back, sum_put grant_in 0 t v ts rises, ap (weight_at grant_in t) (none_is (at t ts) absent))
+
+-- ---- pages
+-- a transaction has another leg
+module _ (p q : Pages) (view : q ≡ p) (t : ℕ) (u v : Transaction) (m ns : List (ℕ × Transaction)) (is : at t q.transactions ≡ Some u) (rises : IsRising p.transactions) (out : m ≡ without t q.transactions)
+    (back : ns ≡ put t v m) where
+  -- the map with it
+  pub set_in : ns ≡ set_at t v q.transactions
+  set_in = back ∙ ap (put t v) out ∙ put_back t u v q.transactions (subst (λ (x : Pages). IsRising x.transactions) (sym view) rises) is
+
+  pub relegged : (f : Leg → Leg) → v ≡ record u { leg = f u.leg } → IfSome (at t p.transactions) (λ x. record q { transactions = ns } ≡ releg t x (f x.leg) p)
+  relegged f changed =
+      subst (λ (x : Pages). IfSome (at t x.transactions) (λ y. record q { transactions = ns } ≡ releg t y (f y.leg) x)) view
+      (subst (λ o. IfSome o (λ y. record q { transactions = ns } ≡ releg t y (f y.leg) q)) (sym is) (ap (λ (xs : List (ℕ × Transaction)). record q { transactions = xs }) (set_in ∙ ap (λ x. set_at t x q.transactions) changed)))
+
+-- a transaction has a clean leg and so many legs left
+module _ (p q : Pages) (view : q ≡ p) (t : ℕ) (u v : Transaction) (m ns : List (ℕ × Transaction)) (is : at t q.transactions ≡ Some u) (rises : IsRising p.transactions) (out : m ≡ without t q.transactions)
+    (back : ns ≡ put t v m) where
+  pub next_pages : (f : ℕ → ℕ) (g : Transaction → Items → Items) (log_bytes : ℕ) (items : Items) → v ≡ record u { legs = f u.legs; leg = clean_leg } → log_bytes ≡ q.log_bytes → items ≡ g u q.items
+      → IfSome (at t p.transactions) (λ x. record { log_bytes = log_bytes; transactions = ns; items = items } ≡ legs_in t (f x.legs) x (record p { items = g x p.items }))
+  next_pages f g log_bytes items changed size marked =
+      let given : ℕ → List (ℕ × Transaction) → Items → Pages = λ b xs l. record { log_bytes = b; transactions = xs; items = l } in
+      subst (λ (x : Pages). IfSome (at t x.transactions) (λ y. given log_bytes ns items ≡ legs_in t (f y.legs) y (record x { items = g y x.items }))) view
+      (subst (λ o. IfSome o (λ y. given log_bytes ns items ≡ legs_in t (f y.legs) y (record q { items = g y q.items }))) (sym is)
+      (ap (λ b. given b ns items) size ∙ ap (given q.log_bytes ns) marked
+      ∙ ap (λ (xs : List (ℕ × Transaction)). given q.log_bytes xs (g u q.items)) (set_in p q view t u v m ns is rises out back ∙ ap (λ x. set_at t x q.transactions) changed)))
+
+-- a grant that was not refused
+pub grant_is : (o : Option Errno) (t g : Grant) → Ok t ≡ grant_unless o g → t ≡ g
+grant_is None t g h = cc
+grant_is (Some e) t g h = absurd (cc)

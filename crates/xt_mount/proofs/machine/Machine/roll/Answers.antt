@@ -1,0 +1,36 @@
+use Rattle.std.proofs.Common.{◌∙◌, ap, arith, length, sym, if◌then◌else◌}
+use Rattle.std.specs.Prelude.{not}
+use Rattle.xt_base.proofs.SoundBounds.{few_holds}
+use Rattle.xt_base.specs.Calls.{held_of}
+use Rattle.xt_base.specs.Legs.{is_dirty}
+use Rattle.xt_base.specs.State.{Leg}
+use Rattle.xt_mount.proofs.EndLemmas.{if_some}
+use Rattle.xt_mount.proofs.RollLemmas.{changes_rise, grant_there, paid_charge, roll_goes_on, roll_waits, room_is}
+use Rattle.xt_mount.specs.Machines.{state_of}
+use Rattle.xt_mount.proofs.machine.Machine.roll.Goals as goal
+
+pub finds_no_room-requires-clause-rising : goal.finds_no_room-requires-clause-rising
+finds_no_room-requires-clause-rising c = changes_rise (state_of c.args.self.now) c.requires c.args.trans c.in-Some.opened.now c.in-Some.ensures
+
+pub finds_no_room-requires-clause-granted : goal.finds_no_room-requires-clause-granted
+finds_no_room-requires-clause-granted c = grant_there (state_of c.args.self.now) c.requires c.args.trans c.in-Some.opened.now c.in-Some.ensures
+
+pub finds_no_room-requires-clause-paid : goal.finds_no_room-requires-clause-paid
+finds_no_room-requires-clause-paid c = paid_charge (state_of c.args.self.now) c.requires c.args.trans c.in-Some.opened.now c.in-Some.ensures
+
+pub returns-then-finds_no_room-clause-ok : goal.returns-then-finds_no_room-clause-ok
+returns-then-finds_no_room-clause-ok c =
+    roll_waits (state_of c.args.self.now) c.requires c.args.trans c.in-Some.opened.now c.in-Some.ensures (ap not (sym c.perm.ensures ∙ c.if-not-perm.false)) (sym c.is_shut.ensures ∙ c.if-is_shut.false) (room_is (state_of c.args.self.now) c.requires c.args.trans c.in-Some.opened.now c.in-Some.ensures ∙ sym c.finds_no_room.ensures ∙ c.if-finds_no_room.true) _ c.ask_space.ensures
+
+pub held-requires : goal.held-requires
+held-requires c = omega (arith, few_holds (state_of c.args.self.now) c.requires c.args.trans c.in-Some.opened.now (sym c.in-Some.ensures), ap (λ (l : Leg). length l.holds) c.leg.ensures)
+
+pub next_leg-requires-clause-room : goal.next_leg-requires-clause-room
+next_leg-requires-clause-room c = if_some _ _ c.in-Some.opened.now c.in-Some.ensures (room_is (state_of c.args.self.now) c.requires c.args.trans c.in-Some.opened.now c.in-Some.ensures ∙ sym c.finds_no_room.ensures ∙ c.if-finds_no_room.false)
+
+pub returns-clause-ok : goal.returns-clause-ok
+returns-clause-ok c =
+    roll_goes_on (state_of c.args.self.now) c.requires c.args.trans c.in-Some.opened.now c.in-Some.ensures (ap not (sym c.perm.ensures ∙ c.if-not-perm.false)) (sym c.is_shut.ensures ∙ c.if-is_shut.false) (room_is (state_of c.args.self.now) c.requires c.args.trans c.in-Some.opened.now c.in-Some.ensures ∙ sym c.finds_no_room.ensures ∙ c.if-finds_no_room.false) c.in_ok-held.held c.commit_number-number.result _ _
+    (c.in_ok-held.ensures ∙ ap (λ (l : Leg). held_of l.holds) c.leg.ensures)
+    (c.commit_number-number.ensures ∙ ap (λ b. if b then (state_of c.args.self.now).items.open_number else 0) (c.is_dirty.ensures ∙ ap is_dirty c.leg-2.ensures))
+    c.next_leg.ensures c.settle.ensures

@@ -1,0 +1,54 @@
+-- A journal: the size of the log, the open transactions, and the item lists.
+use Rattle.std.specs.Prelude.{ℕ, List, [], None, Some, ◌+◌, sum_by}
+use Rattle.xt_base.specs.Jobs.{landed_items}
+use Rattle.xt_base.specs.Legs.{clean_leg, with_marks}
+use Rattle.xt_base.specs.Maps.{put, set_at, without}
+use Rattle.xt_base.specs.Space.{cost, flight_items, granted}
+use Rattle.xt_base.specs.State.{Flight, Items, Leg, Transaction}
+use Rattle.xt_resv.specs.Ledgers.{Grant}
+
+-- the log bytes, the open transactions by number, and the lists
+pub record Pages : Type 0 where
+  pub log_bytes : ℕ
+  pub transactions : List (ℕ × Transaction)
+  pub items : Items
+
+-- a journal of which nothing is in use
+abbrev pub no_pages : ℕ → Pages
+no_pages log_bytes = record { log_bytes = log_bytes; transactions = []; items = record { open_number = 1; cil = []; flight = None; ail = []; landed = [] } }
+
+-- the log bytes in use
+abbrev pub used_in : Pages → ℕ
+used_in j = granted j.transactions + cost j.items.cil + cost (flight_items j.items.flight) + sum_by (λ e. e.1) j.items.landed
+
+-- a transaction with a grant and a leg
+abbrev pub opened_with : Grant → Leg → Transaction
+opened_with t leg = record { unit = t.unit; legs = t.legs; perm = t.perm; leg = leg }
+
+-- one more open transaction
+abbrev pub opened_in : ℕ → Transaction → Pages → Pages
+opened_in t trans j = record j { transactions = put t trans j.transactions }
+
+-- an open transaction with another leg
+abbrev pub releg : ℕ → Transaction → Leg → Pages → Pages
+releg t trans leg j = record j { transactions = set_at t (record trans { leg = leg }) j.transactions }
+
+-- a transaction is closed
+abbrev pub closed_in : ℕ → Pages → Pages
+closed_in t j = record j { transactions = without t j.transactions }
+
+-- the marks of its leg are joined to the commit list
+abbrev pub marked_in : Transaction → Pages → Pages
+marked_in trans j = record j { items = record j.items { cil = with_marks trans.leg.changes j.items.cil } }
+
+-- a clean leg with so many legs left
+abbrev pub legs_in : ℕ → ℕ → Transaction → Pages → Pages
+legs_in t legs trans j = record j { transactions = set_at t (record trans { legs = legs; leg = clean_leg }) j.transactions }
+
+-- the commit list becomes the flight, with these pieces, and the next number opens
+abbrev pub flown_in : List (List ℕ) → Pages → Pages
+flown_in ps j = record j { items = record j.items { open_number = j.items.open_number + 1; cil = []; flight = Some (record { number = j.items.open_number; items = j.items.cil; pieces = ps }) } }
+
+-- the flight has landed
+abbrev pub landed_in : Flight → Pages → Pages
+landed_in f j = record j { items = landed_items f j.items }

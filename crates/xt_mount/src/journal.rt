@@ -1,0 +1,414 @@
+//! The journal of a mount: its open transactions with their tickets, its item lists, and the log space that both use.
+
+ghost use Rattle.std.specs.Prelude.{◌≡◌, ◌+◌, ◌*◌, ◌≤◌, ◌<◌, ◌||◌, [], Some, None, false, true, is_none, is_some, length, nat_le, nat_lt, not, IfOk, IfSome, OnOk, OnErr, option_copied};
+ghost use Rattle.xt_base.specs.Calls.{edited, invalidated, legs_after, new_trans, without_hold};
+ghost use Rattle.xt_base.specs.Jobs.{flight_pieces, landed_items};
+ghost use Rattle.xt_base.specs.Legs.{with_marks};
+ghost use Rattle.xt_base.specs.Maps.{at, has, is_in, with_member};
+ghost use Rattle.xt_base.specs.Sound.{AllBelow, IsRising};
+ghost use Rattle.xt_base.specs.Space.{charge, cost, flight_items, granted, is_listed};
+ghost use Rattle.xt_mount.specs.Ending.{edits_kept, leg_lost};
+ghost use Rattle.xt_mount.specs.Journals.{closed_in, flown_in, landed_in, legs_in, marked_in, no_pages, opened_in, releg, used_in};
+ghost use Rattle.xt_mount.specs.Lists.{flight_number};
+ghost use Rattle.xt_resv.specs.Ledgers.{is_invalid, is_no_room};
+ghost use Rattle.xt_resv.specs.Mounts.{grant_of, ledger};
+
+use crate::frames::Frames;
+use crate::items::Items;
+use crate::leg_end::{keep_changes, lose_leg};
+use crate::open_trans::OpenTrans;
+use bytes::Bytes;
+use std::alloc::{AllocError, Global};
+use std::marker::Model;
+use xt_base::chunks::Chunks;
+use xt_base::content::Content;
+use xt_base::map::NumberMap;
+use xt_resv::space::LogSpace;
+use xt_trans::trans::TransRec;
+
+/// The open transactions of a mount, its item lists, and its log space, which has what both use: what each ticket was
+/// granted, and what each list costs. Clauses see the transactions and the lists.
+#[derive(Debug)]
+pub struct Journal {
+    transactions: NumberMap<OpenTrans>,
+    items: Items,
+    space: LogSpace,
+}
+
+impl Model for Journal {
+    ghost use Rattle.std.specs.Prelude.{◌≡◌};
+    ghost use Rattle.xt_base.specs.Space.{cost, granted};
+    ghost use Rattle.xt_mount.specs.Journals.{Pages};
+    ghost use Rattle.xt_mount.specs.Lists.{with_landed};
+    ghost use Rattle.xt_resv.specs.Mounts.{flight_of};
+
+    ghost Value = { Pages };
+
+    ghost view = { λ j. record { log_bytes = j.space.size; transactions = j.transactions; items = with_landed j.space.landed j.items } };
+
+    ghost invariant = { λ j. (j.space.granted ≡ granted j.transactions) × (j.space.cil ≡ cost j.items.cil) × (j.space.flight ≡ flight_of j.items.flight) };
+}
+
+impl Drop for Journal {
+    fn drop(self) {
+        let Journal {
+            mut transactions,
+            items: _items,
+            mut space,
+        } = self;
+        give_all_back(&mut transactions, &mut space);
+        transactions.destroy_empty();
+    }
+}
+
+/// Gives the tickets of all open transactions back.
+fn give_all_back(transactions: &mut NumberMap<OpenTrans>, space: &mut LogSpace)
+    requires { granted transactions.old ≤ space.old.granted }
+    ensures { transactions.new ≡ [] }
+{
+    while let Some((_, opened)) = transactions.pop_first() {
+        let (ticket, _leg) = opened.into_parts();
+        space.give_back(ticket);
+    }
+}
+
+impl Journal {
+    /// A journal of a log of so many bytes, at most 16,777,216, of which nothing is in use. The one error is want of memory.
+    pub fn new(alloc: Global, log_bytes: u32) -> Result<Self, AllocError>
+        requires { log_bytes ≤ 16777216 }
+        ensures { IfOk result (λ journal. journal ≡ no_pages log_bytes) }
+    {
+        let items = Items::new(alloc)?;
+        let transactions = NumberMap::new(alloc)?;
+        Ok(Journal {
+            transactions,
+            items,
+            space: LogSpace::new(alloc, log_bytes),
+        })
+    }
+
+    // ---- what it has
+    /// The log bytes.
+    pub fn log_bytes(&self) -> u32
+        ensures { result ≡ self.now.log_bytes }
+    {
+        self.space.size()
+    }
+
+    /// The open transaction of a number.
+    pub fn get(&self, trans: u64) -> Option<&OpenTrans>
+        ensures { option_copied result ≡ at trans self.now.transactions }
+    {
+        self.transactions.get(trans)
+    }
+
+    /// Whether a transaction is open.
+    pub fn is_open(&self, trans: u64) -> bool
+        ensures { result ≡ is_in trans self.now.transactions }
+    {
+        self.transactions.contains(trans)
+    }
+
+    /// How many transactions are open.
+    pub fn open_count(&self) -> usize
+        ensures { result ≡ length self.now.transactions }
+    {
+        self.transactions.len()
+    }
+
+    /// The number of the open checkpoint.
+    pub fn open_number(&self) -> u64
+        ensures { result ≡ self.now.items.open_number }
+    {
+        self.items.open_number()
+    }
+
+    /// The committed items, by rising block.
+    pub fn cil(&self) -> &[(u64, Chunks)]
+        ensures value { result.now ≡ self.now.items.cil }
+        ensures small { length result.now ≤ 128 }
+    {
+        self.items.cil()
+    }
+
+    /// The active list: each block with the number of its checkpoint.
+    pub fn ail(&self) -> &[(u64, u64)]
+        ensures value { result.now ≡ self.now.items.ail }
+        ensures small { length result.now ≤ 128 }
+    {
+        self.items.ail()
+    }
+
+    /// The items in flight, by rising block.
+    pub fn flight_items(&self) -> Option<&[(u64, Chunks)]>
+        ensures some { IfSome result (λ items. (items.now ≡ flight_items self.now.items.flight) × (length items.now ≤ 128)) }
+        ensures none { is_some result ≡ is_some self.now.items.flight }
+    {
+        self.items.flight_items()
+    }
+
+    /// Whether a block is on the commit list.
+    pub fn is_committed(&self, block: u64) -> bool
+        ensures { result ≡ is_in block self.now.items.cil }
+    {
+        self.items.is_committed(block)
+    }
+
+    /// Whether a block is in flight.
+    pub fn is_in_flight(&self, block: u64) -> bool
+        ensures { result ≡ is_in block (flight_items self.now.items.flight) }
+    {
+        self.items.is_in_flight(block)
+    }
+
+    /// Whether a block is on a list.
+    pub fn is_listed(&self, block: u64) -> bool
+        ensures { result ≡ is_listed self.now.items block }
+    {
+        self.items.is_listed(block)
+    }
+
+    /// Whether a checkpoint is in flight.
+    pub fn is_flying(&self) -> bool
+        ensures { result ≡ is_some self.now.items.flight }
+    {
+        self.items.is_flying()
+    }
+
+    /// The number of the checkpoint in flight.
+    pub fn flight_number(&self) -> Option<u64>
+        ensures { result ≡ flight_number self.now.items.flight }
+    {
+        self.items.flight_number()
+    }
+
+    /// The pieces of the flight's text; none where nothing is in flight.
+    pub fn pieces(&self) -> &[Bytes]
+        ensures { result.now ≡ flight_pieces self.now.items.flight }
+    {
+        self.items.pieces()
+    }
+
+    // ---- log space
+    /// What the commit list costs.
+    pub fn cil_cost(&self) -> u64
+        ensures { result ≡ cost self.now.items.cil }
+    {
+        self.items.cil_cost()
+    }
+
+    /// Whether this can't be granted, however much space is left.
+    pub fn is_invalid(&self, unit: u32, count: u32, perm: bool) -> bool
+        ensures { result ≡ is_invalid unit count perm self.now.log_bytes }
+    {
+        self.space.refusal(unit, count, perm).is_some()
+    }
+
+    /// Whether so many legs of so many log bytes find space.
+    pub fn has_room(&self, unit: u32, count: u32) -> bool
+        ensures { result ≡ not (nat_lt self.now.log_bytes (used_in self.now + unit * count)) }
+    {
+        let left = u64::from(self.space.size()) - self.space.used();
+        u64::from(unit) * u64::from(count) <= left
+    }
+
+    /// Whether the last leg of a transaction finds no space for one new unit, once its leg was committed.
+    pub fn finds_no_room(&self, opened: &OpenTrans) -> bool
+        requires rising { IsRising opened.now.leg.changes }
+        requires list { IsRising self.now.items.cil }
+        requires granted { opened.now.unit * opened.now.legs ≤ granted self.now.transactions }
+        requires paid { cost (with_marks opened.now.leg.changes self.now.items.cil) ≤ cost self.now.items.cil + charge opened.now.leg.changes }
+        ensures { result ≡ is_no_room (grant_of opened.now) (cost (with_marks opened.now.leg.changes self.now.items.cil)) (ledger self.now.log_bytes self.now.transactions self.now.items) }
+    {
+        let cost = opened.leg().cost_with(self.items.list());
+        self.space.is_no_room(opened.ticket(), cost)
+    }
+
+    // ---- transactions
+    /// Opens a transaction of `count` legs of `unit` log bytes under a number above those that are open. The one error is want
+    /// of memory, and then nothing changes.
+    pub fn begin(
+        &mut self,
+        alloc: Global,
+        trans: u64,
+        unit: u32,
+        count: u32,
+        perm: bool,
+    ) -> Result<(), AllocError>
+        requires valid { is_invalid unit count perm self.old.log_bytes ≡ false }
+        requires space { nat_lt self.old.log_bytes (used_in self.old + unit * count) ≡ false }
+        requires rising { IsRising self.old.transactions }
+        requires free { is_in trans self.old.transactions ≡ false }
+        requires few { length self.old.transactions < 128 }
+        ensures ok { OnOk result (self.new ≡ opened_in trans (new_trans unit count perm) self.old) }
+        ensures err { OnErr result (self.new ≡ self.old) }
+    {
+        let leg = TransRec::new(alloc)?;
+        match self.space.grant(unit, count, perm) {
+            Ok(ticket) => self.transactions.put_new(trans, OpenTrans::new(ticket, leg)),
+            Err(_) => unreachable!(),
+        }
+        Ok(())
+    }
+
+    /// The leg of a transaction has these bytes of a block, and these chunks are marked and charged. It takes no memory.
+    pub fn log(&mut self, trans: u64, block: u64, edit: Content, marked: Chunks)
+        requires rising { IsRising self.old.transactions }
+        requires few { IfSome (at trans self.old.transactions) (λ t. is_in block t.leg.changes ≡ false → length t.leg.changes + length t.leg.holds < 128) }
+        requires fits { IfSome (at trans self.old.transactions) (λ t. charge (edited block [] marked t.leg).changes ≤ t.unit) }
+        ensures { IfSome (at trans self.old.transactions) (λ t. self.new ≡ releg trans t (edited block edit marked t.leg) self.old) }
+    {
+        let Some(mut opened) = self.transactions.remove(trans) else {
+            return;
+        };
+        opened.log(block, edit, marked);
+        self.transactions.put_new(trans, opened);
+    }
+
+    /// The leg of a transaction invalidates a block. It takes no memory.
+    pub fn inval(&mut self, trans: u64, block: u64)
+        requires rising { IsRising self.old.transactions }
+        requires few { IfSome (at trans self.old.transactions) (λ t. is_in block t.leg.changes ≡ false → length t.leg.changes + length t.leg.holds < 128) }
+        requires fits { IfSome (at trans self.old.transactions) (λ t. charge (invalidated block t.leg).changes ≤ t.unit) }
+        ensures { IfSome (at trans self.old.transactions) (λ t. self.new ≡ releg trans t (invalidated block t.leg) self.old) }
+    {
+        let Some(mut opened) = self.transactions.remove(trans) else {
+            return;
+        };
+        opened.inval(block);
+        self.transactions.put_new(trans, opened);
+    }
+
+    /// A block has the hold mark in the leg of a transaction. It takes no memory.
+    pub fn hold(&mut self, trans: u64, block: u64)
+        requires rising { IsRising self.old.transactions }
+        requires few { IfSome (at trans self.old.transactions) (λ t. has t.leg.holds block ≡ false → length t.leg.changes + length t.leg.holds < 128) }
+        ensures { IfSome (at trans self.old.transactions) (λ t. self.new ≡ releg trans t (record t.leg { holds = with_member block t.leg.holds }) self.old) }
+    {
+        let Some(mut opened) = self.transactions.remove(trans) else {
+            return;
+        };
+        opened.hold(block);
+        self.transactions.put_new(trans, opened);
+    }
+
+    /// A block has no hold mark in the leg of a transaction. It takes no memory.
+    pub fn unhold(&mut self, trans: u64, block: u64)
+        requires { IsRising self.old.transactions }
+        ensures { IfSome (at trans self.old.transactions) (λ t. self.new ≡ releg trans t (without_hold block t.leg) self.old) }
+    {
+        let Some(mut opened) = self.transactions.remove(trans) else {
+            return;
+        };
+        opened.unhold(block);
+        self.transactions.put_new(trans, opened);
+    }
+
+    // ---- ends of legs
+    /// A transaction ends, and its leg is committed: its edits are the committed contents, and its marks are joined to the
+    /// commit list. It takes no memory.
+    pub fn commit(&mut self, trans: u64, frames: &mut Frames)
+        requires contents { IfSome (at trans self.old.transactions) (λ t. length frames.old.committed + length t.leg.changes ≤ 128) }
+        requires list { IfSome (at trans self.old.transactions) (λ t. length self.old.items.cil + length t.leg.changes ≤ 128) }
+        requires paid { IfSome (at trans self.old.transactions) (λ t. cost (with_marks t.leg.changes self.old.items.cil) ≤ cost self.old.items.cil + t.unit * t.legs) }
+        ensures pages { IfSome (at trans self.old.transactions) (λ t. self.new ≡ closed_in trans (marked_in t self.old)) }
+        ensures frames { IfSome (at trans self.old.transactions) (λ t. frames.new ≡ edits_kept t.leg.changes frames.old) }
+    {
+        let Some(opened) = self.transactions.remove(trans) else {
+            return;
+        };
+        let (ticket, mut leg) = opened.into_parts();
+        keep_changes(frames, &mut self.items, &mut leg);
+        self.space.commit(ticket, self.items.cil_cost());
+    }
+
+    /// A leg is committed, and the next one of its transaction begins. It takes no memory.
+    pub fn roll(&mut self, trans: u64, frames: &mut Frames)
+        requires rising { IsRising self.old.transactions }
+        requires contents { IfSome (at trans self.old.transactions) (λ t. length frames.old.committed + length t.leg.changes ≤ 128) }
+        requires list { IfSome (at trans self.old.transactions) (λ t. length self.old.items.cil + length t.leg.changes ≤ 128) }
+        requires legs { IfSome (at trans self.old.transactions) (λ t. 1 ≤ t.legs) }
+        requires paid { IfSome (at trans self.old.transactions) (λ t. cost (with_marks t.leg.changes self.old.items.cil) ≤ cost self.old.items.cil + charge t.leg.changes) }
+        requires room { IfSome (at trans self.old.transactions) (λ t. is_no_room (grant_of t) (cost (with_marks t.leg.changes self.old.items.cil)) (ledger self.old.log_bytes self.old.transactions self.old.items) ≡ false) }
+        ensures pages { IfSome (at trans self.old.transactions) (λ t. self.new ≡ legs_in trans (legs_after t.legs) t (marked_in t self.old)) }
+        ensures frames { IfSome (at trans self.old.transactions) (λ t. frames.new ≡ edits_kept t.leg.changes frames.old) }
+    {
+        let Some(opened) = self.transactions.remove(trans) else {
+            return;
+        };
+        let (mut ticket, mut leg) = opened.into_parts();
+        keep_changes(frames, &mut self.items, &mut leg);
+        leg.next_leg();
+        match self.space.next_leg(&mut ticket, self.items.cil_cost()) {
+            Ok(()) => {}
+            Err(_) => unreachable!(),
+        }
+        self.transactions.put_new(trans, OpenTrans::new(ticket, leg));
+    }
+
+    /// A transaction ends, and its leg is given up. It takes no memory.
+    pub fn cancel(&mut self, trans: u64, frames: &mut Frames)
+        requires { IfSome (at trans self.old.transactions) (λ t. length frames.old.fresh + length t.leg.changes ≤ 128) }
+        ensures pages { IfSome (at trans self.old.transactions) (λ t. self.new ≡ closed_in trans self.old) }
+        ensures frames { IfSome (at trans self.old.transactions) (λ t. frames.new ≡ leg_lost t.leg frames.old) }
+    {
+        let Some(opened) = self.transactions.remove(trans) else {
+            return;
+        };
+        let (ticket, mut leg) = opened.into_parts();
+        lose_leg(frames, &mut leg);
+        self.space.give_back(ticket);
+    }
+
+    /// A leg is given up, and its transaction stays with no leg left. It takes no memory.
+    pub fn give_up(&mut self, trans: u64, frames: &mut Frames)
+        requires rising { IsRising self.old.transactions }
+        requires fresh { IfSome (at trans self.old.transactions) (λ t. length frames.old.fresh + length t.leg.changes ≤ 128) }
+        ensures pages { IfSome (at trans self.old.transactions) (λ t. self.new ≡ legs_in trans 0 t self.old) }
+        ensures frames { IfSome (at trans self.old.transactions) (λ t. frames.new ≡ leg_lost t.leg frames.old) }
+    {
+        let Some(opened) = self.transactions.remove(trans) else {
+            return;
+        };
+        let (mut ticket, mut leg) = opened.into_parts();
+        lose_leg(frames, &mut leg);
+        leg.next_leg();
+        self.space.give_up(&mut ticket);
+        self.transactions.put_new(trans, OpenTrans::new(ticket, leg));
+    }
+
+    // ---- checkpoints
+    /// The committed items become the flight, with these pieces, and the next number opens. The one error is want of memory,
+    /// and then nothing changes. Room for the landing is made here.
+    pub fn fly(&mut self, alloc: Global, pieces: Vec<Bytes>) -> Result<(), AllocError>
+        requires none { is_none self.old.items.flight ≡ true }
+        requires number { self.old.items.open_number < 18446744073709551615 }
+        ensures ok { OnOk result (self.new ≡ flown_in pieces.items self.old) }
+        ensures err { OnErr result (self.new ≡ self.old) }
+    {
+        let next = NumberMap::new(alloc)?;
+        self.space.fly()?;
+        self.items.fly(next, pieces);
+        Ok(())
+    }
+
+    /// The flight has landed. It takes no memory.
+    pub fn land(&mut self)
+        requires below { IfSome self.old.items.flight (λ f. AllBelow f.number self.old.items.landed) }
+        requires room { length self.old.items.ail + length (flight_items self.old.items.flight) ≤ 128 }
+        ensures { IfSome self.old.items.flight (λ f. self.new ≡ landed_in f self.old) }
+    {
+        if let Some(number) = self.items.flight_number() {
+            self.items.land();
+            self.space.land(number, self.items.least());
+        }
+    }
+
+    /// The flight is given up. It takes no memory.
+    pub fn fail(&mut self)
+        ensures { self.new ≡ record self.old { items = record self.old.items { flight = None } } }
+    {
+        self.items.fail();
+        self.space.fail();
+    }
+}

@@ -1,0 +1,59 @@
+//! Committing a leg and going on with the next one.
+
+ghost use Rattle.std.specs.Prelude.{◌≡◌, [], IfOk, IfSome, OnErr};
+ghost use Rattle.xt_base.specs.Calls.{gives, held_of, io_of as io_reply, roll as roll_step, with_legs, with_trans};
+ghost use Rattle.xt_base.specs.Legs.{aborted};
+ghost use Rattle.xt_base.specs.Maps.{at};
+ghost use Rattle.xt_base.specs.Settle.{settled};
+ghost use Rattle.xt_base.specs.Sound.{IsSound};
+ghost use Rattle.xt_mount.specs.Machines.{state_of};
+
+use crate::commit::io_of;
+use crate::machine::Machine;
+use std::alloc::AllocError;
+use xt_base::steps::{Errno, Reply};
+
+impl Machine {
+    /// Commits a leg and goes on; the last leg asks one new unit. On a shut mount the leg is given up, which is EIO. EAGAIN
+    /// where no space is left, and then a checkpoint and a flush are asked, and nothing is committed. The one error is want
+    /// of memory to name the held blocks, and then nothing changes.
+    pub fn roll(&mut self, trans: u64) -> Result<Reply, AllocError>
+        requires { IsSound (state_of self.old) }
+        ensures ok { IfOk result (λ reply. gives reply (state_of self.new) ≡ with_trans (at trans self.old.journal.transactions) (state_of self.old) (roll_step [] trans (state_of self.old))) }
+        ensures err { OnErr result (state_of self.new ≡ state_of self.old) }
+    {
+        let Some(opened) = self.journal.get(trans) else {
+            return Ok(Reply::Refused(Errno::Invalid));
+        };
+        if !opened.perm() {
+            return Ok(Reply::Refused(Errno::Invalid));
+        }
+        if self.is_shut() {
+            return self.roll_shut(trans);
+        }
+        if self.journal.finds_no_room(opened) {
+            self.ask_space();
+            return Ok(Reply::Refused(Errno::Again));
+        }
+        let held = opened.leg().held(self.alloc)?;
+        let number = self.commit_number(opened.leg().is_dirty());
+        self.next_leg(trans);
+        self.settle();
+        Ok(Reply::Committed { number, held })
+    }
+
+    /// The same on a shut mount: the leg is given up.
+    fn roll_shut(&mut self, trans: u64) -> Result<Reply, AllocError>
+        requires { IsSound (state_of self.old) }
+        ensures ok { IfOk result (λ reply. IfSome (at trans self.old.journal.transactions) (λ t. gives reply (state_of self.new) ≡ gives (io_reply (held_of t.leg.holds)) (settled [] (with_legs trans 0 t (aborted trans t.leg (state_of self.old)))))) }
+        ensures err { OnErr result (state_of self.new ≡ state_of self.old) }
+    {
+        let Some(opened) = self.journal.get(trans) else {
+            return Ok(Reply::Refused(Errno::Invalid));
+        };
+        let held = opened.leg().held(self.alloc)?;
+        self.give_up_leg(trans);
+        self.settle();
+        Ok(io_of(held))
+    }
+}
