@@ -1,0 +1,4 @@
+//! The item lists of a mount: the commit list, the checkpoint in flight, the active list, and what a flush writes of it.
+#![tactic(auto)]
+
+pub mod items;
