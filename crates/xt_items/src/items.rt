@@ -1,18 +1,22 @@
 //! The item lists: the commit list, the checkpoint in flight, and the active list.
 
-ghost use Rattle.std.specs.Prelude.{◌≡◌, ◌+◌, ◌<◌, ◌≤◌, ◌==◌, [], length, Some, None, true, is_some, is_none, unwrap_or, if◌then◌else◌, IfOk, IfSome, OnOk, OnErr, option_map};
+ghost use Rattle.std.specs.Prelude.{ℕ, ◌≡◌, ◌+◌, ◌<◌, ◌≤◌, ◌==◌, [], Bool, length, filter, Some, None, true, is_some, is_none, not, unwrap_or, if◌then◌else◌, IfOk, IfSome, OnOk, OnErr};
 ghost use Rattle.xt_base.specs.Chunks.{union};
-ghost use Rattle.xt_base.specs.Maps.{at, is_in, put, without};
+ghost use Rattle.xt_base.specs.Maps.{at, has, is_in, put, without};
 ghost use Rattle.xt_base.specs.Space.{cost, flight_items, is_listed, least_number, lesser};
-ghost use Rattle.xt_base.specs.Jobs.{activated, flight_pieces};
+ghost use Rattle.xt_base.specs.Jobs.{activated, fits_plan, flight_pieces, gone};
 ghost use Rattle.xt_items.specs.Lists.{no_items, flight_number, with_landed};
+ghost use Rattle.xt_items.specs.Plans.{is_unpinned, planned};
 
+use crate::clean::remove_written;
+use crate::plan::{Earliest, FlushPlan};
 use bytes::Bytes;
 use std::alloc::{AllocError, Global};
 use std::marker::Model;
 use std::mem;
 use xt_base::chunks::Chunks;
 use xt_base::map::NumberMap;
+use xt_base::steps::HomeAnswers;
 
 /// A checkpoint that is being written: its number, its items, and the pieces of its text.
 #[derive(Debug, Drop)]
@@ -240,6 +244,50 @@ impl Items {
         ensures { self.new ≡ record self.old { flight = None } }
     {
         self.flight = None;
+    }
+
+    /// Whether a block is neither committed nor in flight, and nobody owns it.
+    fn is_unpinned<F: Fn(u64) -> bool>(&self, block: u64, is_owned: &F) -> bool
+        requires { F.IsAlwaysCallable is_owned.now }
+        ensures { (f : ℕ → Bool) → ((b : ℕ) → (o : Bool) → F.post is_owned.now b o → o ≡ f b) → result ≡ is_unpinned f self.now block }
+    {
+        !self.is_committed(block) && !self.is_in_flight(block) && !is_owned(block)
+    }
+
+    /// The blocks that a flush writes home (`xfsaild_push`): the first 8 of the active list, in the order of (number, block),
+    /// that are neither committed nor in flight and that nobody owns, as `is_owned` says of a block. It takes no memory.
+    pub fn flush_plan<F: Fn(u64) -> bool>(&self, is_owned: &F) -> FlushPlan
+        requires { F.IsAlwaysCallable is_owned.now }
+        ensures { (f : ℕ → Bool) → ((b : ℕ) → (o : Bool) → F.post is_owned.now b o → o ≡ f b) → result ≡ planned f self.now }
+    {
+        let entries = self.ail.entries();
+        let mut earliest = Earliest::none();
+        let mut index = entries.len();
+        while index > 0 {
+            index -= 1;
+            let entry = entries[index];
+            if self.is_unpinned(entry.0, is_owned) {
+                earliest.add(entry);
+            }
+        }
+        earliest.plan()
+    }
+
+    /// A flush of this plan was answered so: where the sync was Ok, the blocks whose write was Ok leave the active list.
+    /// How many they are. It takes no memory.
+    pub fn flush_done(&mut self, plan: &FlushPlan, answers: &HomeAnswers) -> u32
+        requires { fits_plan answers.now plan.now ≡ true }
+        ensures count { result ≡ length (gone plan.now answers.now) }
+        ensures lists { self.new ≡ record self.old { ail = filter (λ e. not (has (gone plan.now answers.now) e.0)) self.old.ail } }
+    {
+        if !answers.sync {
+            return 0;
+        }
+        remove_written(
+            &mut self.ail,
+            plan.blocks(),
+            &answers.writes[..answers.count as usize],
+        )
     }
 }
 
