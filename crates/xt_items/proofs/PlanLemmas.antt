@@ -3,7 +3,8 @@ use Rattle.std.proofs.Common.{◌≡◌, ◌∙◌, ◌+◌, ◌<◌, ◌≤◌,
 use Rattle.std.proofs.Math.ListN.{set}
 use Rattle.std.proofs.Math.Seq.{drop-cons}
 use Rattle.std.proofs.lemmas.List.{length-take-le, take_all}
-use Rattle.std.specs.Prelude.{filter, if◌then◌else◌, nat_le}
+use Rattle.std.proofs.lemmas.Bool.Decides.{nat_tests}
+use Rattle.std.specs.Prelude.{filter, if◌then◌else◌, map, nat_le, nat_lt, not, ◌==◌}
 use Rattle.xt_base.proofs.RisingLemmas.{filter_drop, filter_pass}
 use Rattle.xt_base.specs.Jobs.{by_number, placed}
 use Rattle.xt_items.specs.Plans.{inserted, rank}
@@ -95,3 +96,25 @@ passed_by room n m p xs old d same lt fails before =
     let rest : List (ℕ × ℕ) = drop (suc m) xs in
     before ∙ ap (λ k. take room (by_number (filter p (drop k xs)))) (sym same)
     ∙ ap (λ ys. take room (by_number ys)) (sym (filter_drop p (get_or xs m d) rest fails) ∙ ap (filter p) (sym (drop-cons xs m d lt)))
+
+-- ---- whether there is a block to write
+length_placed_by : (b : Bool) (e x : ℕ × ℕ) (xs : List (ℕ × ℕ)) → length (placed e xs) ≡ suc (length xs) → length (if b then e ∷ x ∷ xs else x ∷ placed e xs) ≡ suc (suc (length xs))
+length_placed_by true e x xs h = refl
+length_placed_by false e x xs h = ap suc h
+
+length_placed : (e : ℕ × ℕ) (xs : List (ℕ × ℕ)) → length (placed e xs) ≡ suc (length xs)
+length_placed e [] = refl
+length_placed e (x ∷ xs) = length_placed_by (nat_le e.1 x.1) e x xs (length_placed e xs)
+
+length_by_number : (xs : List (ℕ × ℕ)) → length (by_number xs) ≡ length xs
+length_by_number [] = refl
+length_by_number (x ∷ xs) = length_placed x (by_number xs) ∙ ap suc (length_by_number xs)
+
+-- the first of some are none only where there are none
+first_none : (room : ℕ) (xs : List (ℕ × ℕ)) → nat_lt 0 (length (map (λ e. e.0) (take (suc room) xs))) ≡ not (length xs == 0)
+first_none room [] = refl
+first_none room (x ∷ xs) = grind (arith, nat_tests)
+
+-- a plan has a block where one is due
+pub has_plan : (xs : List (ℕ × ℕ)) → nat_lt 0 (length (map (λ e. e.0) (take 8 (by_number xs)))) ≡ not (length xs == 0)
+has_plan xs = first_none 7 (by_number xs) ∙ ap (λ n. not (n == 0)) (length_by_number xs)

@@ -6,7 +6,7 @@ ghost use Rattle.xt_base.specs.Maps.{at, has, is_in, put, without};
 ghost use Rattle.xt_base.specs.Space.{cost, flight_items, is_listed, least_number, lesser};
 ghost use Rattle.xt_base.specs.Jobs.{activated, fits_plan, flight_pieces, gone};
 ghost use Rattle.xt_items.specs.Lists.{no_items, flight_number, with_landed};
-ghost use Rattle.xt_items.specs.Plans.{is_unpinned, planned};
+ghost use Rattle.xt_items.specs.Plans.{due, is_unpinned, planned};
 
 use crate::clean::remove_written;
 use crate::plan::{Earliest, FlushPlan};
@@ -271,6 +271,15 @@ impl Items {
             }
         }
         earliest.plan()
+    }
+
+    /// Whether some block of the active list is neither committed nor in flight and nobody owns it, as `is_owned` says of a block:
+    /// whether a flush has something to write.
+    pub fn has_due<F: Fn(u64) -> bool>(&self, is_owned: &F) -> bool
+        requires { F.IsAlwaysCallable is_owned.now }
+        ensures { (f : ℕ → Bool) → ((b : ℕ) → (o : Bool) → F.post is_owned.now b o → o ≡ f b) → result ≡ not (length (due f self.now) == 0) }
+    {
+        self.flush_plan(is_owned).count() > 0
     }
 
     /// A flush of this plan was answered so: where the sync was Ok, the blocks whose write was Ok leave the active list.

@@ -4,3 +4,5 @@
 mod clean;
 pub mod items;
 pub mod plan;
+#[cfg(test)]
+mod tests;

@@ -30,7 +30,7 @@ impl Model for FlushPlan {
 
 impl FlushPlan {
     /// A plan of no block.
-    fn none() -> Self
+    pub fn none() -> Self
         ensures { result ≡ [] }
     {
         FlushPlan {
