@@ -1,0 +1,29 @@
+-- Which blocks a flush writes home.
+use Rattle.std.specs.Prelude.{Bool, List, [], ◌∷◌, filter, if◌then◌else◌, map, nat_le, not, suc, take, zero, ℕ, ◌&&◌}
+use Rattle.xt_base.specs.Jobs.{by_number}
+use Rattle.xt_base.specs.Maps.{is_in}
+use Rattle.xt_base.specs.Space.{flight_items}
+use Rattle.xt_items.specs.Lists.{Lists}
+
+-- a block that is neither committed nor in flight, and that nobody owns
+abbrev pub is_unpinned : (ℕ → Bool) → Lists → ℕ → Bool
+is_unpinned is_owned l b = not (is_in b l.cil) && not (is_in b (flight_items l.flight)) && not (is_owned b)
+
+-- the entries of the active list that may be written home
+abbrev pub due : (ℕ → Bool) → Lists → List (ℕ × ℕ)
+due is_owned l = filter (λ e. is_unpinned is_owned l e.0) l.ail
+
+-- the blocks that a flush writes: the first 8 of them in the order of (number, block)
+abbrev pub planned : (ℕ → Bool) → Lists → List ℕ
+planned is_owned l = map (λ e. e.0) (take 8 (by_number (due is_owned l)))
+
+-- how many entries stand before the first whose number is no lower
+abbrev pub rank : ℕ → List (ℕ × ℕ) → ℕ
+rank number [] = 0
+rank number (x ∷ xs) = if nat_le number x.1 then 0 else suc (rank number xs)
+
+-- the list with an entry behind so many others
+abbrev pub inserted : ℕ → ℕ × ℕ → List (ℕ × ℕ) → List (ℕ × ℕ)
+inserted zero e xs = e ∷ xs
+inserted (suc n) e [] = e ∷ []
+inserted (suc n) e (x ∷ xs) = x ∷ inserted n e xs

@@ -1,0 +1,363 @@
+//! The item lists: the commit list, the checkpoint in flight, and the active list.
+
+ghost use Rattle.std.specs.Prelude.{ℕ, ◌≡◌, ◌+◌, ◌<◌, ◌≤◌, ◌==◌, [], Bool, length, filter, Some, None, true, is_some, is_none, not, unwrap_or, if◌then◌else◌, IfOk, IfSome, OnOk, OnErr};
+ghost use Rattle.xt_base.specs.Chunks.{union};
+ghost use Rattle.xt_base.specs.Maps.{at, has, is_in, put, without};
+ghost use Rattle.xt_base.specs.Space.{cost, flight_items, is_listed, least_number, lesser};
+ghost use Rattle.xt_base.specs.Jobs.{activated, fits_plan, flight_pieces, gone};
+ghost use Rattle.xt_items.specs.Lists.{no_items, flight_number, with_landed};
+ghost use Rattle.xt_items.specs.Plans.{due, is_unpinned, planned};
+
+use crate::clean::remove_written;
+use crate::plan::{Earliest, FlushPlan};
+use bytes::Bytes;
+use std::alloc::{AllocError, Global};
+use std::marker::Model;
+use std::mem;
+use xt_base::chunks::Chunks;
+use xt_base::map::NumberMap;
+use xt_base::steps::HomeAnswers;
+
+/// A checkpoint that is being written: its number, its items, and the pieces of its text.
+#[derive(Debug, Drop)]
+pub struct Flight {
+    number: u64,
+    items: NumberMap<Chunks>,
+    pieces: Vec<Bytes>,
+}
+
+impl Model for Flight {
+    ghost use Rattle.xt_base.specs.State.{Flight as FlightValue};
+
+    ghost Value = { FlightValue };
+
+    ghost view = { λ f. record { number = f.number; items = f.items; pieces = f.pieces.items } };
+}
+
+/// The item lists of a mount: the commit list (`xfs_cil`: committed blocks with their marked chunks), the checkpoint in flight
+/// (`xfs_cil_ctx`), and the active list (`xfs_ail`: landed blocks that are not home yet, with the number of their checkpoint).
+/// A block with no chunks is cancelled. Each list has room for 128 blocks. Only `new` and `fly` take memory.
+#[derive(Debug, Drop)]
+pub struct Items {
+    open_number: u64,
+    cil: NumberMap<Chunks>,
+    flight: Option<Flight>,
+    ail: NumberMap<u64>,
+}
+
+impl Model for Items {
+    ghost use Rattle.xt_items.specs.Lists.{Lists};
+
+    ghost Value = { Lists };
+
+    ghost view = { λ l. record { open_number = l.open_number; cil = l.cil; flight = l.flight; ail = l.ail } };
+}
+
+impl Items {
+    /// Empty lists; the open checkpoint has number 1. The one error is want of memory.
+    pub fn new(alloc: Global) -> Result<Self, AllocError>
+        ensures { IfOk result (λ items. items ≡ no_items) }
+    {
+        let cil = NumberMap::new(alloc)?;
+        let ail = NumberMap::new(alloc)?;
+        Ok(Items {
+            open_number: 1,
+            cil,
+            flight: None,
+            ail,
+        })
+    }
+
+    /// The number of the open checkpoint, which the commit list gets when it flies; counted from 1.
+    pub fn open_number(&self) -> u64
+        ensures { result ≡ self.now.open_number }
+    {
+        self.open_number
+    }
+
+    /// The committed items, by rising block.
+    pub fn cil(&self) -> &[(u64, Chunks)]
+        ensures value { result.now ≡ self.now.cil }
+        ensures small { length result.now ≤ 128 }
+    {
+        self.cil.entries()
+    }
+
+    /// What the commit list has of a block: its marked chunks, none of a cancelled block; None where it is not there.
+    pub fn marks(&self, block: u64) -> Option<Chunks>
+        ensures { result ≡ at block self.now.cil }
+    {
+        self.cil.get(block).copied()
+    }
+
+    /// Whether a block is in flight.
+    pub fn is_in_flight(&self, block: u64) -> bool
+        ensures { result ≡ is_in block (flight_items self.now.flight) }
+    {
+        match &self.flight {
+            Some(flight) => flight.items.contains(block),
+            None => false,
+        }
+    }
+
+    /// Whether a block is on the commit list.
+    pub fn is_committed(&self, block: u64) -> bool
+        ensures { result ≡ is_in block self.now.cil }
+    {
+        self.cil.contains(block)
+    }
+
+    /// Whether a block is on a list.
+    pub fn is_listed(&self, block: u64) -> bool
+        ensures { result ≡ is_listed (with_landed [] self.now) block }
+    {
+        self.is_committed(block) || self.is_in_flight(block) || self.ail.contains(block)
+    }
+
+    /// Whether a checkpoint is in flight.
+    pub fn is_flying(&self) -> bool
+        ensures { result ≡ is_some self.now.flight }
+    {
+        self.flight.is_some()
+    }
+
+    /// The number of the checkpoint in flight.
+    pub fn flight_number(&self) -> Option<u64>
+        ensures { result ≡ flight_number self.now.flight }
+    {
+        match &self.flight {
+            Some(flight) => Some(flight.number),
+            None => None,
+        }
+    }
+
+    /// The active list: each block with the number of its checkpoint, by rising block.
+    pub fn ail(&self) -> &[(u64, u64)]
+        ensures value { result.now ≡ self.now.ail }
+        ensures small { length result.now ≤ 128 }
+    {
+        self.ail.entries()
+    }
+
+    /// The least number of the active list, from whose checkpoint on the log is still needed (`xfs_ail_min_lsn`);
+    /// None where the list is empty.
+    pub fn least(&self) -> Option<u64>
+        ensures { result ≡ least_number self.now.ail }
+    {
+        least_of(self.ail.entries())
+    }
+
+    /// The items in flight, by rising block.
+    pub fn flight_items(&self) -> Option<&[(u64, Chunks)]>
+        ensures some { IfSome result (λ items. (items.now ≡ flight_items self.now.flight) × (length items.now ≤ 128)) }
+        ensures none { is_some result ≡ is_some self.now.flight }
+    {
+        match &self.flight {
+            Some(flight) => Some(flight.items.entries()),
+            None => None,
+        }
+    }
+
+    /// The pieces of the flight's text; none where nothing is in flight.
+    pub fn pieces(&self) -> &[Bytes]
+        ensures { result.now ≡ flight_pieces self.now.flight }
+    {
+        match &self.flight {
+            Some(flight) => &flight.pieces,
+            None => &[],
+        }
+    }
+
+    /// Marks of a commit are joined to those of the block's item. It takes no memory.
+    pub fn mark(&mut self, block: u64, marks: Chunks)
+        requires { length self.old.cil < 128 }
+        ensures { self.new ≡ record self.old { cil = put block (union (unwrap_or (at block self.old.cil) []) marks) self.old.cil } }
+    {
+        let before = self.marks(block).unwrap_or(Chunks::none());
+        self.cil.put(block, before.union(marks));
+    }
+
+    /// The block's item cancels it: it has no chunks. It takes no memory.
+    pub fn cancel(&mut self, block: u64)
+        requires { length self.old.cil < 128 }
+        ensures { self.new ≡ record self.old { cil = put block [] self.old.cil } }
+    {
+        self.cil.put(block, Chunks::none());
+    }
+
+    /// The cost of the commit list in bytes: the length of its checkpoint text, 0 where it is empty.
+    pub fn cil_cost(&self) -> u64
+        ensures value { result ≡ cost self.now.cil }
+        ensures range { result ≤ 526368 }
+    {
+        cost_of(self.cil.entries())
+    }
+
+    /// The cost of the flight in bytes; 0 where nothing is in flight.
+    pub fn flight_cost(&self) -> u64
+        ensures value { result ≡ cost (flight_items self.now.flight) }
+        ensures range { result ≤ 526368 }
+    {
+        match &self.flight {
+            Some(flight) => cost_of(flight.items.entries()),
+            None => 0,
+        }
+    }
+
+    /// The committed items become the flight, with these pieces, and the next number opens.
+    /// The one error is want of memory, and then nothing changes.
+    pub fn fly(&mut self, alloc: Global, pieces: Vec<Bytes>) -> Result<(), AllocError>
+        requires none { is_none self.old.flight ≡ true }
+        requires number { self.old.open_number < 18446744073709551615 }
+        ensures ok { OnOk result (self.new ≡ record self.old {
+          open_number = self.old.open_number + 1;
+          cil = [];
+          flight = Some (record { number = self.old.open_number; items = self.old.cil; pieces = pieces.items });
+        }) }
+        ensures err { OnErr result (self.new ≡ self.old) }
+    {
+        let cil = NumberMap::new(alloc)?;
+        let items = mem::replace(&mut self.cil, cil);
+        self.flight = Some(Flight {
+            number: self.open_number,
+            items,
+            pieces,
+        });
+        self.open_number += 1;
+        Ok(())
+    }
+
+    /// The flight has landed: cancelled blocks leave the active list, and each other block goes there with the flight's
+    /// number unless it is there. It takes no memory.
+    pub fn land(&mut self)
+        requires flying { is_some self.old.flight ≡ true }
+        requires room { length self.old.ail + length (flight_items self.old.flight) ≤ 128 }
+        ensures { IfSome self.old.flight (λ f. self.new ≡ record self.old { flight = None; ail = activated f.number f.items self.old.ail }) }
+    {
+        if let Some(flight) = self.flight.take() {
+            activate(&mut self.ail, flight.number, flight.items.entries());
+        }
+    }
+
+    /// The flight is given up.
+    pub fn fail(&mut self)
+        ensures { self.new ≡ record self.old { flight = None } }
+    {
+        self.flight = None;
+    }
+
+    /// Whether a block is neither committed nor in flight, and nobody owns it.
+    fn is_unpinned<F: Fn(u64) -> bool>(&self, block: u64, is_owned: &F) -> bool
+        requires { F.IsAlwaysCallable is_owned.now }
+        ensures { (f : ℕ → Bool) → ((b : ℕ) → (o : Bool) → F.post is_owned.now b o → o ≡ f b) → result ≡ is_unpinned f self.now block }
+    {
+        !self.is_committed(block) && !self.is_in_flight(block) && !is_owned(block)
+    }
+
+    /// The blocks that a flush writes home (`xfsaild_push`): the first 8 of the active list, in the order of (number, block),
+    /// that are neither committed nor in flight and that nobody owns, as `is_owned` says of a block. It takes no memory.
+    pub fn flush_plan<F: Fn(u64) -> bool>(&self, is_owned: &F) -> FlushPlan
+        requires { F.IsAlwaysCallable is_owned.now }
+        ensures { (f : ℕ → Bool) → ((b : ℕ) → (o : Bool) → F.post is_owned.now b o → o ≡ f b) → result ≡ planned f self.now }
+    {
+        let entries = self.ail.entries();
+        let mut earliest = Earliest::none();
+        let mut index = entries.len();
+        while index > 0 {
+            index -= 1;
+            let entry = entries[index];
+            if self.is_unpinned(entry.0, is_owned) {
+                earliest.add(entry);
+            }
+        }
+        earliest.plan()
+    }
+
+    /// Whether some block of the active list is neither committed nor in flight and nobody owns it, as `is_owned` says of a block:
+    /// whether a flush has something to write.
+    pub fn has_due<F: Fn(u64) -> bool>(&self, is_owned: &F) -> bool
+        requires { F.IsAlwaysCallable is_owned.now }
+        ensures { (f : ℕ → Bool) → ((b : ℕ) → (o : Bool) → F.post is_owned.now b o → o ≡ f b) → result ≡ not (length (due f self.now) == 0) }
+    {
+        self.flush_plan(is_owned).count() > 0
+    }
+
+    /// A flush of this plan was answered so: where the sync was Ok, the blocks whose write was Ok leave the active list.
+    /// How many they are. It takes no memory.
+    pub fn flush_done(&mut self, plan: &FlushPlan, answers: &HomeAnswers) -> u32
+        requires { fits_plan answers.now plan.now ≡ true }
+        ensures count { result ≡ length (gone plan.now answers.now) }
+        ensures lists { self.new ≡ record self.old { ail = filter (λ e. not (has (gone plan.now answers.now) e.0)) self.old.ail } }
+    {
+        if !answers.sync {
+            return 0;
+        }
+        remove_written(
+            &mut self.ail,
+            plan.blocks(),
+            &answers.writes[..answers.count as usize],
+        )
+    }
+}
+
+/// The cost of a list of items: 0 where it is empty, else 32, and 16 and 128 for each chunk of each item.
+fn cost_of(items: &[(u64, Chunks)]) -> u64
+    requires { length items.now ≤ 128 }
+    ensures value { result ≡ cost items.now }
+    ensures range { result ≤ 526368 }
+{
+    if items.is_empty() {
+        return 0;
+    }
+    let mut sum = 32;
+    for e in items {
+        sum += 16 + 128 * e.1.count() as u64;
+    }
+    sum
+}
+
+/// The least number among entries.
+fn least_of(entries: &[(u64, u64)]) -> Option<u64>
+    ensures { result ≡ least_number entries.now }
+{
+    let mut least = None;
+    let mut index = entries.len();
+    while index > 0 {
+        index -= 1;
+        least = Some(lesser(entries[index].1, least));
+    }
+    least
+}
+
+/// A number, or one that is less.
+fn lesser(number: u64, other: Option<u64>) -> u64
+    ensures { result ≡ lesser number other }
+{
+    match other {
+        Some(least) if least < number => least,
+        _ => number,
+    }
+}
+
+/// Cancelled blocks leave the active list, and each other block goes there unless it is there.
+fn activate(ail: &mut NumberMap<u64>, number: u64, items: &[(u64, Chunks)])
+    requires { length ail.old + length items.now ≤ 128 }
+    ensures { ail.new ≡ activated number items.now ail.old }
+{
+    for e in items {
+        activate_one(ail, number, e.0, e.1);
+    }
+}
+
+/// The same for one item.
+fn activate_one(ail: &mut NumberMap<u64>, number: u64, block: u64, chunks: Chunks)
+    requires { length ail.old < 128 }
+    ensures list { ail.new ≡ (if length chunks == 0 then without block ail.old else (if is_in block ail.old then ail.old else put block number ail.old)) }
+    ensures count { length ail.new ≤ length ail.old + 1 }
+{
+    if chunks.is_empty() {
+        let _left = ail.remove(block);
+    } else if !ail.contains(block) {
+        ail.put(block, number);
+    }
+}

@@ -1,0 +1,171 @@
+//! The plan of a flush: which blocks it writes home, and in which order.
+
+ghost use Rattle.std.specs.Prelude.{◌≡◌, ◌+◌, ◌<◌, ◌≤◌, ◌∷◌, ◌++◌, [], length, map, take};
+ghost use Rattle.xt_base.specs.Jobs.{all_ok, placed};
+ghost use Rattle.xt_items.specs.Plans.{inserted, rank};
+
+use std::marker::Model;
+use xt_base::names::Block;
+use xt_base::steps::HomeAnswers;
+
+/// How many blocks one flush writes at most.
+pub const PLAN: usize = 8;
+
+/// The blocks that a flush writes home, 0 to 8, in the order of their writes. Clauses see the list of them.
+#[derive(Debug, Drop)]
+pub struct FlushPlan {
+    count: u8,
+    blocks: [Block; 8],
+}
+
+impl Model for FlushPlan {
+    ghost use Rattle.std.specs.Prelude.{List, ℕ, ◌≤◌, take};
+
+    ghost Value = { List ℕ };
+
+    ghost view = { λ p. take p.count p.blocks };
+
+    ghost invariant = { λ p. p.count ≤ 8 };
+}
+
+impl FlushPlan {
+    /// A plan of no block.
+    pub fn none() -> Self
+        ensures { result ≡ [] }
+    {
+        FlushPlan {
+            count: 0,
+            blocks: [Block(0); 8],
+        }
+    }
+
+    /// How many blocks it writes.
+    pub fn count(&self) -> u8
+        ensures value { result ≡ length self.now }
+        ensures range { result ≤ 8 }
+    {
+        self.blocks().len() as u8
+    }
+
+    /// Its blocks, in the order of their writes.
+    pub fn blocks(&self) -> &[Block]
+        ensures value { result.now ≡ self.now }
+        ensures range { length result.now ≤ 8 }
+    {
+        &self.blocks[..self.count as usize]
+    }
+
+    /// One block more at its end.
+    fn push(&mut self, block: Block)
+        requires { length self.old < 8 }
+        ensures { self.new ≡ self.old ++ block ∷ [] }
+    {
+        self.blocks[self.count as usize] = block;
+        self.count += 1;
+    }
+}
+
+/// The first 8 of some entries of the active list in the order of (number, block). Clauses see the list of them.
+#[derive(Debug, Drop)]
+pub(crate) struct Earliest {
+    count: usize,
+    entries: [(u64, u64); 8],
+}
+
+impl Model for Earliest {
+    ghost use Rattle.std.specs.Prelude.{List, ℕ, ◌≡◌, ◌≤◌, length, take};
+
+    ghost Value = { List (ℕ × ℕ) };
+
+    ghost view = { λ f. take f.count f.entries };
+
+    ghost invariant = { λ f. (f.count ≤ 8) × (length f.entries ≡ 8) };
+}
+
+impl Earliest {
+    /// No entry.
+    pub(crate) fn none() -> Self
+        ensures { result ≡ [] }
+    {
+        Earliest {
+            count: 0,
+            entries: [(0, 0); 8],
+        }
+    }
+
+    /// Its entries in order.
+    fn entries(&self) -> &[(u64, u64)]
+        ensures value { result.now ≡ self.now }
+        ensures range { length result.now ≤ 8 }
+    {
+        &self.entries[..self.count]
+    }
+
+    /// With an entry of a lower block than each other's; the ninth goes.
+    pub(crate) fn add(&mut self, entry: (u64, u64))
+        ensures { self.new ≡ take 8 (placed entry self.old) }
+    {
+        let at = rank_of(self.entries(), entry.1);
+        self.insert(at, entry);
+    }
+
+    /// With an entry behind so many others; the ninth goes.
+    fn insert(&mut self, at: usize, entry: (u64, u64))
+        requires { at ≤ length self.old }
+        ensures { self.new ≡ take 8 (inserted at entry self.old) }
+    {
+        let mut carried = entry;
+        for place in at..self.count {
+            let next = self.entries[place];
+            self.entries[place] = carried;
+            carried = next;
+        }
+        if self.count < PLAN {
+            self.entries[self.count] = carried;
+            self.count += 1;
+        }
+    }
+
+    /// The plan of its blocks.
+    pub(crate) fn plan(&self) -> FlushPlan
+        ensures { result ≡ map (λ e. e.0) self.now }
+    {
+        let mut plan = FlushPlan::none();
+        for entry in self.entries() {
+            plan.push(block_of(*entry));
+        }
+        plan
+    }
+}
+
+/// The block of an entry of the active list.
+fn block_of(entry: (u64, u64)) -> Block
+    ensures { result ≡ entry.0 }
+{
+    Block(entry.0)
+}
+
+/// How many entries stand before the first whose number is no lower.
+fn rank_of(entries: &[(u64, u64)], number: u64) -> usize
+    ensures value { result ≡ rank number entries.now }
+    ensures range { result ≤ length entries.now }
+{
+    for (i, e) in entries.iter().enumerate() {
+        if number <= e.1 {
+            return i;
+        }
+    }
+    entries.len()
+}
+
+/// Whether each answer to a flush was Ok: those of its writes, and that of its sync.
+pub fn all_ok(answers: &HomeAnswers) -> bool
+    ensures { result ≡ all_ok answers.now }
+{
+    answers.sync
+        && answers
+            .writes
+            .iter()
+            .take(answers.count as usize)
+            .all(|ok| *ok)
+}
