@@ -1,6 +1,6 @@
 //! The item lists: the commit list, the checkpoint in flight, and the active list.
 
-ghost use Rattle.std.specs.Prelude.{ℕ, ◌≡◌, ◌+◌, ◌<◌, ◌≤◌, ◌==◌, [], Bool, length, filter, Some, None, true, is_some, is_none, not, unwrap_or, if◌then◌else◌, IfOk, IfSome, OnOk, OnErr};
+ghost use Rattle.std.specs.Prelude.{ℕ, ◌≡◌, ◌+◌, ◌<◌, ◌≤◌, ◌==◌, [], Bool, length, filter, Some, None, true, is_some, not, unwrap_or, if◌then◌else◌, IfOk, IfSome};
 ghost use Rattle.xt_base.specs.Chunks.{union};
 ghost use Rattle.xt_base.specs.Maps.{at, has, is_in, put, without};
 ghost use Rattle.xt_base.specs.Space.{cost, flight_items, is_listed, least_number, lesser};
@@ -36,7 +36,7 @@ impl Model for Flight {
 
 /// The item lists of a mount: the commit list (`xfs_cil`: committed blocks with their marked chunks), the checkpoint in flight
 /// (`xfs_cil_ctx`), and the active list (`xfs_ail`: landed blocks that are not home yet, with the number of their checkpoint).
-/// A block with no chunks is cancelled. Each list has room for 128 blocks. Only `new` and `fly` take memory.
+/// A block with no chunks is cancelled. Each list has room for 128 blocks. Only `new` takes memory.
 #[derive(Debug, Drop)]
 pub struct Items {
     open_number: u64,
@@ -88,6 +88,13 @@ impl Items {
         ensures { result ≡ at block self.now.cil }
     {
         self.cil.get(block).copied()
+    }
+
+    /// The commit list, by rising block.
+    pub fn list(&self) -> &NumberMap<Chunks>
+        ensures { result.now ≡ self.now.cil }
+    {
+        &self.cil
     }
 
     /// Whether a block is in flight.
@@ -204,27 +211,24 @@ impl Items {
         }
     }
 
-    /// The committed items become the flight, with these pieces, and the next number opens.
-    /// The one error is want of memory, and then nothing changes.
-    pub fn fly(&mut self, alloc: Global, pieces: Vec<Bytes>) -> Result<(), AllocError>
-        requires none { is_none self.old.flight ≡ true }
+    /// The committed items become the flight, with these pieces; `next`, an empty list, takes their place under the next number.
+    /// It takes no memory.
+    pub fn fly(&mut self, next: NumberMap<Chunks>, pieces: Vec<Bytes>)
+        requires next { next ≡ [] }
         requires number { self.old.open_number < 18446744073709551615 }
-        ensures ok { OnOk result (self.new ≡ record self.old {
+        ensures { self.new ≡ record self.old {
           open_number = self.old.open_number + 1;
           cil = [];
           flight = Some (record { number = self.old.open_number; items = self.old.cil; pieces = pieces.items });
-        }) }
-        ensures err { OnErr result (self.new ≡ self.old) }
+        } }
     {
-        let cil = NumberMap::new(alloc)?;
-        let items = mem::replace(&mut self.cil, cil);
+        let items = mem::replace(&mut self.cil, next);
         self.flight = Some(Flight {
             number: self.open_number,
             items,
             pieces,
         });
         self.open_number += 1;
-        Ok(())
     }
 
     /// The flight has landed: cancelled blocks leave the active list, and each other block goes there with the flight's

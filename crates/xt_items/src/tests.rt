@@ -29,7 +29,14 @@ fn begin(alloc: Global, items: &mut Items) -> bool {
     let Ok(pieces) = one_piece(alloc) else {
         return false;
     };
-    !items.is_flying() && items.open_number() < u64::MAX && items.fly(alloc, pieces).is_ok()
+    let Ok(next) = NumberMap::new(alloc) else {
+        return false;
+    };
+    if items.is_flying() || items.open_number() == u64::MAX {
+        return false;
+    }
+    items.fly(next, pieces);
+    true
 }
 
 /// A text of one piece.

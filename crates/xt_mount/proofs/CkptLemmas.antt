@@ -15,7 +15,7 @@ use Rattle.xt_base.specs.declared.steps.Owner.{Owner}
 use Rattle.xt_base.proofs.MapLemmas.{some_same}
 use Rattle.xt_ckpt.specs.Items.{BlocksRise, HasForm, item_bytes}
 use Rattle.xt_ckpt.specs.declared.item.Item.{Item}
-use Rattle.xt_mount.specs.Lists.{flight_number}
+use Rattle.xt_items.specs.Lists.{flight_number}
 use Rattle.xt_mount.specs.Journals.{Pages, landed_in}
 use Rattle.xt_mount.specs.Texts.{entry_block, entry_bytes}
 

@@ -2,18 +2,22 @@
 use Rattle.std.proofs.Common.{◌≡◌, ◌∙◌, ◌+◌, ◌*◌, ◌≤◌, ℕ, List, None, Ok, Option, Some, false, true, sym, ap, refl, subst, arith, IfSome}
 use Rattle.std.specs.Prelude.{is_some, sum_by}
 use Rattle.std.proofs.lemmas.Bool.{false≢true}
+use Rattle.xt_base.proofs.MapLemmas.{some_same}
 use Rattle.xt_base.proofs.RisingLemmas.{sum_put, sum_without, weight_at}
 use Rattle.xt_base.proofs.ViewLemmas.{put_without}
 use Rattle.xt_base.specs.Maps.{at, is_in, put, set_at, without}
 use Rattle.xt_base.specs.Sound.{IsRising}
-use Rattle.xt_base.specs.Space.{granted}
+use Rattle.xt_base.specs.Space.{cost, granted, least_number, still_needed}
+use Rattle.xt_base.specs.Jobs.{activated}
 use Rattle.xt_base.specs.Legs.{clean_leg}
-use Rattle.xt_base.specs.State.{Items, Leg, Transaction}
+use Rattle.xt_base.specs.State.{Flight, Items, Leg, Transaction}
 use Rattle.xt_base.specs.declared.steps.Errno.{Errno}
+use Rattle.xt_items.specs.Lists.{Lists, flight_number, with_landed}
 use Rattle.xt_mount.proofs.KeepLemmas.{put_back}
-use Rattle.xt_mount.specs.Journals.{Pages, legs_in, releg}
-use Rattle.xt_resv.specs.Ledgers.{Grant, grant_unless}
-use Rattle.xt_resv.specs.Mounts.{grant_of}
+use Rattle.xt_mount.specs.Journals.{Pages, landed_in, legs_in, releg}
+use Rattle.xt_resv.proofs.MountLemmas.{still_is}
+use Rattle.xt_resv.specs.Ledgers.{Grant, Ledger, flight_cost, grant_unless, still_counted}
+use Rattle.xt_resv.specs.Mounts.{flight_of, grant_of}
 
 -- what a transaction was granted
 abbrev grant_in : ℕ × Transaction → ℕ
@@ -76,3 +80,32 @@ module _ (p q : Pages) (view : q ≡ p) (t : ℕ) (u v : Transaction) (m ns : Li
 pub grant_is : (o : Option Errno) (t g : Grant) → Ok t ≡ grant_unless o g → t ≡ g
 grant_is None t g h = cc
 grant_is (Some e) t g h = absurd (cc)
+
+-- ---- a landing
+module _ (q : Pages) (number : ℕ) (m : Lists) (before after : Ledger) (least : Option ℕ) (size : before.size ≡ q.log_bytes) (landed : before.landed ≡ q.items.landed)
+    (ledger : after ≡ record before { flight = None; landed = still_counted least (put number (flight_cost before.flight) before.landed) }) (first : least ≡ least_number m.ail) where
+  -- the pages after it
+  abbrev new_pages : Pages
+  new_pages = record { log_bytes = after.size; transactions = q.transactions; items = with_landed after.landed m }
+
+  landed_by : (o : Option Flight) → flight_number o ≡ Some number → before.flight ≡ flight_of o
+      → IfSome o (λ f. m ≡ record { open_number = q.items.open_number; cil = q.items.cil; flight = None; ail = activated f.number f.items q.items.ail })
+      → IfSome o (λ f. new_pages ≡ landed_in f q)
+  landed_by None flying price lists = tt
+  landed_by (Some f) flying price lists =
+      let given : ℕ → List (ℕ × ℕ) → Lists → Pages = λ b xs l. record { log_bytes = b; transactions = q.transactions; items = with_landed xs l } in
+      let counted : List (ℕ × ℕ) → Lists → List (ℕ × ℕ) = λ xs l. still_needed l.ail xs in
+      let costs : List (ℕ × ℕ) = put f.number (cost f.items) q.items.landed in
+      ap (λ (l : Ledger). given l.size l.landed m) ledger
+      ∙ ap (λ b. given b (still_counted least (put number (flight_cost before.flight) before.landed)) m) size
+      ∙ ap (λ o. given q.log_bytes (still_counted o (put number (flight_cost before.flight) before.landed)) m) first
+      ∙ ap (λ xs. given q.log_bytes xs m) (sym (still_is m.ail (put number (flight_cost before.flight) before.landed)))
+      ∙ ap (λ k. given q.log_bytes (counted (put k (flight_cost before.flight) before.landed) m) m) (sym (some_same f.number number flying))
+      ∙ ap (λ o. given q.log_bytes (counted (put f.number (flight_cost o) before.landed) m) m) price
+      ∙ ap (λ xs. given q.log_bytes (counted (put f.number (cost f.items) xs) m) m) landed
+      ∙ ap (λ (l : Lists). given q.log_bytes (counted costs l) l) lists
+
+  pub landed_pages : (p : Pages) → q ≡ p → flight_number q.items.flight ≡ Some number → before.flight ≡ flight_of q.items.flight
+      → IfSome q.items.flight (λ f. m ≡ record { open_number = q.items.open_number; cil = q.items.cil; flight = None; ail = activated f.number f.items q.items.ail })
+      → IfSome p.items.flight (λ f. new_pages ≡ landed_in f p)
+  landed_pages p view flying price lists = subst (λ (x : Pages). IfSome x.items.flight (λ f. new_pages ≡ landed_in f x)) view (landed_by q.items.flight flying price lists)

@@ -5,7 +5,7 @@ use Rattle.xt_base.specs.Maps.{has, with_member}
 use Rattle.xt_base.specs.State.{Change, Frames, Leg}
 use Rattle.xt_base.specs.declared.steps.Owner.{Owner}
 use Rattle.xt_base.specs.declared.steps.Owner.TheVariants.{Held, Stale}
-use Rattle.xt_mount.specs.Lists.{Lists}
+use Rattle.xt_items.specs.Lists.{Lists}
 
 -- who has a block of a leg that was committed
 abbrev pub owner_left : Leg → ℕ → ℕ → Option Owner

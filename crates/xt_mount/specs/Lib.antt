@@ -1,5 +1,4 @@
 pub mod Layers
-pub mod Lists
 pub mod Journals
 pub mod Machines
 pub mod Settling

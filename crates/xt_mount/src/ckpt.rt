@@ -9,7 +9,7 @@ ghost use Rattle.xt_base.specs.Sound.{IsSound};
 ghost use Rattle.xt_base.specs.Text.{chunk, chunk_bytes};
 ghost use Rattle.xt_ckpt.specs.Items.{item_bytes, HasForm};
 ghost use Rattle.xt_ckpt.specs.declared.item.Item.{Item as AnItem};
-ghost use Rattle.xt_mount.specs.Lists.{flight_number};
+ghost use Rattle.xt_items.specs.Lists.{flight_number};
 ghost use Rattle.xt_mount.specs.Machines.{state_of};
 ghost use Rattle.xt_mount.specs.Texts.{entry_bytes, entry_block, seen_content};
 

@@ -9,12 +9,11 @@ ghost use Rattle.xt_base.specs.Sound.{AllBelow, IsRising};
 ghost use Rattle.xt_base.specs.Space.{charge, cost, flight_items, granted, is_listed};
 ghost use Rattle.xt_mount.specs.Ending.{edits_kept, leg_lost};
 ghost use Rattle.xt_mount.specs.Journals.{closed_in, flown_in, landed_in, legs_in, marked_in, no_pages, opened_in, releg, used_in};
-ghost use Rattle.xt_mount.specs.Lists.{flight_number};
+ghost use Rattle.xt_items.specs.Lists.{flight_number};
 ghost use Rattle.xt_resv.specs.Ledgers.{is_invalid, is_no_room};
 ghost use Rattle.xt_resv.specs.Mounts.{grant_of, ledger};
 
 use crate::frames::Frames;
-use crate::items::Items;
 use crate::leg_end::{keep_changes, lose_leg};
 use crate::open_trans::OpenTrans;
 use bytes::Bytes;
@@ -23,6 +22,7 @@ use std::marker::Model;
 use xt_base::chunks::Chunks;
 use xt_base::content::Content;
 use xt_base::map::NumberMap;
+use xt_items::items::Items;
 use xt_resv::space::LogSpace;
 use xt_trans::trans::TransRec;
 
@@ -39,7 +39,7 @@ impl Model for Journal {
     ghost use Rattle.std.specs.Prelude.{◌≡◌};
     ghost use Rattle.xt_base.specs.Space.{cost, granted};
     ghost use Rattle.xt_mount.specs.Journals.{Pages};
-    ghost use Rattle.xt_mount.specs.Lists.{with_landed};
+    ghost use Rattle.xt_items.specs.Lists.{with_landed};
     ghost use Rattle.xt_resv.specs.Mounts.{flight_of};
 
     ghost Value = { Pages };
@@ -245,7 +245,9 @@ impl Journal {
     {
         let leg = TransRec::new(alloc)?;
         match self.space.grant(unit, count, perm) {
-            Ok(ticket) => self.transactions.put_new(trans, OpenTrans::new(ticket, leg)),
+            Ok(ticket) => self
+                .transactions
+                .put_new(trans, OpenTrans::new(ticket, leg)),
             Err(_) => unreachable!(),
         }
         Ok(())
@@ -343,7 +345,8 @@ impl Journal {
             Ok(()) => {}
             Err(_) => unreachable!(),
         }
-        self.transactions.put_new(trans, OpenTrans::new(ticket, leg));
+        self.transactions
+            .put_new(trans, OpenTrans::new(ticket, leg));
     }
 
     /// A transaction ends, and its leg is given up. It takes no memory.
@@ -374,7 +377,8 @@ impl Journal {
         lose_leg(frames, &mut leg);
         leg.next_leg();
         self.space.give_up(&mut ticket);
-        self.transactions.put_new(trans, OpenTrans::new(ticket, leg));
+        self.transactions
+            .put_new(trans, OpenTrans::new(ticket, leg));
     }
 
     // ---- checkpoints

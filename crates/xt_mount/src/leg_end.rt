@@ -9,10 +9,10 @@ ghost use Rattle.xt_mount.specs.Ending.{contents_lost, edits_kept, fresh_lost, i
 ghost use Rattle.xt_mount.specs.Machines.{state_of};
 
 use crate::frames::Frames;
-use crate::items::Items;
 use crate::machine::Machine;
 use xt_base::names::{CkptNo, TransNo};
 use xt_base::steps::Owner;
+use xt_items::items::Items;
 use xt_locks::locks::Locks;
 use xt_trans::trans::{Change, TransRec};
 

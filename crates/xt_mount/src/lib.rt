@@ -9,7 +9,6 @@ mod frames;
 mod fresh;
 mod get;
 mod hold;
-mod items;
 mod journal;
 mod leg_end;
 mod log;

@@ -20,7 +20,11 @@ pub fn beside_cil(locks: &Locks, journal: &Journal) -> usize
     ensures count { result ≡ count_by (λ e. not (is_in e.0 locks.now)) journal.now.items.cil }
     ensures small { result ≤ 128 }
 {
-    journal.cil().iter().filter(|e| !is_owned(locks, e.0)).count()
+    journal
+        .cil()
+        .iter()
+        .filter(|e| !is_owned(locks, e.0))
+        .count()
 }
 
 /// How many blocks of the flight nobody owns, those of the commit list aside.
@@ -45,6 +49,8 @@ pub fn beside_ail(locks: &Locks, journal: &Journal) -> usize
     journal
         .ail()
         .iter()
-        .filter(|e| !(is_owned(locks, e.0) || journal.is_committed(e.0) || journal.is_in_flight(e.0)))
+        .filter(|e| !(is_owned(locks, e.0)
+            || journal.is_committed(e.0)
+            || journal.is_in_flight(e.0)))
         .count()
 }

@@ -6,7 +6,7 @@ use Rattle.xt_base.specs.State.{Frames, Leg}
 use Rattle.xt_mount.proofs.EndLemmas.{length_with_edit, taken}
 use Rattle.xt_mount.proofs.leg_end.keep_changes.Goals as goal
 use Rattle.xt_mount.specs.Ending.{edits_kept, marks_kept, with_first}
-use Rattle.xt_mount.specs.Lists.{Lists}
+use Rattle.xt_items.specs.Lists.{Lists}
 
 pub loop-block-preserved : goal.loop-block-preserved
 loop-block-preserved c =

@@ -9,7 +9,8 @@ give_back-requires c =
 
 pub invariant_of-self-2 : goal.invariant_of-self-2
 invariant_of-self-2 c =
-    let left = granted_out c.args.trans c.in-Some.opened c.self.inside.transactions _ (sym c.remove.ensures.value ∙ c.in-Some.is) c.remove.ensures.rest in
-    (omega (arith, left, c.self.invariant.0, ap (λ (l : Ledger). l.granted) c.give_back.ensures, ap (λ (g : Grant). g.unit * g.legs) c.into_parts-ticket.ensures.ticket),
-    ap (λ (l : Ledger). l.cil) c.give_back.ensures ∙ c.self.invariant.1,
-    ap (λ (l : Ledger). l.flight) c.give_back.ensures ∙ c.self.invariant.2)
+    let left = granted_out c.args.trans c.in-Some.opened c.self.inside.transactions _ (sym c.remove.ensures.value ∙ c.in-Some.is) c.remove.ensures.rest in (
+      omega (arith, left, c.self.invariant.0, ap (λ (l : Ledger). l.granted) c.give_back.ensures, ap (λ (g : Grant). g.unit * g.legs) c.into_parts-ticket.ensures.ticket),
+      ap (λ (l : Ledger). l.cil) c.give_back.ensures ∙ c.self.invariant.1,
+      ap (λ (l : Ledger). l.flight) c.give_back.ensures ∙ c.self.invariant.2,
+    )

@@ -4,7 +4,7 @@ use Rattle.xt_base.specs.State.{Items, Transaction}
 use Rattle.xt_mount.proofs.JournalLemmas.{covered, granted_in, next_pages}
 use Rattle.xt_mount.proofs.journal.Journal.give_up.Goals as goal
 use Rattle.xt_mount.specs.Journals.{Pages, opened_with}
-use Rattle.xt_mount.specs.Lists.{with_landed}
+use Rattle.xt_items.specs.Lists.{with_landed}
 use Rattle.xt_mount.specs.contracts.journal.Journal.{the_view}
 use Rattle.xt_resv.specs.Ledgers.{Grant, Ledger}
 use Rattle.xt_resv.specs.Mounts.{grant_of}
@@ -17,10 +17,11 @@ pub invariant_of-self-2 : goal.invariant_of-self-2
 invariant_of-self-2 c =
     let rises = subst (λ (x : Pages). IsRising x.transactions) (sym c.self.view_is) c.requires.rising in
     let there = sym c.remove.ensures.value ∙ c.in-Some.is in
-    let whole = granted_in c.args.trans c.in-Some.opened c.self.inside.transactions _ there c.remove.ensures.rest c.new.result _ rises c.put_new.ensures in
-    (omega (arith, whole, c.self.invariant.0, ap (λ (l : Ledger). l.granted) c.give_up.ensures.space, ap (λ (g : Grant). g.unit * g.legs) c.into_parts-ticket.ensures.ticket, ap (λ (x : Transaction). x.unit * x.legs) c.new.ensures, ap (λ (g : Grant). g.unit * g.legs) c.give_up.ensures.ticket),
-    ap (λ (l : Ledger). l.cil) c.give_up.ensures.space ∙ c.self.invariant.1,
-    ap (λ (l : Ledger). l.flight) c.give_up.ensures.space ∙ c.self.invariant.2)
+    let whole = granted_in c.args.trans c.in-Some.opened c.self.inside.transactions _ there c.remove.ensures.rest c.new.result _ rises c.put_new.ensures in (
+      omega (arith, whole, c.self.invariant.0, ap (λ (l : Ledger). l.granted) c.give_up.ensures.space, ap (λ (g : Grant). g.unit * g.legs) c.into_parts-ticket.ensures.ticket, ap (λ (x : Transaction). x.unit * x.legs) c.new.ensures, ap (λ (g : Grant). g.unit * g.legs) c.give_up.ensures.ticket),
+      ap (λ (l : Ledger). l.cil) c.give_up.ensures.space ∙ c.self.invariant.1,
+      ap (λ (l : Ledger). l.flight) c.give_up.ensures.space ∙ c.self.invariant.2,
+    )
 
 pub returns-clause-pages : goal.returns-clause-pages
 returns-clause-pages c =

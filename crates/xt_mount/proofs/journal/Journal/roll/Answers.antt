@@ -7,7 +7,7 @@ use Rattle.xt_mount.proofs.JournalLemmas.{covered, granted_in, next_pages}
 use Rattle.xt_mount.proofs.journal.Journal.roll.Goals as goal
 use Rattle.xt_mount.specs.Ending.{marks_kept}
 use Rattle.xt_mount.specs.Journals.{Pages, opened_with}
-use Rattle.xt_mount.specs.Lists.{Lists, with_landed}
+use Rattle.xt_items.specs.Lists.{Lists, with_landed}
 use Rattle.xt_mount.specs.contracts.journal.Journal.{the_view}
 use Rattle.xt_resv.specs.Ledgers.{Grant, Ledger, next_grant}
 use Rattle.xt_resv.specs.Mounts.{flight_of, grant_of}
@@ -23,10 +23,11 @@ invariant_of-self-2 c =
     let ledger = c.in-Ok.ensures.ok.0 in
     let ticket = c.in-Ok.ensures.ok.1 in
     let within = covered c.args.trans c.in-Some.opened c.self.inside.transactions _ there c.remove.ensures.rest c.into_parts-ticket.result.0 c.self.inside.space.granted c.into_parts-ticket.ensures.ticket c.self.invariant.0 in
-    let whole = granted_in c.args.trans c.in-Some.opened c.self.inside.transactions _ there c.remove.ensures.rest c.new.result _ rises c.put_new.ensures in
-    (omega (arith, whole, within, c.self.invariant.0, ap (λ (l : Ledger). l.granted) ledger, ap (λ (g : Grant). g.unit * g.legs) c.into_parts-ticket.ensures.ticket, ap (λ (x : Transaction). x.unit * x.legs) c.new.ensures, ap (λ (g : Grant). g.unit * g.legs) ticket),
-    ap (λ (l : Ledger). l.cil) ledger ∙ c.cil_cost.ensures.value,
-    ap (λ (l : Ledger). l.flight) ledger ∙ c.self.invariant.2 ∙ ap (λ (l : Lists). flight_of l.flight) (sym c.keep_changes.ensures.cil))
+    let whole = granted_in c.args.trans c.in-Some.opened c.self.inside.transactions _ there c.remove.ensures.rest c.new.result _ rises c.put_new.ensures in (
+      omega (arith, whole, within, c.self.invariant.0, ap (λ (l : Ledger). l.granted) ledger, ap (λ (g : Grant). g.unit * g.legs) c.into_parts-ticket.ensures.ticket, ap (λ (x : Transaction). x.unit * x.legs) c.new.ensures, ap (λ (g : Grant). g.unit * g.legs) ticket),
+      ap (λ (l : Ledger). l.cil) ledger ∙ c.cil_cost.ensures.value,
+      ap (λ (l : Ledger). l.flight) ledger ∙ c.self.invariant.2 ∙ ap (λ (l : Lists). flight_of l.flight) (sym c.keep_changes.ensures.cil),
+    )
 
 pub returns-clause-pages : goal.returns-clause-pages
 returns-clause-pages c =

@@ -1,7 +1,0 @@
-use Rattle.std.proofs.Common.{◌≡◌, ◌≤◌, ◌+◌, ◌*◌, drop}
-use Rattle.std.specs.Prelude.{sum_by}
-use Rattle.xt_base.specs.Space.{item_cost}
-use Rattle.xt_mount.proofs.items.cost_of.Given as goal
-
-abbrev pub invariant-loop-e : goal.invariant-loop-e
-invariant-loop-e l = (l.sum + sum_by item_cost (drop l.e-index l.items) ≡ 32 + sum_by item_cost l.items) × (l.sum ≤ 32 + 4112 * l.e-index)
