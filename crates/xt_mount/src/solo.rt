@@ -206,9 +206,8 @@ impl Solo {
         }
     }
 
-    /// Whether a checkpoint of this name is owed.
+    /// Whether a job of this name is owed.
     fn is_owed(&self, name: &JobName) -> bool
-        requires { is_ckpt name.now.kind ≡ true }
         ensures { result ≡ mount_is (is_owed_as name.now) self.now.mount }
     {
         match &self.mount {
@@ -367,9 +366,8 @@ impl Solo {
         }
     }
 
-    /// A checkpoint that is owed is outstanding.
+    /// A job that is owed is outstanding.
     fn note_post(&mut self, name: &JobName)
-        requires kind { is_ckpt name.now.kind ≡ true }
         requires owed { mount_is (is_owed_as name.now) self.old.mount ≡ true }
         requires slot { name.now.slot ≡ self.old.slot }
         requires own { IsOwnOf self.old.slot (lone_of self.old) }
@@ -381,9 +379,8 @@ impl Solo {
         }
     }
 
-    /// Posts a checkpoint that is owed. Its name goes to the queue first: where that finds no memory, nothing changes.
+    /// Posts a job that is owed. Its name goes to the queue first: where that finds no memory, nothing changes.
     fn post(&mut self, name: &JobName) -> Reply
-        requires kind { is_ckpt name.now.kind ≡ true }
         requires owed { mount_is (is_owed_as name.now) self.old.mount ≡ true }
         requires slot { name.now.slot ≡ self.old.slot }
         requires own { IsOwnOf self.old.slot (lone_of self.old) }
