@@ -1,6 +1,6 @@
 -- A journal whose ledger agrees with its transactions and lists.
-use Rattle.std.proofs.Common.{◌≡◌, ◌∙◌, ◌+◌, ◌*◌, ◌≤◌, ℕ, List, None, Ok, Option, Some, false, true, sym, ap, refl, subst, arith, IfSome}
-use Rattle.std.specs.Prelude.{is_some, sum_by}
+use Rattle.std.proofs.Common.{◌≡◌, ◌∙◌, ◌+◌, ◌*◌, ◌≤◌, ℕ, List, None, Ok, Option, Some, false, sym, ap, refl, subst, arith, IfSome}
+use Rattle.std.specs.Prelude.{is_some}
 use Rattle.std.proofs.lemmas.Bool.{false≢true}
 use Rattle.xt_base.proofs.MapLemmas.{some_same}
 use Rattle.xt_base.proofs.RisingLemmas.{sum_put, sum_without, weight_at}

@@ -1,4 +1,4 @@
-use Rattle.std.proofs.Common.{◌∙◌, ap}
+use Rattle.std.proofs.Common.{◌∙◌}
 use Rattle.xt_mount.proofs.FlushLemmas.{flush_is, not_none}
 use Rattle.xt_mount.proofs.machine.Machine.flush.Goals as goal
 use Rattle.xt_mount.specs.Machines.{state_of}
