@@ -8,7 +8,7 @@ use Rattle.std.proofs.lemmas.Slice.Eq.{bytes_eq-Decides}
 use Rattle.std.proofs.lemmas.Fmt.{decimal_by_steps}
 use Rattle.xt_base.specs.declared.steps.Answer.{Answer}
 use Rattle.xt_base.specs.declared.steps.Request.{Request}
-use Rattle.xt_base.specs.declared.steps.Request.TheVariants.{Alloc, Cancel, Commit, Force, ForceTo, Get, Hold, Inval, Join, Log, Push, Read, Release, Relse, Shutdown, Unhold, Unmount, View}
+use Rattle.xt_base.specs.declared.steps.Request.TheVariants.{Alloc, Cancel, Commit, Force, ForceTo, Get, Hold, Inval, Join, Log, Push, Read, Release, Relse, Roll, Shutdown, Unhold, Unmount, View}
 use Rattle.xt_base.specs.declared.steps.Step.{Step}
 use Rattle.xt_base.specs.declared.steps.Step.TheVariants.{Begin, Call, End, Mount, Peek, Post, Show, Take}
 use Rattle.xt_text.proofs.ReadAgain.{data_again}
@@ -83,13 +83,13 @@ request_again (Join trans block) is other = rw (own_again trans block is.0 is.1)
 request_again (Release block) is other = rw (number_again block is) refl
 request_again (Inval trans block) is other = rw (own_again trans block is.0 is.1) refl
 request_again (Commit trans) is other = rw (trans_again trans is) refl
+request_again (Roll trans) is other = rw (trans_again trans is) refl
 request_again (Cancel trans) is other = rw (trans_again trans is) refl
 request_again Force is other = refl
 request_again (ForceTo number) is other = rw (trans_again number is) refl
 request_again Push is other = refl
 request_again Shutdown is other = refl
 request_again Unmount is other = refl
-request_again rest is other = absurd is
 
 -- ---- answers of a read
 -- the content of a block gives itself

@@ -7,7 +7,7 @@ use Rattle.xt_base.specs.declared.names.JobKind.TheVariants.{Ckpt}
 use Rattle.xt_base.specs.declared.names.JobName.{JobName}
 use Rattle.xt_base.specs.declared.steps.Answer.{Answer}
 use Rattle.xt_base.specs.declared.steps.Request.{Request}
-use Rattle.xt_base.specs.declared.steps.Request.TheVariants.{Alloc, Cancel, Commit, Force, ForceTo, Get, Hold, Inval, Join, Log, Push, Read, Release, Relse, Shutdown, Unhold, Unmount, View}
+use Rattle.xt_base.specs.declared.steps.Request.TheVariants.{Alloc, Cancel, Commit, Force, ForceTo, Get, Hold, Inval, Join, Log, Push, Read, Release, Relse, Roll, Shutdown, Unhold, Unmount, View}
 use Rattle.xt_base.specs.declared.steps.Step.{Step}
 use Rattle.xt_base.specs.declared.steps.Step.TheVariants.{Begin, Call, End, Mount, Peek, Post, Show, Take}
 use Rattle.xt_text.specs.DataReading.{read_content, read_data}
@@ -104,6 +104,7 @@ mount_request verb words =
 unfoldable pub trans_request : List ℕ → List ℕ → Option Request
 trans_request verb words =
     if bytes_eq verb (codes "commit") then (lettered words >>= λ trans. Some (Commit trans))
+    else if bytes_eq verb (codes "roll") then (lettered words >>= λ trans. Some (Roll trans))
     else if bytes_eq verb (codes "cancel") then (lettered words >>= λ trans. Some (Cancel trans))
     else mount_request verb words
 

@@ -6,7 +6,7 @@ use Rattle.xt_base.specs.declared.names.JobKind.TheVariants.{Ckpt, Flush}
 use Rattle.xt_base.specs.declared.names.JobName.{JobName}
 use Rattle.xt_base.specs.declared.steps.Answer.{Answer}
 use Rattle.xt_base.specs.declared.steps.Request.{Request}
-use Rattle.xt_base.specs.declared.steps.Request.TheVariants.{Alloc, Cancel, Commit, Force, ForceTo, Get, Hold, Inval, Join, Log, Push, Read, Release, Relse, Shutdown, Unhold, Unmount, View}
+use Rattle.xt_base.specs.declared.steps.Request.TheVariants.{Alloc, Cancel, Commit, Force, ForceTo, Get, Hold, Inval, Join, Log, Push, Read, Release, Relse, Roll, Shutdown, Unhold, Unmount, View}
 use Rattle.xt_base.specs.declared.steps.Step.{Step}
 use Rattle.xt_base.specs.declared.steps.Step.TheVariants.{Begin, Call, End, Mount, Peek, Post, Show, Take}
 use Rattle.xt_text.specs.DataText.{IsData, spelling}
@@ -55,7 +55,7 @@ sync_text None = codes "none"
 sync_text (Some ok) = ok_text ok
 
 -- ---- lines
--- the text of a request; a request whose word has not come yet has none
+-- the text of a request
 abbrev pub request_text : Request → List ℕ
 request_text (Alloc unit count perm) = codes "alloc" ␣ decimal unit ␣ decimal count ␣ perm_text perm
 request_text (Get trans block) = codes "get" ␣ trans_text trans ␣ decimal block
@@ -69,13 +69,13 @@ request_text (Join trans block) = codes "join" ␣ trans_text trans ␣ decimal 
 request_text (Release block) = codes "drop" ␣ decimal block
 request_text (Inval trans block) = codes "inval" ␣ trans_text trans ␣ decimal block
 request_text (Commit trans) = codes "commit" ␣ trans_text trans
+request_text (Roll trans) = codes "roll" ␣ trans_text trans
 request_text (Cancel trans) = codes "cancel" ␣ trans_text trans
 request_text Force = codes "force"
 request_text (ForceTo number) = codes "forceto" ␣ ckpt_text number
 request_text Push = codes "push"
 request_text Shutdown = codes "shutdown"
 request_text Unmount = codes "unmount"
-request_text other = []
 
 -- what the home device answered, behind a read's text; nothing where it was not asked
 abbrev pub answer_text : Answer → List ℕ
@@ -105,7 +105,7 @@ IsKind Flush = ⊥
 abbrev pub IsName : JobName → Type 0
 IsName name = (name.slot < 16) × (name.life < 2 ^ 32) × IsKind name.kind × (name.serial < 2 ^ 64)
 
--- a request whose word has come
+-- a request with the values that its types have
 abbrev pub IsRequest : Request → Type 0
 IsRequest (Alloc unit count perm) = (unit < 2 ^ 32) × (count < 2 ^ 32)
 IsRequest (Get trans block) = (trans < 2 ^ 64) × (block < 2 ^ 64)
@@ -119,13 +119,13 @@ IsRequest (Join trans block) = (trans < 2 ^ 64) × (block < 2 ^ 64)
 IsRequest (Release block) = block < 2 ^ 64
 IsRequest (Inval trans block) = (trans < 2 ^ 64) × (block < 2 ^ 64)
 IsRequest (Commit trans) = trans < 2 ^ 64
+IsRequest (Roll trans) = trans < 2 ^ 64
 IsRequest (Cancel trans) = trans < 2 ^ 64
 IsRequest Force = Unit {0}
 IsRequest (ForceTo number) = number < 2 ^ 64
 IsRequest Push = Unit {0}
 IsRequest Shutdown = Unit {0}
 IsRequest Unmount = Unit {0}
-IsRequest other = ⊥
 
 -- the content of a block: 4,096 bytes
 abbrev pub IsContent : List ℕ → Type 0

@@ -99,6 +99,7 @@ fn put_request(out: &mut Text, request: &Request)
         }
         Request::Inval { trans, block } => put_own(out, b"inval", *trans, *block),
         Request::Commit { trans } => put_trans(out, b"commit", *trans),
+        Request::Roll { trans } => put_trans(out, b"roll", *trans),
         Request::Cancel { trans } => put_trans(out, b"cancel", *trans),
         Request::Force => out.put(b"force"),
         Request::ForceTo { number } => {
@@ -108,7 +109,6 @@ fn put_request(out: &mut Text, request: &Request)
         Request::Push => out.put(b"push"),
         Request::Shutdown => out.put(b"shutdown"),
         Request::Unmount => out.put(b"unmount"),
-        _ => (),
     }
 }
 

@@ -104,6 +104,9 @@ fn trans_request(verb: &[u8], words: &[u8]) -> Result<Request, BadLine>
     if verb == b"commit".as_slice() {
         let trans = trans_of(words)?;
         Ok(Request::Commit { trans })
+    } else if verb == b"roll".as_slice() {
+        let trans = trans_of(words)?;
+        Ok(Request::Roll { trans })
     } else if verb == b"cancel".as_slice() {
         let trans = trans_of(words)?;
         Ok(Request::Cancel { trans })

@@ -65,6 +65,8 @@ fn lines_of_steps_are_read_and_printed(rt: HostRuntime) -> Result<(), Fail> {
         "0.1 drop 7",
         "15.4294967295 drop 18446744073709551615",
         "0.1 cancel t1",
+        "0.1 roll t1",
+        "15.4294967295 roll t18446744073709551615",
         "0.1 inval t1 7",
         "15.4294967295 inval t18446744073709551615 18446744073709551615",
         "0.1 log t1 7 0 aa*4096",
@@ -207,6 +209,10 @@ fn other_spellings_of_buffer_words_are_bad(rt: HostRuntime) -> Result<(), Fail> 
         "0.1 cancel",
         "0.1 cancel 1",
         "0.1 cancel t1 7",
+        "0.1 roll",
+        "0.1 roll 1",
+        "0.1 roll t1 t2",
+        "0.1 roll t1 perm",
     ] {
         assert!(rt; is_bad(rt.alloc(), line.as_bytes())?, "{line}");
     }
@@ -361,7 +367,6 @@ fn other_spellings_of_data_are_bad(rt: HostRuntime) -> Result<(), Fail> {
 #[test]
 fn words_that_have_not_come_are_bad(rt: HostRuntime) -> Result<(), Fail> {
     for line in [
-        "0.1 roll t1",
         "flush 0 0.1.flush.1",
         "post 0.1.flush.1",
         "take 0 0.1.flush.1",
