@@ -2,12 +2,14 @@
 
 mod buffers;
 mod idle;
+mod rolls;
 mod rows;
 mod shut;
 
 use crate::script::run_script;
 use buffers::*;
 use idle::*;
+use rolls::*;
 use rows::*;
 use shut::*;
 use std::alloc::Global;
@@ -323,4 +325,11 @@ fn steps_of_other_slots_are_left_out(rt: HostRuntime) -> Result<(), Fail> {
     says_of(&rt, alloc, TWO_SLOTS, Some(second), "1 life 1\n1 t1\n", 0);
     says_of(&rt, alloc, TWO_SLOTS, Some(third), "", 0);
     Ok(())
+}
+
+#[test]
+fn log_space_is_asked_and_given_back(rt: HostRuntime) {
+    let alloc = rt.alloc();
+    says(&rt, alloc, ROLLS_IN, ROLLS_OUT, 0);
+    says(&rt, alloc, REFUSED_ALLOCS_IN, REFUSED_ALLOCS_OUT, 0);
 }
