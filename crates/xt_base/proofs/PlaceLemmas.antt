@@ -170,6 +170,20 @@ module _ {V : Type 0} where
   absent_last k [] p r is le = refl
   absent_last k (e ∷ es) p r is le = ap is_some (absent_is 0 k (e ∷ es) e p r is (λ h. absurd (omega arith)))
 
+  -- and has nothing
+  pub none_there : (k : ℕ) (m : List (ℕ × V)) (p : ℕ) (e : ℕ × V) → IsRising m → p ≡ place k m → e ≡ get_or m p e → e.0 ≢ k → None ≡ at k m
+  none_there k m p e r is here other = sym (absent_is 0 k m e p r is (λ h same. other (ap (λ (x : ℕ × V). x.0) here ∙ same)))
+
+  pub none_last : (k : ℕ) (m : List (ℕ × V)) (p : ℕ) → IsRising m → p ≡ place k m → length m ≤ p → None ≡ at k m
+  none_last k [] p r is le = refl
+  none_last k (e ∷ es) p r is le = sym (absent_is 0 k (e ∷ es) e p r is (λ h. absurd (omega arith)))
+
+  -- what stands at a place that there is
+  pub one_there : (m : List (ℕ × V)) (p : ℕ) (d e : ℕ × V) → p < length m → get_or m p d ≡ get_or m p e
+  one_there [] p d e lt = absurd (omega arith)
+  one_there (x ∷ xs) zero d e lt = refl
+  one_there (x ∷ xs) (suc p) d e lt = one_there xs p d e (shorter p (length xs) lt)
+
   -- a key that is not there goes in at its place
   pub put_absent : (k : ℕ) (v : V) (m : List (ℕ × V)) (p : ℕ) → p ≡ place k m → is_in k m ≡ false → insert {X = ℕ × V} m p (k, v) ≡ put k v m
   put_absent k v [] p is h = subst (λ n. insert {X = ℕ × V} [] n (k, v) ≡ (k, v) ∷ []) (sym is) refl
@@ -188,6 +202,57 @@ module _ {V : Type 0} where
       elim (cases_eq e.0 k) [
         | inl same ↦ ap (is_in k) (without_here k e es same) ∙ ap is_some (none_below k (suc e.0) es (omega (arith, same)) r.1)
         | inr other ↦ ap (is_in k) (without_later k e es other) ∙ ap is_some (at_later k e (without k es) other) ∙ absent_after (suc e.0) k es r.1
+      ]
+
+  -- a place is behind no more than all entries
+  pub place_le : (k : ℕ) (m : List (ℕ × V)) → place k m ≤ length m
+  place_le k [] = omega arith
+  place_le k (e ∷ es) =
+      elim (cases_order k e.0) [
+        | inl same ↦ omega (arith, place_here k e es (omega (arith, same)))
+        | inr (inl less) ↦ omega (arith, place_here k e es (omega (arith, less)))
+        | inr (inr more) ↦ omega (arith, place_low k e es more, place_le k es)
+      ]
+
+  -- a key of a rising map, from its first bound on
+  rise_at : (n : ℕ) (m : List (ℕ × V)) (i : ℕ) (d : ℕ × V) → RisesFrom n m → i < length m → n ≤ (get_or m i d).0
+  rise_at n [] i d r lt = absurd (omega arith)
+  rise_at n (e ∷ es) zero d r lt = r.0
+  rise_at n (e ∷ es) (suc i) d r lt = omega (arith, r.0, rise_at (suc e.0) es i d r.1 (shorter i (length es) lt))
+
+  -- the place of a key is behind each lower one, and not behind one that is no lower
+  pub place_above : (n k : ℕ) (m : List (ℕ × V)) (i : ℕ) (d : ℕ × V) → RisesFrom n m → i < length m → (get_or m i d).0 < k → i < place k m
+  place_above n k [] i d r lt low = absurd (omega arith)
+  place_above n k (e ∷ es) zero d r lt low = omega (arith, place_low k e es low)
+  place_above n k (e ∷ es) (suc i) d r lt low =
+      let less : i < length es = shorter i (length es) lt in
+      omega (arith, place_low k e es (omega (arith, low, rise_at (suc e.0) es i d r.1 less)), place_above (suc e.0) k es i d r.1 less low)
+
+  pub place_below : (k : ℕ) (m : List (ℕ × V)) (i : ℕ) (d : ℕ × V) → i < length m → k ≤ (get_or m i d).0 → place k m ≤ i
+  place_below k [] i d lt high = absurd (omega arith)
+  place_below k (e ∷ es) zero d lt high = omega (arith, place_here k e es high)
+  place_below k (e ∷ es) (suc i) d lt high =
+      elim (cases_order k e.0) [
+        | inl same ↦ omega (arith, place_here k e es (omega (arith, same)))
+        | inr (inl less) ↦ omega (arith, place_here k e es (omega (arith, less)))
+        | inr (inr more) ↦ omega (arith, place_low k e es more, place_below k es i d (shorter i (length es) lt) high)
+      ]
+
+  -- what a map has at a key that stands at its place
+  pub at_place : (k : ℕ) (m : List (ℕ × V)) (p : ℕ) (e : ℕ × V) → p ≡ place k m → p < length m → e ≡ get_or m p e → e.0 ≡ k → Some e.1 ≡ at k m
+  at_place k [] p e is lt here same = absurd (omega arith)
+  at_place k (x ∷ xs) p e is lt here same =
+      elim (cases_order k x.0) [
+        | inl first ↦
+            let found : e ≡ x = subst (λ n. e ≡ get_or (x ∷ xs) n e) (is ∙ place_here k x xs (omega arith)) here in
+            ap (λ (y : ℕ × V). Some y.1) found ∙ sym (at_here k x xs (sym first))
+        | inr (inl less) ↦
+            let found : e ≡ x = subst (λ n. e ≡ get_or (x ∷ xs) n e) (is ∙ place_here k x xs (omega arith)) here in
+            absurd (differ x.0 k (ap (λ (y : ℕ × V). y.0) (sym found) ∙ same) less)
+        | inr (inr more) ↦
+            at_place k xs (place k xs) e refl (shorter (place k xs) (length xs) (subst (λ n. n < length (x ∷ xs)) (is ∙ place_low k x xs more) lt))
+            (subst (λ n. e ≡ get_or (x ∷ xs) n e) (is ∙ place_low k x xs more) here) same
+            ∙ sym (at_later k x xs (λ s. omega (arith, s, more)))
       ]
 
   -- what is left of a rising map rises

@@ -67,9 +67,9 @@ impl<V> NumberMap<V> {
     pub fn get(&self, key: u64) -> Option<&V>
         ensures { option_copied result ≡ at key self.now }
     {
-        let found = spot_of(&self.entries, key);
-        if found < self.entries.len() {
-            Some(&self.entries[found].1)
+        let at = place_of(&self.entries, key);
+        if at < self.entries.len() && self.entries[at].0 == key {
+            Some(&self.entries[at].1)
         } else {
             None
         }
@@ -176,17 +176,23 @@ impl<V> NumberMap<V> {
     }
 }
 
-/// How many entries stand before the first whose key is not below `key`.
+/// How many entries stand before the first whose key is not below `key`, by halves.
 fn place_of<V>(entries: &[(u64, V)], key: u64) -> usize
+    requires { IsRising entries.now }
     ensures value { result ≡ place key entries.now }
     ensures range { result ≤ length entries.now }
 {
-    for (i, e) in entries.iter().enumerate() {
-        if e.0 >= key {
-            return i;
+    let mut low = 0;
+    let mut high = entries.len();
+    while low < high {
+        let middle = low + (high - low) / 2;
+        if entries[middle].0 < key {
+            low = middle + 1;
+        } else {
+            high = middle;
         }
     }
-    entries.len()
+    low
 }
 
 /// How many entries stand before the first whose key is `key`; all, where there is none.

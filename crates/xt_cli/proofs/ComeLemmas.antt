@@ -8,26 +8,19 @@ use Rattle.xt_base.specs.Steps.{slot_of}
 use Rattle.xt_base.specs.declared.names.JobKind.{JobKind}
 use Rattle.xt_base.specs.declared.names.JobKind.TheVariants.{Ckpt, Flush}
 use Rattle.xt_base.specs.declared.steps.Step.{Step}
-use Rattle.xt_base.specs.declared.steps.Request.{Request}
 use Rattle.xt_cli.specs.Script.{picked}
-use Rattle.xt_mount.specs.Come.{has_come}
 use Rattle.xt_mount.specs.Solo.{step_has_come}
-use Rattle.xt_text.specs.Lines.{IsKind, IsRequest, IsStep}
+use Rattle.xt_text.specs.Lines.{IsKind, IsStep}
 
 -- a job of a line is a checkpoint
 pub kind_come : (k : JobKind) → IsKind k → is_ckpt k ≡ true
 kind_come Ckpt valid = refl
 kind_come Flush valid = absurd valid
 
--- a request of a line has come
-pub request_come : (r : Request) → IsRequest r → has_come r ≡ true
-request_come (Request.Roll trans) valid = absurd valid
-request_come other valid = refl
-
 -- a step of a line has come
 pub step_come : (x : Step) → IsStep x → step_has_come x ≡ true
 step_come (Step.Mount slot log_bytes blocks) valid = refl
-step_come (Step.Call slot life request answer) valid = request_come request valid.2
+step_come (Step.Call slot life request answer) valid = refl
 step_come (Step.Post name) valid = kind_come name.kind valid.2
 step_come (Step.Take worker name) valid = refl
 step_come (Step.Begin worker name) valid = refl

@@ -58,6 +58,7 @@ fn play<R: Read, W: Write>(
 {
     let script = read_script(alloc, reader)?;
     let steps = pick(parse_script(alloc, &script)?, only);
+    drop(script);
     let status = play_steps(alloc, writer, &steps)?;
     writer.flush().map_err(ScriptFault::Io)?;
     Ok(status)

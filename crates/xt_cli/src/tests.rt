@@ -2,12 +2,16 @@
 
 mod buffers;
 mod idle;
+mod rolls;
 mod rows;
+mod shut;
 
 use crate::script::run_script;
 use buffers::*;
 use idle::*;
+use rolls::*;
 use rows::*;
+use shut::*;
 use std::alloc::Global;
 use std::io::{self, Read, Write};
 use std::process::Abort;
@@ -150,6 +154,60 @@ fn a_failed_read_shuts_the_mount_of_a_dirty_leg(rt: HostRuntime) {
 }
 
 #[test]
+fn the_board_shows_why_a_mount_was_shut(rt: HostRuntime) {
+    let alloc = rt.alloc();
+    says(&rt, alloc, CANCEL_SHOWN_IN, CANCEL_SHOWN_OUT, 0);
+    says(&rt, alloc, PIECE_SHOWN_IN, PIECE_SHOWN_OUT, 0);
+    says(&rt, alloc, READ_SHOWN_IN, READ_SHOWN_OUT, 0);
+    says(&rt, alloc, CLEAN_READ_SHOWN_IN, CLEAN_READ_SHOWN_OUT, 0);
+    says(&rt, alloc, FIRST_PIECE_IN, FIRST_PIECE_OUT, 0);
+    says(&rt, alloc, FIRST_SYNC_IN, FIRST_SYNC_OUT, 0);
+}
+
+#[test]
+fn a_block_given_up_for_good_is_locked_until_its_checkpoint_lands(rt: HostRuntime) {
+    let alloc = rt.alloc();
+    says(&rt, alloc, INVALIDATED_IN, INVALIDATED_OUT, 0);
+    says(&rt, alloc, ONE_PIECE_IN, ONE_PIECE_OUT, 0);
+}
+
+#[test]
+fn lives_and_numbers_are_counted(rt: HostRuntime) {
+    says(&rt, rt.alloc(), LIVES_IN, LIVES_OUT, 0);
+    says(&rt, rt.alloc(), NO_NUMBER_IN, NO_NUMBER_OUT, 0);
+}
+
+#[test]
+fn a_begin_clears_what_was_asked(rt: HostRuntime) {
+    says(&rt, rt.alloc(), BEGIN_CLEARS_IN, BEGIN_CLEARS_OUT, 3);
+}
+
+#[test]
+fn a_shutdown_is_shown_and_an_empty_slot_is_not(rt: HostRuntime) {
+    let alloc = rt.alloc();
+    let script =
+        "peek 0\nshow 0\npeek 0\nmount 0 65536 1024\npeek 0\nshow 0\npeek 0\n0.1 shutdown\npeek 0\nshow 0\n\
+        peek 0\n0.1 push\n0.1 forceto c1\n0.1 unmount\npeek 0\n";
+    let want =
+        "0 seen 0 live\n0 ok\n0 seen 0 live\n0 life 1\n0 seen 0 live\n0 ok\n0 seen 1 live\n0 ok\n0 seen 1 live\n0 ok\n\
+        0 seen 1 FORCE_UMOUNT\n0 EIO\n0 EIO\n0 ok\n0 seen 1 FORCE_UMOUNT\n";
+    says(&rt, alloc, script, want, 0);
+}
+
+#[test]
+fn a_force_to_a_checkpoint_waits_for_just_that_one(rt: HostRuntime) {
+    let alloc = rt.alloc();
+    let script =
+        "mount 0 65536 1024\n0.1 forceto c1\n0.1 alloc 5000 1 plain\n0.1 get t1 7\n0.1 log t1 7 0 aa*4096\n0.1 commit t1\n\
+        0.1 forceto c0\n0.1 forceto c2\n0.1 forceto c1\n0.1 unmount\npost 0.1.ckpt.1\ntake 0 0.1.ckpt.1\nbegin 0 0.1.ckpt.1\n\
+        0.1 forceto c1\n0.1 forceto c2\n";
+    let want =
+        "0 life 1\n0 done\n0 t1\n0 ok\n0 ok\n0 c1\n0 EINVAL\n0 EINVAL\n0 wait c1\n0 EBUSY\n0 ok\n0 ok\n0 begun c1 2\n\
+        0 wait c1\n0 done\n";
+    says(&rt, alloc, script, want, 0);
+}
+
+#[test]
 fn at_most_64_blocks_are_busy(rt: HostRuntime) {
     says(&rt, rt.alloc(), BUSY_IN, BUSY_OUT, 0);
 }
@@ -267,4 +325,11 @@ fn steps_of_other_slots_are_left_out(rt: HostRuntime) -> Result<(), Fail> {
     says_of(&rt, alloc, TWO_SLOTS, Some(second), "1 life 1\n1 t1\n", 0);
     says_of(&rt, alloc, TWO_SLOTS, Some(third), "", 0);
     Ok(())
+}
+
+#[test]
+fn log_space_is_asked_and_given_back(rt: HostRuntime) {
+    let alloc = rt.alloc();
+    says(&rt, alloc, ROLLS_IN, ROLLS_OUT, 0);
+    says(&rt, alloc, REFUSED_ALLOCS_IN, REFUSED_ALLOCS_OUT, 0);
 }

@@ -9,9 +9,9 @@ use Rattle.xt_base.specs.declared.names.JobKind.TheVariants.{Ckpt, Flush}
 use Rattle.xt_base.specs.declared.names.JobName.{JobName}
 use Rattle.xt_base.specs.declared.steps.Answer.{Answer}
 use Rattle.xt_base.specs.declared.steps.Request.{Request}
-use Rattle.xt_base.specs.declared.steps.Request.TheVariants.{Alloc, Cancel, Commit, Force, Get, Hold, Join, Log, Read, Release, Relse, Unhold, View}
+use Rattle.xt_base.specs.declared.steps.Request.TheVariants.{Alloc, Cancel, Commit, Force, ForceTo, Get, Hold, Inval, Join, Log, Push, Read, Release, Relse, Roll, Shutdown, Unhold, Unmount, View}
 use Rattle.xt_base.specs.declared.steps.Step.{Step}
-use Rattle.xt_base.specs.declared.steps.Step.TheVariants.{Begin, Call, End, Mount, Post, Take}
+use Rattle.xt_base.specs.declared.steps.Step.TheVariants.{Begin, Call, End, Mount, Peek, Post, Show, Take}
 use Rattle.xt_text.specs.DataText.{after_run, between, hex, is_short, onto_runs, run_text, runs, runs_text, spelling}
 use Rattle.xt_text.specs.Lines.{IsAnswer, IsAnswerTo, IsName, IsRequest, IsStep, answer_text, kind_text, line_of, name_text, perm_text, request_text, sync_text, trans_text, ◌·◌, ◌␣◌}
 use Rattle.xt_text.specs.declared.data_text.Run.{Run}
@@ -175,10 +175,15 @@ request_fits (Unhold trans block) is = omega (arith, own_fits trans block is.0 i
 request_fits (Relse trans block) is = omega (arith, own_fits trans block is.0 is.1)
 request_fits (Join trans block) is = omega (arith, own_fits trans block is.0 is.1)
 request_fits (Release block) is = omega (arith, decimal_fits block is)
+request_fits (Inval trans block) is = omega (arith, own_fits trans block is.0 is.1)
 request_fits (Commit trans) is = omega (arith, decimal_fits trans is)
+request_fits (Roll trans) is = omega (arith, decimal_fits trans is)
 request_fits (Cancel trans) is = omega (arith, decimal_fits trans is)
 request_fits Force is = omega arith
-request_fits other is = absurd is
+request_fits (ForceTo number) is = omega (arith, decimal_fits number is)
+request_fits Push is = omega arith
+request_fits Shutdown is = omega arith
+request_fits Unmount is = omega arith
 
 -- an answer has at most 8,195
 pub answer_fits : (a : Answer) → IsAnswer a → length (answer_text a) ≤ 8195
@@ -227,4 +232,6 @@ line_fits (End worker name answers) is =
       decimal_fits answers.taken (omega arith),
       sync_fits answers.sync,
     )
+line_fits (Show slot) is = omega (arith, decimal_fits slot (omega arith))
+line_fits (Peek slot) is = omega (arith, decimal_fits slot (omega arith))
 line_fits other is = absurd is

@@ -8,14 +8,14 @@ use Rattle.std.proofs.lemmas.Slice.Eq.{bytes_eq-Decides}
 use Rattle.std.proofs.lemmas.Fmt.{decimal_by_steps}
 use Rattle.xt_base.specs.declared.steps.Answer.{Answer}
 use Rattle.xt_base.specs.declared.steps.Request.{Request}
-use Rattle.xt_base.specs.declared.steps.Request.TheVariants.{Alloc, Cancel, Commit, Force, Get, Hold, Join, Log, Read, Release, Relse, Unhold, View}
+use Rattle.xt_base.specs.declared.steps.Request.TheVariants.{Alloc, Cancel, Commit, Force, ForceTo, Get, Hold, Inval, Join, Log, Push, Read, Release, Relse, Roll, Shutdown, Unhold, Unmount, View}
 use Rattle.xt_base.specs.declared.steps.Step.{Step}
-use Rattle.xt_base.specs.declared.steps.Step.TheVariants.{Begin, Call, End, Mount, Post, Take}
+use Rattle.xt_base.specs.declared.steps.Step.TheVariants.{Begin, Call, End, Mount, Peek, Post, Show, Take}
 use Rattle.xt_text.proofs.ReadAgain.{data_again}
 use Rattle.xt_text.proofs.WordsAgain.{before_joined, before_whole, behind_joined, behind_whole, below_again, decimal_lacks, lacks_joined, name_again, name_lacks, number_again, perm_again, sync_again, trans_again, u32_again}
 use Rattle.xt_text.specs.DataReading.{read_content, read_data}
 use Rattle.xt_text.specs.DataText.{IsData, spelling}
-use Rattle.xt_text.specs.LineReading.{alloc_of, answer_of, asked_of, before, begin_of, behind, call_of, drop_of, end_of, log_of, mount_of, own_of, own_request, post_of, read_of, request_of, step_of, take_of, trans_request, words_step}
+use Rattle.xt_text.specs.LineReading.{alloc_of, answer_of, asked_of, before, begin_of, behind, call_of, drop_of, end_of, log_of, mount_of, mount_request, own_of, own_request, peek_of, post_of, read_of, request_of, show_of, step_of, take_of, trans_request, words_step}
 use Rattle.xt_text.specs.Lines.{IsAnswer, IsAnswerTo, IsContent, IsRequest, IsStep, answer_text, line_of, name_text, perm_text, request_text, sync_text, trans_text, ◌·◌, ◌␣◌}
 
 -- what stands before the space behind a number
@@ -47,7 +47,7 @@ IsRead other = ⊥
 
 -- a request other than a read gives itself
 pub request_again : (r : Request) → IsRequest r → (IsRead r → ⊥) → request_of (before 32 (request_text r)) (behind 32 (request_text r)) ≡ Some r
-unfolding request_of alloc_of log_of drop_of own_request trans_request
+unfolding request_of alloc_of log_of drop_of own_request trans_request mount_request
 request_again (Alloc unit count perm) is other =
     rw (
       before_number unit (decimal count ␣ perm_text perm) (omega arith),
@@ -81,10 +81,15 @@ request_again (Unhold trans block) is other = rw (own_again trans block is.0 is.
 request_again (Relse trans block) is other = rw (own_again trans block is.0 is.1) refl
 request_again (Join trans block) is other = rw (own_again trans block is.0 is.1) refl
 request_again (Release block) is other = rw (number_again block is) refl
+request_again (Inval trans block) is other = rw (own_again trans block is.0 is.1) refl
 request_again (Commit trans) is other = rw (trans_again trans is) refl
+request_again (Roll trans) is other = rw (trans_again trans is) refl
 request_again (Cancel trans) is other = rw (trans_again trans is) refl
 request_again Force is other = refl
-request_again rest is other = absurd is
+request_again (ForceTo number) is other = rw (trans_again number is) refl
+request_again Push is other = refl
+request_again Shutdown is other = refl
+request_again Unmount is other = refl
 
 -- ---- answers of a read
 -- the content of a block gives itself
@@ -167,12 +172,14 @@ call_line_again slot life r a low small is fits =
       no_verb slot 116 (46 ∷ decimal life) (codes "ake") (omega arith) (omega arith),
       no_verb slot 98 (46 ∷ decimal life) (codes "egin") (omega arith) (omega arith),
       no_verb slot 101 (46 ∷ decimal life) (codes "nd") (omega arith) (omega arith),
+      no_verb slot 115 (46 ∷ decimal life) (codes "how") (omega arith) (omega arith),
+      no_verb slot 112 (46 ∷ decimal life) (codes "eek") (omega arith) (omega arith),
     )
     (call_again slot life r a low small is fits)
 
 -- the line of a step gives the step
 pub step_again : (s : Step) → IsStep s → step_of (line_of s) ≡ Some s
-unfolding step_of words_step mount_of post_of take_of begin_of end_of
+unfolding step_of words_step mount_of post_of take_of begin_of end_of show_of peek_of
 step_again (Mount slot log_bytes blocks) is =
     rw (
       before_number slot (decimal log_bytes ␣ decimal blocks) (omega arith),
@@ -205,4 +212,6 @@ step_again (End worker name answers) is =
       sync_again answers.sync,
     )
     refl
+step_again (Show slot) is = rw (below_again 16 slot is (omega arith)) refl
+step_again (Peek slot) is = rw (below_again 16 slot is (omega arith)) refl
 step_again other is = absurd is

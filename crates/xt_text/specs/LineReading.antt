@@ -7,9 +7,9 @@ use Rattle.xt_base.specs.declared.names.JobKind.TheVariants.{Ckpt}
 use Rattle.xt_base.specs.declared.names.JobName.{JobName}
 use Rattle.xt_base.specs.declared.steps.Answer.{Answer}
 use Rattle.xt_base.specs.declared.steps.Request.{Request}
-use Rattle.xt_base.specs.declared.steps.Request.TheVariants.{Alloc, Cancel, Commit, Force, Get, Hold, Join, Log, Read, Release, Relse, Unhold, View}
+use Rattle.xt_base.specs.declared.steps.Request.TheVariants.{Alloc, Cancel, Commit, Force, ForceTo, Get, Hold, Inval, Join, Log, Push, Read, Release, Relse, Roll, Shutdown, Unhold, Unmount, View}
 use Rattle.xt_base.specs.declared.steps.Step.{Step}
-use Rattle.xt_base.specs.declared.steps.Step.TheVariants.{Begin, Call, End, Mount, Post, Take}
+use Rattle.xt_base.specs.declared.steps.Step.TheVariants.{Begin, Call, End, Mount, Peek, Post, Show, Take}
 use Rattle.xt_text.specs.DataReading.{read_content, read_data}
 use Rattle.xt_text.specs.Reading.{below, number_of, ◌>>=◌}
 
@@ -90,12 +90,23 @@ log_of words =
 unfoldable pub drop_of : List ℕ → Option Request
 drop_of words = number_of words >>= λ block. Some (Release block)
 
--- a request of a transaction: its verb, and what stands behind it
+-- a request of the mount as a whole: its verb, and what stands behind it
+unfoldable pub mount_request : List ℕ → List ℕ → Option Request
+mount_request verb words =
+    if bytes_eq verb (codes "force") then Some Force
+    else if bytes_eq verb (codes "forceto") then (lettered words >>= λ number. Some (ForceTo number))
+    else if bytes_eq verb (codes "push") then Some Push
+    else if bytes_eq verb (codes "shutdown") then Some Shutdown
+    else if bytes_eq verb (codes "unmount") then Some Unmount
+    else None
+
+-- a request of a transaction, or of the mount as a whole: its verb, and what stands behind it
 unfoldable pub trans_request : List ℕ → List ℕ → Option Request
 trans_request verb words =
     if bytes_eq verb (codes "commit") then (lettered words >>= λ trans. Some (Commit trans))
+    else if bytes_eq verb (codes "roll") then (lettered words >>= λ trans. Some (Roll trans))
     else if bytes_eq verb (codes "cancel") then (lettered words >>= λ trans. Some (Cancel trans))
-    else None
+    else mount_request verb words
 
 -- a request of a transaction's block: its verb, and what stands behind it
 unfoldable pub own_request : List ℕ → List ℕ → Option Request
@@ -106,6 +117,7 @@ own_request verb words =
     else if bytes_eq verb (codes "unhold") then (own_of words >>= λ p. Some (Unhold p.0 p.1))
     else if bytes_eq verb (codes "relse") then (own_of words >>= λ p. Some (Relse p.0 p.1))
     else if bytes_eq verb (codes "join") then (own_of words >>= λ p. Some (Join p.0 p.1))
+    else if bytes_eq verb (codes "inval") then (own_of words >>= λ p. Some (Inval p.0 p.1))
     else trans_request verb words
 
 -- a request other than a read: its verb, and what stands behind it
@@ -114,7 +126,6 @@ request_of verb words =
     if bytes_eq verb (codes "alloc") then alloc_of words
     else if bytes_eq verb (codes "log") then log_of words
     else if bytes_eq verb (codes "drop") then drop_of words
-    else if bytes_eq verb (codes "force") then Some Force
     else own_request verb words
 
 -- what stands behind a read: nothing, = DATA, or = fail
@@ -125,6 +136,14 @@ answer_of words =
     else (read_content (behind 32 words) >>= λ bytes. Some (Answer.Content bytes))
 
 -- ---- steps, by what stands behind their first word
+-- SLOT
+unfoldable pub show_of : List ℕ → Option Step
+show_of words = below 16 words >>= λ slot. Some (Show slot)
+
+-- SLOT
+unfoldable pub peek_of : List ℕ → Option Step
+peek_of words = below 16 words >>= λ slot. Some (Peek slot)
+
 -- SLOT LOG BLOCKS
 unfoldable pub mount_of : List ℕ → Option Step
 mount_of words =
@@ -193,6 +212,8 @@ words_step word words =
     else if bytes_eq word (codes "take") then take_of words
     else if bytes_eq word (codes "begin") then begin_of words
     else if bytes_eq word (codes "end") then end_of words
+    else if bytes_eq word (codes "show") then show_of words
+    else if bytes_eq word (codes "peek") then peek_of words
     else call_of word words
 
 -- what a line gives

@@ -6,9 +6,9 @@ use Rattle.xt_base.specs.declared.names.JobKind.TheVariants.{Ckpt, Flush}
 use Rattle.xt_base.specs.declared.names.JobName.{JobName}
 use Rattle.xt_base.specs.declared.steps.Answer.{Answer}
 use Rattle.xt_base.specs.declared.steps.Request.{Request}
-use Rattle.xt_base.specs.declared.steps.Request.TheVariants.{Alloc, Cancel, Commit, Force, Get, Hold, Join, Log, Read, Release, Relse, Unhold, View}
+use Rattle.xt_base.specs.declared.steps.Request.TheVariants.{Alloc, Cancel, Commit, Force, ForceTo, Get, Hold, Inval, Join, Log, Push, Read, Release, Relse, Roll, Shutdown, Unhold, Unmount, View}
 use Rattle.xt_base.specs.declared.steps.Step.{Step}
-use Rattle.xt_base.specs.declared.steps.Step.TheVariants.{Begin, Call, End, Mount, Post, Take}
+use Rattle.xt_base.specs.declared.steps.Step.TheVariants.{Begin, Call, End, Mount, Peek, Post, Show, Take}
 use Rattle.xt_text.specs.DataText.{IsData, spelling}
 
 -- two words with a space between them
@@ -55,7 +55,7 @@ sync_text None = codes "none"
 sync_text (Some ok) = ok_text ok
 
 -- ---- lines
--- the text of a request; a request whose word has not come yet has none
+-- the text of a request
 abbrev pub request_text : Request → List ℕ
 request_text (Alloc unit count perm) = codes "alloc" ␣ decimal unit ␣ decimal count ␣ perm_text perm
 request_text (Get trans block) = codes "get" ␣ trans_text trans ␣ decimal block
@@ -67,10 +67,15 @@ request_text (Unhold trans block) = codes "unhold" ␣ trans_text trans ␣ deci
 request_text (Relse trans block) = codes "relse" ␣ trans_text trans ␣ decimal block
 request_text (Join trans block) = codes "join" ␣ trans_text trans ␣ decimal block
 request_text (Release block) = codes "drop" ␣ decimal block
+request_text (Inval trans block) = codes "inval" ␣ trans_text trans ␣ decimal block
 request_text (Commit trans) = codes "commit" ␣ trans_text trans
+request_text (Roll trans) = codes "roll" ␣ trans_text trans
 request_text (Cancel trans) = codes "cancel" ␣ trans_text trans
 request_text Force = codes "force"
-request_text other = []
+request_text (ForceTo number) = codes "forceto" ␣ ckpt_text number
+request_text Push = codes "push"
+request_text Shutdown = codes "shutdown"
+request_text Unmount = codes "unmount"
 
 -- what the home device answered, behind a read's text; nothing where it was not asked
 abbrev pub answer_text : Answer → List ℕ
@@ -86,6 +91,8 @@ line_of (Post name) = codes "post" ␣ name_text name
 line_of (Take worker name) = codes "take" ␣ decimal worker ␣ name_text name
 line_of (Begin worker name) = codes "begin" ␣ decimal worker ␣ name_text name
 line_of (End worker name answers) = codes "end" ␣ decimal worker ␣ name_text name ␣ decimal answers.taken ␣ sync_text answers.sync
+line_of (Show slot) = codes "show" ␣ decimal slot
+line_of (Peek slot) = codes "peek" ␣ decimal slot
 line_of other = []
 
 -- ---- which steps have a line: those whose word has come, with the values that their types have
@@ -98,7 +105,7 @@ IsKind Flush = ⊥
 abbrev pub IsName : JobName → Type 0
 IsName name = (name.slot < 16) × (name.life < 2 ^ 32) × IsKind name.kind × (name.serial < 2 ^ 64)
 
--- a request whose word has come
+-- a request with the values that its types have
 abbrev pub IsRequest : Request → Type 0
 IsRequest (Alloc unit count perm) = (unit < 2 ^ 32) × (count < 2 ^ 32)
 IsRequest (Get trans block) = (trans < 2 ^ 64) × (block < 2 ^ 64)
@@ -110,10 +117,15 @@ IsRequest (Unhold trans block) = (trans < 2 ^ 64) × (block < 2 ^ 64)
 IsRequest (Relse trans block) = (trans < 2 ^ 64) × (block < 2 ^ 64)
 IsRequest (Join trans block) = (trans < 2 ^ 64) × (block < 2 ^ 64)
 IsRequest (Release block) = block < 2 ^ 64
+IsRequest (Inval trans block) = (trans < 2 ^ 64) × (block < 2 ^ 64)
 IsRequest (Commit trans) = trans < 2 ^ 64
+IsRequest (Roll trans) = trans < 2 ^ 64
 IsRequest (Cancel trans) = trans < 2 ^ 64
 IsRequest Force = Unit {0}
-IsRequest other = ⊥
+IsRequest (ForceTo number) = number < 2 ^ 64
+IsRequest Push = Unit {0}
+IsRequest Shutdown = Unit {0}
+IsRequest Unmount = Unit {0}
 
 -- the content of a block: 4,096 bytes
 abbrev pub IsContent : List ℕ → Type 0
@@ -143,4 +155,6 @@ IsStep (Post name) = IsName name
 IsStep (Take worker name) = (worker < 8) × IsName name
 IsStep (Begin worker name) = (worker < 8) × IsName name
 IsStep (End worker name answers) = (worker < 8) × IsName name × (answers.taken < 2 ^ 32)
+IsStep (Show slot) = slot < 16
+IsStep (Peek slot) = slot < 16
 IsStep other = ⊥

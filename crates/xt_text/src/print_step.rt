@@ -7,7 +7,7 @@ ghost use Rattle.xt_text.specs.DataText.{spelling};
 ghost use Rattle.xt_text.specs.Lines.{answer_text, line_of, name_text, perm_text, request_text, sync_text, trans_text, ◌·◌, ◌␣◌};
 
 use crate::buffer::Text;
-use crate::fields::{then_data, then_name, then_number, then_ok, then_trans, then_word};
+use crate::fields::{then_ckpt, then_data, then_name, then_number, then_ok, then_trans, then_word};
 use crate::numbers::put_number;
 use xt_base::content::Data;
 use xt_base::names::{Block, JobName, Life, Slot, TransNo, Worker};
@@ -97,10 +97,18 @@ fn put_request(out: &mut Text, request: &Request)
             out.put(b"drop");
             then_number(out, block.0);
         }
+        Request::Inval { trans, block } => put_own(out, b"inval", *trans, *block),
         Request::Commit { trans } => put_trans(out, b"commit", *trans),
+        Request::Roll { trans } => put_trans(out, b"roll", *trans),
         Request::Cancel { trans } => put_trans(out, b"cancel", *trans),
         Request::Force => out.put(b"force"),
-        _ => (),
+        Request::ForceTo { number } => {
+            out.put(b"forceto");
+            then_ckpt(out, *number);
+        }
+        Request::Push => out.put(b"push"),
+        Request::Shutdown => out.put(b"shutdown"),
+        Request::Unmount => out.put(b"unmount"),
     }
 }
 
@@ -142,6 +150,25 @@ fn put_job_step(out: &mut Text, word: &[u8], worker: Worker, name: JobName)
     then_name(out, name);
 }
 
+/// Puts a mount's slot, the size of its log and how many blocks its home device has.
+#[tactic(auto, using(crate::proofs::BufferLemmas::put_put))]
+fn put_mount(out: &mut Text, slot: Slot, log_bytes: u32, blocks: u64)
+    ensures { out.new ≡ put out.old (codes "mount" ␣ decimal slot ␣ decimal log_bytes ␣ decimal blocks) }
+{
+    put_with_slot(out, b"mount", slot);
+    then_number(out, log_bytes as u64);
+    then_number(out, blocks);
+}
+
+/// Puts a word and a slot.
+#[tactic(auto, using(crate::proofs::BufferLemmas::put_put))]
+fn put_with_slot(out: &mut Text, word: &[u8], slot: Slot)
+    ensures { out.new ≡ put out.old (word.now ␣ decimal slot) }
+{
+    out.put(word);
+    then_number(out, slot.index() as u64);
+}
+
 /// Puts the line of a step, without a newline, behind what the buffer holds; nothing for a step whose word has not
 /// come yet.
 #[tactic(auto, using(crate::proofs::BufferLemmas::put_put, crate::proofs::BufferLemmas::put_none))]
@@ -153,12 +180,7 @@ pub fn print_step(step: &Step, out: &mut Text)
             slot,
             log_bytes,
             blocks,
-        } => {
-            out.put(b"mount");
-            then_number(out, slot.index() as u64);
-            then_number(out, *log_bytes as u64);
-            then_number(out, *blocks);
-        }
+        } => put_mount(out, *slot, *log_bytes, *blocks),
         Step::Call {
             slot,
             life,
@@ -180,6 +202,8 @@ pub fn print_step(step: &Step, out: &mut Text)
             then_number(out, answers.taken as u64);
             then_sync(out, answers.sync);
         }
+        Step::Show(slot) => put_with_slot(out, b"show", *slot),
+        Step::Peek(slot) => put_with_slot(out, b"peek", *slot),
         _ => (),
     }
 }

@@ -1,7 +1,7 @@
 //! Lines read loosely: the line of each step gives that step, and other lines may give some step too.
 
 ghost use Rattle.std.specs.Prelude.{◌<◌, ◌^◌, IfOk};
-ghost use Rattle.xt_text.specs.LineReading.{alloc_of, answer_of, asked_of, begin_of, call_of, drop_of, end_of, log_of, mount_of, own_of, own_request, post_of, read_of, request_of, step_of, take_of, trans_request, words_step};
+ghost use Rattle.xt_text.specs.LineReading.{alloc_of, answer_of, asked_of, begin_of, call_of, drop_of, end_of, log_of, mount_of, mount_request, own_of, own_request, peek_of, post_of, read_of, request_of, show_of, step_of, take_of, trans_request, words_step};
 ghost use Rattle.xt_text.specs.Lines.{IsAnswer, IsRequest, IsStep};
 ghost use Rattle.xt_text.specs.Reading.{Gives};
 
@@ -9,7 +9,8 @@ use crate::bad_line::BadLine;
 use crate::data_text::{read_content, read_data};
 use crate::numbers::number_of;
 use crate::words::{
-    block_of, cut, life_of, name_of, perm_of, slot_of, sync_of, trans_of, u32_of, worker_of,
+    block_of, ckpt_of, cut, life_of, name_of, perm_of, slot_of, sync_of, trans_of, u32_of,
+    worker_of,
 };
 use std::alloc::Global;
 use xt_base::names::{Block, Life, Slot, TransNo};
@@ -72,7 +73,29 @@ fn drop_of(words: &[u8]) -> Result<Request, BadLine>
     Ok(Request::Release { block })
 }
 
-/// A request of a transaction: its verb, and what stands behind it.
+/// A request of the mount as a whole: its verb, and what stands behind it.
+#[tactic(auto, unfolding(crate::specs::LineReading::mount_request))]
+fn mount_request(verb: &[u8], words: &[u8]) -> Result<Request, BadLine>
+    ensures value { Gives result (mount_request verb.now words.now) }
+    ensures valid { IfOk result IsRequest }
+{
+    if verb == b"force".as_slice() {
+        Ok(Request::Force)
+    } else if verb == b"forceto".as_slice() {
+        let number = ckpt_of(words)?;
+        Ok(Request::ForceTo { number })
+    } else if verb == b"push".as_slice() {
+        Ok(Request::Push)
+    } else if verb == b"shutdown".as_slice() {
+        Ok(Request::Shutdown)
+    } else if verb == b"unmount".as_slice() {
+        Ok(Request::Unmount)
+    } else {
+        Err(BadLine::Spelling)
+    }
+}
+
+/// A request of a transaction, or of the mount as a whole: its verb, and what stands behind it.
 #[tactic(auto, unfolding(crate::specs::LineReading::trans_request))]
 fn trans_request(verb: &[u8], words: &[u8]) -> Result<Request, BadLine>
     ensures value { Gives result (trans_request verb.now words.now) }
@@ -81,11 +104,14 @@ fn trans_request(verb: &[u8], words: &[u8]) -> Result<Request, BadLine>
     if verb == b"commit".as_slice() {
         let trans = trans_of(words)?;
         Ok(Request::Commit { trans })
+    } else if verb == b"roll".as_slice() {
+        let trans = trans_of(words)?;
+        Ok(Request::Roll { trans })
     } else if verb == b"cancel".as_slice() {
         let trans = trans_of(words)?;
         Ok(Request::Cancel { trans })
     } else {
-        Err(BadLine::Spelling)
+        mount_request(verb, words)
     }
 }
 
@@ -113,6 +139,9 @@ fn own_request(verb: &[u8], words: &[u8]) -> Result<Request, BadLine>
     } else if verb == b"join".as_slice() {
         let (trans, block) = own_of(words)?;
         Ok(Request::Join { trans, block })
+    } else if verb == b"inval".as_slice() {
+        let (trans, block) = own_of(words)?;
+        Ok(Request::Inval { trans, block })
     } else {
         trans_request(verb, words)
     }
@@ -130,8 +159,6 @@ fn request_of(alloc: Global, verb: &[u8], words: &[u8]) -> Result<Request, BadLi
         log_of(alloc, words)
     } else if verb == b"drop".as_slice() {
         drop_of(words)
-    } else if verb == b"force".as_slice() {
-        Ok(Request::Force)
     } else {
         own_request(verb, words)
     }
@@ -153,6 +180,26 @@ fn answer_of(alloc: Global, words: &[u8]) -> Result<Answer, BadLine>
         let content = read_content(alloc, given)?;
         Ok(Answer::Content(content))
     }
+}
+
+/// SLOT.
+#[tactic(auto, unfolding(crate::specs::LineReading::show_of))]
+fn show_of(words: &[u8]) -> Result<Step, BadLine>
+    ensures value { Gives result (show_of words.now) }
+    ensures valid { IfOk result IsStep }
+{
+    let slot = slot_of(words)?;
+    Ok(Step::Show(slot))
+}
+
+/// SLOT.
+#[tactic(auto, unfolding(crate::specs::LineReading::peek_of))]
+fn peek_of(words: &[u8]) -> Result<Step, BadLine>
+    ensures value { Gives result (peek_of words.now) }
+    ensures valid { IfOk result IsStep }
+{
+    let slot = slot_of(words)?;
+    Ok(Step::Peek(slot))
 }
 
 /// SLOT LOG BLOCKS.
@@ -299,6 +346,10 @@ fn words_step(alloc: Global, word: &[u8], words: &[u8]) -> Result<Step, BadLine>
         begin_of(words)
     } else if word == b"end".as_slice() {
         end_of(words)
+    } else if word == b"show".as_slice() {
+        show_of(words)
+    } else if word == b"peek".as_slice() {
+        peek_of(words)
     } else {
         call_of(alloc, word, words)
     }

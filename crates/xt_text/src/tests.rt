@@ -65,10 +65,20 @@ fn lines_of_steps_are_read_and_printed(rt: HostRuntime) -> Result<(), Fail> {
         "0.1 drop 7",
         "15.4294967295 drop 18446744073709551615",
         "0.1 cancel t1",
+        "0.1 roll t1",
+        "15.4294967295 roll t18446744073709551615",
+        "0.1 inval t1 7",
+        "15.4294967295 inval t18446744073709551615 18446744073709551615",
         "0.1 log t1 7 0 aa*4096",
         "0.1 log t1 7 4294967295 -",
         "0.1 commit t1",
         "0.1 force",
+        "0.1 forceto c1",
+        "0.1 forceto c0",
+        "15.4294967295 forceto c18446744073709551615",
+        "0.1 push",
+        "0.1 shutdown",
+        "0.1 unmount",
         "post 0.1.ckpt.1",
         "post 15.4294967295.ckpt.18446744073709551615",
         "take 0 0.1.ckpt.1",
@@ -76,6 +86,10 @@ fn lines_of_steps_are_read_and_printed(rt: HostRuntime) -> Result<(), Fail> {
         "end 0 0.1.ckpt.1 2 ok",
         "end 0 0.1.ckpt.1 4294967295 fail",
         "end 7 0.1.ckpt.1 0 none",
+        "show 0",
+        "show 15",
+        "peek 0",
+        "peek 15",
     ] {
         let step = parse_line(rt.alloc(), line.as_bytes())?;
         out.clear();
@@ -195,9 +209,70 @@ fn other_spellings_of_buffer_words_are_bad(rt: HostRuntime) -> Result<(), Fail> 
         "0.1 cancel",
         "0.1 cancel 1",
         "0.1 cancel t1 7",
+        "0.1 roll",
+        "0.1 roll 1",
+        "0.1 roll t1 t2",
+        "0.1 roll t1 perm",
     ] {
         assert!(rt; is_bad(rt.alloc(), line.as_bytes())?, "{line}");
     }
+    Ok(())
+}
+
+#[test]
+fn other_spellings_of_words_of_the_mount_are_bad(rt: HostRuntime) -> Result<(), Fail> {
+    for line in [
+        "0.1 inval t1",
+        "0.1 inval 7",
+        "0.1 inval t1 7 7",
+        "0.1 binval t1 7",
+        "0.1 forceto",
+        "0.1 forceto 1",
+        "0.1 forceto t1",
+        "0.1 forceto c",
+        "0.1 forceto c01",
+        "0.1 forceto c18446744073709551616",
+        "0.1 force to c1",
+        "0.1 force c1",
+        "0.1 push ",
+        "0.1 push t1",
+        "0.1 shutdown FORCE_UMOUNT",
+        "0.1 unmount 0",
+        "0.1 umount",
+        "unmount 0",
+        "push",
+        "show",
+        "show 16",
+        "show 00",
+        "show 0 ",
+        "show 0.1",
+        "0.1 show",
+        "0.1 peek",
+        "peek",
+        "peek 16",
+        "peek 0 0",
+    ] {
+        assert!(rt; is_bad(rt.alloc(), line.as_bytes())?, "{line}");
+    }
+    Ok(())
+}
+
+#[test]
+fn the_checkpoint_of_a_force_and_the_slot_of_a_look_are_read(rt: HostRuntime) -> Result<(), Fail> {
+    let step = parse_line(rt.alloc(), b"3.9 forceto c5")?;
+    match &step {
+        Step::Call {
+            slot,
+            life,
+            request: Request::ForceTo { number },
+            ..
+        } => assert_eq!(rt; (slot.index(), life.0, number.0), (3, 9, 5)),
+        _ => assert!(rt; false, "not a force to a checkpoint"),
+    }
+    let step = parse_line(rt.alloc(), b"show 11")?;
+    assert!(rt; matches!(&step, Step::Show(slot) if slot.index() == 11));
+    let step = parse_line(rt.alloc(), b"peek 12")?;
+    assert!(rt; matches!(&step, Step::Peek(slot) if slot.index() == 12));
     Ok(())
 }
 
@@ -292,18 +367,10 @@ fn other_spellings_of_data_are_bad(rt: HostRuntime) -> Result<(), Fail> {
 #[test]
 fn words_that_have_not_come_are_bad(rt: HostRuntime) -> Result<(), Fail> {
     for line in [
-        "0.1 roll t1",
-        "0.1 inval t1 7",
-        "0.1 forceto c1",
-        "0.1 push",
-        "0.1 shutdown",
-        "0.1 unmount",
         "flush 0 0.1.flush.1",
         "post 0.1.flush.1",
         "take 0 0.1.flush.1",
         "begin 0 0.1.flush.1",
-        "show 0",
-        "peek 0",
     ] {
         assert!(rt; is_bad(rt.alloc(), line.as_bytes())?, "{line}");
     }

@@ -9,7 +9,7 @@ ghost use Rattle.xt_text.specs.Reading.{Gives, below, number_of};
 
 use crate::bad_line::BadLine;
 use crate::numbers::{below, number_of};
-use xt_base::names::{Block, JobKind, JobName, Life, Slot, TransNo, Worker};
+use xt_base::names::{Block, CkptNo, JobKind, JobName, Life, Slot, TransNo, Worker};
 
 /// The place of the first separator; the length of a text that has none.
 fn place_of(text: &[u8], separator: u8) -> usize
@@ -93,6 +93,15 @@ pub(crate) fn trans_of(word: &[u8]) -> Result<TransNo, BadLine>
 {
     let number = lettered(word)?;
     Ok(TransNo(number))
+}
+
+/// The number of a checkpoint.
+pub(crate) fn ckpt_of(word: &[u8]) -> Result<CkptNo, BadLine>
+    ensures value { Gives result (lettered word.now) }
+    ensures range { IfOk result (λ number. number < 2 ^ 64) }
+{
+    let number = lettered(word)?;
+    Ok(CkptNo(number))
 }
 
 /// What a job does. Names of flushes have not come yet.

@@ -1,15 +1,23 @@
-use Rattle.std.proofs.Common.{◌∙◌, ◌<◌, ◌≤◌, ap, length, arith}
+use Rattle.std.proofs.Common.{◌∙◌, ◌<◌, ◌≤◌, ap, arith, length, sym, ℕ}
 use Rattle.xt_base.specs.Maps.{at}
-use Rattle.xt_base.specs.Places.{spot}
-use Rattle.xt_base.proofs.PlaceLemmas.{value_found, value_missing}
+use Rattle.xt_base.specs.Places.{place}
+use Rattle.xt_base.proofs.PlaceLemmas.{at_place, none_last, none_there, one_there}
 use Rattle.xt_base.proofs.map.NumberMap.get.Goals as goal
+use Rattle.xt_base.proofs.map.NumberMap.get.Goals.{else-at-len-via-then-at-len+else-index-key, else-at-len-via-else-at-len}
 
-pub returns-then-found-len : goal.returns-then-found-len
-returns-then-found-len g c =
-    let lt : c.spot_of-found.result < length c.self.inside.entries.items = omega arith in
-    value_found c.args.key c.self.inside.entries.items c.spot_of-found.result c.index.result.now (c.spot_of-found.ensures.value ∙ ap (spot c.args.key) c.deref.ensures.value) lt c.index.ensures ∙ ap (at c.args.key) c.self.view_is
+pub returns-then-index-key : goal.returns-then-index-key
+returns-then-index-key g c =
+    let is = c.place_of-at.ensures.value ∙ ap (place c.args.key) c.deref.ensures.value in
+    let lt : c.place_of-at.result < length c.self.inside.entries.items = omega arith in
+    let found = c.index-then-index-key.ensures ∙ one_there c.self.inside.entries.items c.place_of-at.result c.index-then-index-key.result.now c.index.result.now lt ∙ sym c.index.ensures in
+    at_place c.args.key c.self.inside.entries.items c.place_of-at.result c.index-then-index-key.result.now is lt c.index-then-index-key.ensures (ap (λ (e : ℕ × _). e.0) found ∙ c.if-index-key.true)
+    ∙ ap (at c.args.key) c.self.view_is
 
-pub returns-else-found-len : goal.returns-else-found-len
-returns-else-found-len g c =
-    let le : length c.self.inside.entries.items ≤ c.spot_of-found.result = omega arith in
-    value_missing c.args.key c.self.inside.entries.items c.spot_of-found.result (c.spot_of-found.ensures.value ∙ ap (spot c.args.key) c.deref.ensures.value) le ∙ ap (at c.args.key) c.self.view_is
+pub returns-else-at-len : goal.returns-else-at-len
+returns-else-at-len g c =
+    let is = c.place_of-at.ensures.value ∙ ap (place c.args.key) c.deref.ensures.value in
+    elim c.else-at-len.branch [
+      | else-at-len-via-then-at-len+else-index-key w ↦ none_there c.args.key c.self.inside.entries.items c.place_of-at.result w.index.result.now c.self.invariant.2 is w.index.ensures w.if-index-key.false ∙ ap (at c.args.key) c.self.view_is
+      | else-at-len-via-else-at-len w ↦ let le : length c.self.inside.entries.items ≤ c.place_of-at.result = omega arith in
+          none_last c.args.key c.self.inside.entries.items c.place_of-at.result c.self.invariant.2 is le ∙ ap (at c.args.key) c.self.view_is
+    ]
