@@ -1,5 +1,5 @@
 -- A call to one life of a slot, which an unmount empties.
-use Rattle.std.proofs.Common.{◌≡◌, ◌∙◌, Bool, MatchBool, None, Option, Some, [], ap, false, if◌then◌else◌, inl, inr, refl, subst, sym, true, ℕ}
+use Rattle.std.proofs.Common.{◌≡◌, ◌∙◌, Bool, None, Option, Some, [], ap, false, if◌then◌else◌, inl, inr, refl, subst, sym, true, ℕ}
 use Rattle.std.proofs.lemmas.Bool.{cases_Bool, false≢true}
 use Rattle.std.specs.Prelude.{◌&&◌, ◌==◌}
 use Rattle.xt_base.proofs.MemoryLemmas.{alone_no_want}
@@ -8,7 +8,7 @@ use Rattle.xt_base.specs.Calls.{Outcome, alone_with, is_unmount}
 use Rattle.xt_base.specs.Isolation.{is_no_memory}
 use Rattle.xt_base.specs.State.{Lone, State}
 use Rattle.xt_base.specs.declared.steps.Answer.{Answer}
-use Rattle.xt_base.specs.declared.steps.Errno.TheVariants.{NoDevice, Stale}
+use Rattle.xt_base.specs.declared.steps.Errno.TheVariants.{Stale}
 use Rattle.xt_base.specs.declared.steps.Reply.{Reply}
 use Rattle.xt_base.specs.declared.steps.Reply.TheVariants.{Okay, Refused}
 use Rattle.xt_base.specs.declared.steps.Request.{Request}

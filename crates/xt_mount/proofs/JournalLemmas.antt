@@ -1,6 +1,6 @@
 -- A journal whose ledger agrees with its transactions and lists.
-use Rattle.std.proofs.Common.{◌≡◌, ◌∙◌, ◌+◌, ◌*◌, ◌≤◌, ℕ, List, None, Ok, Option, Some, false, true, sym, ap, refl, subst, arith, IfSome}
-use Rattle.std.specs.Prelude.{is_some, sum_by}
+use Rattle.std.proofs.Common.{◌≡◌, ◌∙◌, ◌+◌, ◌*◌, ◌≤◌, ℕ, List, None, Ok, Option, Some, false, sym, ap, refl, subst, arith, IfSome}
+use Rattle.std.specs.Prelude.{is_some}
 use Rattle.std.proofs.lemmas.Bool.{false≢true}
 use Rattle.xt_base.proofs.MapLemmas.{some_same}
 use Rattle.xt_base.proofs.RisingLemmas.{sum_put, sum_without, weight_at}
@@ -12,9 +12,10 @@ use Rattle.xt_base.specs.Jobs.{activated}
 use Rattle.xt_base.specs.Legs.{clean_leg}
 use Rattle.xt_base.specs.State.{Flight, Items, Leg, Transaction}
 use Rattle.xt_base.specs.declared.steps.Errno.{Errno}
+use Rattle.xt_items.proofs.MountLemmas.{without_blocks}
 use Rattle.xt_items.specs.Lists.{Lists, flight_number, with_landed}
 use Rattle.xt_mount.proofs.KeepLemmas.{put_back}
-use Rattle.xt_mount.specs.Journals.{Pages, landed_in, legs_in, releg}
+use Rattle.xt_mount.specs.Journals.{Pages, cleaned_in, landed_in, legs_in, releg}
 use Rattle.xt_resv.proofs.MountLemmas.{still_is}
 use Rattle.xt_resv.specs.Ledgers.{Grant, Ledger, flight_cost, grant_unless, still_counted}
 use Rattle.xt_resv.specs.Mounts.{flight_of, grant_of}
@@ -109,3 +110,16 @@ module _ (q : Pages) (number : ℕ) (m : Lists) (before after : Ledger) (least :
       → IfSome q.items.flight (λ f. m ≡ record { open_number = q.items.open_number; cil = q.items.cil; flight = None; ail = activated f.number f.items q.items.ail })
       → IfSome p.items.flight (λ f. new_pages ≡ landed_in f p)
   landed_pages p view flying price lists = subst (λ (x : Pages). IfSome x.items.flight (λ f. new_pages ≡ landed_in f x)) view (landed_by q.items.flight flying price lists)
+
+-- ---- a flush
+-- blocks were written home
+module _ (ts : List (ℕ × Transaction)) (blocks : List ℕ) (l m : Lists) (before after : Ledger) (least : Option ℕ) where
+  pub cleaned_pages : (p : Pages) → record { log_bytes = before.size; transactions = ts; items = with_landed before.landed l } ≡ p → m ≡ without_blocks blocks l → after ≡ record before { landed = still_counted least before.landed }
+      → least ≡ least_number m.ail → record { log_bytes = after.size; transactions = ts; items = with_landed after.landed m } ≡ cleaned_in blocks p
+  cleaned_pages p view lists ledger first =
+      let given : ℕ → List (ℕ × ℕ) → Lists → Pages = λ b xs n. record { log_bytes = b; transactions = ts; items = with_landed xs n } in
+      ap (λ (x : Ledger). given x.size x.landed m) ledger
+      ∙ ap (λ o. given before.size (still_counted o before.landed) m) first
+      ∙ ap (λ xs. given before.size xs m) (sym (still_is m.ail before.landed))
+      ∙ ap (λ (n : Lists). given before.size (still_needed n.ail before.landed) n) lists
+      ∙ ap (cleaned_in blocks) view

@@ -10,3 +10,4 @@ pub mod CallLemmas
 pub mod ChargeLemmas
 pub mod JournalLemmas
 pub mod RollLemmas
+pub mod FlushLemmas

@@ -1,5 +1,5 @@
 -- What an open transaction of a sound mount finds where its leg ends.
-use Rattle.std.proofs.Common.{◌≡◌, ◌≢◌, ◌∙◌, ◌+◌, ◌*◌, ◌<◌, ◌≤◌, ◌∷◌, Bool, List, None, Option, Some, [], ap, arith, false, inl, inr, length, refl, subst, sym, true, ℕ, IfSome}
+use Rattle.std.proofs.Common.{◌≡◌, ◌∙◌, ◌+◌, ◌*◌, ◌≤◌, ◌∷◌, Bool, List, None, Option, Some, [], ap, arith, false, inl, inr, length, refl, sym, true, ℕ, IfSome}
 use Rattle.std.proofs.lemmas.Bool.{and_cases, not-false}
 use Rattle.std.specs.Prelude.{if◌then◌else◌, is_none, is_some, not, sum_by, ◌&&◌, ◌==◌}
 use Rattle.xt_base.proofs.BusyLemmas.{few_committed}

@@ -1,59 +1,23 @@
 -- One step of a slot with its workers.
-use Rattle.std.proofs.Common.{◌≡◌, ◌∙◌, ◌+◌, ◌<◌, ◌≤◌, ◌++◌, ◌∷◌, Bool, List, None, Option, Some, [], ap, false, get_or, inl, inr, length, refl, subst, sym, take, true, ℕ}
+use Rattle.std.proofs.Common.{◌≡◌, ◌∙◌, ◌+◌, ◌<◌, ◌≤◌, ◌++◌, ◌∷◌, Bool, List, None, Option, [], ap, false, get_or, inl, inr, length, refl, subst, sym, take, true, ℕ}
 use Rattle.std.proofs.lemmas.Bool.{and_parts, cases_Bool, eqb-true, false≢true}
 use Rattle.std.proofs.lemmas.List.{take_all, take_more}
-use Rattle.std.proofs.lemmas.List.Folds.{list_all_at}
-use Rattle.std.specs.List.{list_all}
 use Rattle.std.specs.Prelude.{MatchBool, slice_index_or, if◌then◌else◌, ◌&&◌, ◌==◌}
 use Rattle.xt_base.proofs.OneLemmas.{IsOneRun, one_breaks, one_moved, one_none, one_own, one_refused, one_taken, one_tells}
-use Rattle.xt_base.specs.Alone.{Said, Turn, alone, call, mount_refusals, on_mount, reason_of, unless_refused}
-use Rattle.xt_base.specs.Calls.{first_of}
+use Rattle.xt_base.specs.Alone.{Said, Turn, alone, reason_of}
 use Rattle.xt_base.specs.Isolation.{BreaksOne, TellsOne, Told, first_slot, is_no_memory, told_refused, told_taken, untold}
 use Rattle.xt_base.specs.Order.{suits}
 use Rattle.xt_base.specs.Own.{IsOwnOf}
-use Rattle.xt_base.specs.State.{Lone, State, empty}
+use Rattle.xt_base.specs.State.{Lone, empty}
 use Rattle.xt_base.specs.Steps.{slot_of}
-use Rattle.xt_base.specs.Turns.{can_step, hand_after, keeps_turn}
-use Rattle.xt_base.specs.declared.steps.Answer.{Answer}
-use Rattle.xt_base.specs.declared.steps.Errno.{Errno}
+use Rattle.xt_base.specs.Turns.{can_step, hand_after, keeps_turn, queue_after}
 use Rattle.xt_base.specs.declared.steps.HomeOffer.{HomeOffer}
 use Rattle.xt_base.specs.declared.steps.LogOffer.{LogOffer}
 use Rattle.xt_base.specs.declared.steps.Reason.{Reason}
 use Rattle.xt_base.specs.declared.steps.Reply.{Reply}
-use Rattle.xt_base.specs.declared.steps.Request.{Request}
 use Rattle.xt_base.specs.declared.steps.Step.{Step}
-use Rattle.xt_base.specs.declared.steps.Step.TheVariants.{Begin, Call, End, Flush, Mount, Peek, Post, Show, Take}
-use Rattle.xt_mount.specs.Solo.{IsKept, IsMore, IsRefused, IsServed, IsServedUnlessMemory, IsStepped, IsTaken, hand_of, lone_of, step_has_come}
+use Rattle.xt_mount.specs.Solo.{IsKept, IsMore, IsRefused, IsServed, IsServedUnlessMemory, IsStepped, IsTaken, IsTurned, hand_of, lone_of, with_lone}
 use Rattle.xt_mount.specs.declared.solo.Solo.{Solo}
-
--- ---- what a step offers to the home device
-home_unless : (r : Option Errno) (s : Lone) (t : Turn) → t.home ≡ [] → (unless_refused r s t).home ≡ []
-home_unless None s t h = h
-home_unless (Some e) s t h = refl
-
-home_either : (b : Bool) (x y : Turn) → x.home ≡ [] → y.home ≡ [] → (if b then x else y).home ≡ []
-home_either true x y hx hy = hx
-home_either false x y hx hy = hy
-
-home_call : (life : ℕ) (request : Request) (answer : Answer) (s : Lone) (o : Option State) → (call [] life request answer s o).home ≡ []
-home_call life request answer s None = refl
-home_call life request answer s (Some m) = home_either (m.life == life) _ _ refl refl
-
-home_on : (o : Option State) (s : Lone) (f : State → Turn) → ((m : State) → (f m).home ≡ []) → (on_mount o s f).home ≡ []
-home_on None s f h = refl
-home_on (Some m) s f h = h m
-
--- but for a flush, nothing
-pub home_none : (x : Step) (s : Lone) → step_has_come x ≡ true → (alone x s).home ≡ []
-home_none (Mount slot log_bytes blocks) s came = home_unless (first_of (mount_refusals log_bytes blocks s)) s _ refl
-home_none (Call slot life request answer) s came = home_call life request answer s s.mounted
-home_none (Post name) s came = home_on s.mounted s _ (λ m. refl)
-home_none (Take worker name) s came = refl
-home_none (Begin worker name) s came = home_on s.mounted s _ (λ m. refl)
-home_none (End worker name answers) s came = home_on s.mounted s _ (λ m. refl)
-home_none (Flush worker name answers) s came = absurd (false≢true came)
-home_none (Show slot) s came = refl
-home_none (Peek slot) s came = refl
 
 -- ---- a step
 said : ℕ → Reply → List LogOffer → List HomeOffer → Said
@@ -76,6 +40,30 @@ pub to_false : (b : Bool) (P Q : Type 0) → b ≡ false → Q → MatchBool b P
 to_false true P Q e h = absurd (false≢true (sym e))
 to_false false P Q e h = h
 
+-- a step's turn came about, and it left the queue
+pub turned_step : (x : Step) (r : Reply) (new old : Solo) → queue_after x old.queue.items ≡ old.queue.items → IsTurned (alone x (lone_of old)) r new old → IsServedUnlessMemory x r new old
+turned_step x r new old kept turned =
+    let t : Turn = alone x (lone_of old) in
+    elim (cases_Bool (is_no_memory r)) [
+      | inl refused ↦
+          let same : new ≡ old = by_true (is_no_memory r) (new ≡ old) ((r ≡ t.reply) × (new ≡ with_lone t.slot old)) refused turned in
+          to_true (is_no_memory r) (IsKept new old) (IsServed x r new old) refused (record {
+            slot = ap (λ (u : Solo). u.slot) same;
+            state = ap lone_of same;
+            queue = ap (λ (u : Solo). u.queue.items) same;
+            hands = ap (λ (u : Solo). u.hands) same;
+          })
+      | inr went ↦
+          let h = by_false (is_no_memory r) (new ≡ old) ((r ≡ t.reply) × (new ≡ with_lone t.slot old)) went turned in
+          to_false (is_no_memory r) (IsKept new old) (IsServed x r new old) went (record {
+            slot = ap (λ (u : Solo). u.slot) h.1;
+            reply = h.0;
+            state = ap lone_of h.1;
+            queue = ap (λ (u : Solo). u.queue.items) h.1 ∙ sym kept;
+            hands = ap (λ (u : Solo). u.hands) h.1;
+          })
+    ]
+
 -- a step that was refused memory
 pub refused_step : (x : Step) (r : Reply) (new old : Solo) → slot_of x ≡ old.slot → is_no_memory r ≡ true → IsServedUnlessMemory x r new old
     → IsStepped x (record { slot = new.slot; reply = r; log = []; home = [] }) new old
@@ -85,17 +73,17 @@ refused_step x r new old here refused served =
     (record { kept = kept; place = kept.slot ∙ sym here; log = refl; home = refl })
 
 -- a step that was taken
-pub taken_step : (x : Step) (r : Reply) (log : List LogOffer) (mid new old : Solo) → slot_of x ≡ old.slot → step_has_come x ≡ true → is_no_memory r ≡ false → IsServedUnlessMemory x r mid old
-    → ((w : ℕ) → hand_of new w ≡ hand_after x r w (hand_of mid w)) → new ≡ record mid { hands = new.hands } → log ≡ (alone x (lone_of old)).log
-    → IsStepped x (record { slot = new.slot; reply = r; log = log; home = [] }) new old
+pub taken_step : (x : Step) (r : Reply) (log : List LogOffer) (home : List HomeOffer) (mid new old : Solo) → slot_of x ≡ old.slot → is_no_memory r ≡ false → IsServedUnlessMemory x r mid old
+    → ((w : ℕ) → hand_of new w ≡ hand_after x r w (hand_of mid w)) → new ≡ record mid { hands = new.hands } → log ≡ (alone x (lone_of old)).log → home ≡ (alone x (lone_of old)).home
+    → IsStepped x (record { slot = new.slot; reply = r; log = log; home = home }) new old
 unfolding said
-taken_step x r log mid new old here came went served hands passed offered =
-    let t : Said = record { slot = new.slot; reply = r; log = log; home = [] } in
+taken_step x r log home mid new old here went served hands passed logged wrote =
+    let t : Said = record { slot = new.slot; reply = r; log = log; home = home } in
     let s : IsServed x r mid old = by_false (is_no_memory r) (IsKept mid old) (IsServed x r mid old) went served in
     let place : new.slot ≡ old.slot = ap (λ (u : Solo). u.slot) passed ∙ s.slot in
-    let told : said new.slot r log [] ≡ said (slot_of x) (alone x (lone_of old)).reply (alone x (lone_of old)).log (alone x (lone_of old)).home =
-    ap (λ n. said n r log []) (place ∙ sym here) ∙ ap (λ q. said (slot_of x) q log []) s.reply ∙ ap (λ l. said (slot_of x) (alone x (lone_of old)).reply l []) offered
-    ∙ ap (said (slot_of x) (alone x (lone_of old)).reply (alone x (lone_of old)).log) (sym (home_none x (lone_of old) came)) in
+    let told : said new.slot r log home ≡ said (slot_of x) (alone x (lone_of old)).reply (alone x (lone_of old)).log (alone x (lone_of old)).home =
+    ap (λ n. said n r log home) (place ∙ sym here) ∙ ap (λ q. said (slot_of x) q log home) s.reply ∙ ap (λ l. said (slot_of x) (alone x (lone_of old)).reply l home) logged
+    ∙ ap (said (slot_of x) (alone x (lone_of old)).reply (alone x (lone_of old)).log) wrote in
     let taken : IsTaken x t new old = record {
       slot = place;
       said = told;
@@ -139,14 +127,6 @@ may_come b solo x is yes_ =
       can = parts.1;
       suit = (and_parts (keeps_turn solo.queue.items (hand_of solo) x) (suits x (lone_of solo)) parts.1).1;
     }
-
--- what each element passes, the one at a place does
-pub passes_at : {X : Type 0} (p : X → Bool) (xs : List X) (i : ℕ) (x : X) → list_all p xs ≡ true → i < length xs → x ≡ get_or xs i x → p x ≡ true
-passes_at p xs i x all within is =
-    elim (cases_Bool (p (get_or xs i x))) [
-      | inl passes ↦ ap p is ∙ passes
-      | inr other ↦ absurd (false≢true (sym (list_all_at p xs i x within other) ∙ all))
-    ]
 
 module _ (steps : List Step) (at : ℕ) (solo : Solo) (o : Told) (r : IsRunning steps at solo o) where
   -- the slot's mount is its own

@@ -1,6 +1,6 @@
--- What a mount owes of the jobs that have come, and what is asked of its requests.
+-- What a mount owes, and what is asked of its requests.
 use Rattle.std.specs.Prelude.{ℕ, ◌+◌, ◌==◌, ◌||◌, List, [], ◌∷◌, Option, None, Some, Bool, true, false, nat_lt, if◌then◌else◌}
-use Rattle.xt_base.specs.Jobs.{is_ckpt, is_owed}
+use Rattle.xt_base.specs.Jobs.{is_owed}
 use Rattle.xt_base.specs.State.{State}
 use Rattle.xt_base.specs.declared.names.JobKind.{JobKind}
 use Rattle.xt_base.specs.declared.names.JobName.{JobName}
@@ -27,10 +27,6 @@ new_refusals last log_bytes blocks =
 -- the name of a job that is owed
 abbrev pub owed_name : JobKind → State → Option JobName
 owed_name kind s = if is_owed kind s then Some (record { slot = s.slot; life = s.life; kind = kind; serial = s.jobs.last_serial + 1 }) else None
-
--- of the jobs that have come, checkpoints alone
-abbrev pub owed_now : JobKind → State → Option JobName
-owed_now kind s = if is_ckpt kind then owed_name kind s else None
 
 -- the block that a read names
 abbrev pub read_block : Request → Option ℕ

@@ -1,6 +1,6 @@
 -- The end of a leg, part by part.
-use Rattle.std.specs.Prelude.{Bool, List, None, Option, Some, [], filter, if◌then◌else◌, not, ◌∷◌, ℕ}
-use Rattle.xt_base.specs.Legs.{is_lost, is_stale, with_edit, with_edits, with_lost, with_marks}
+use Rattle.std.specs.Prelude.{Bool, List, None, Option, Some, filter, if◌then◌else◌, not, ◌∷◌, ℕ}
+use Rattle.xt_base.specs.Legs.{is_lost, is_stale, with_edits, with_lost, with_marks}
 use Rattle.xt_base.specs.Maps.{has, with_member}
 use Rattle.xt_base.specs.State.{Change, Frames, Leg}
 use Rattle.xt_base.specs.declared.steps.Owner.{Owner}

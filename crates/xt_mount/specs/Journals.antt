@@ -1,10 +1,11 @@
 -- A journal: the size of the log, the open transactions, and the item lists.
 use Rattle.std.specs.Prelude.{ℕ, List, [], None, Some, ◌+◌, sum_by}
-use Rattle.xt_base.specs.Jobs.{landed_items}
+use Rattle.xt_base.specs.Jobs.{cleaned, landed_items}
 use Rattle.xt_base.specs.Legs.{clean_leg, with_marks}
 use Rattle.xt_base.specs.Maps.{put, set_at, without}
 use Rattle.xt_base.specs.Space.{cost, flight_items, granted}
 use Rattle.xt_base.specs.State.{Flight, Items, Leg, Transaction}
+use Rattle.xt_items.specs.Lists.{Lists}
 use Rattle.xt_resv.specs.Ledgers.{Grant}
 
 -- the log bytes, the open transactions by number, and the lists
@@ -52,3 +53,11 @@ flown_in ps j = record j { items = record j.items { open_number = j.items.open_n
 -- the flight has landed
 abbrev pub landed_in : Flight → Pages → Pages
 landed_in f j = record j { items = landed_items f j.items }
+
+-- the lists without what landed checkpoints cost
+abbrev pub lists_in : Pages → Lists
+lists_in j = record { open_number = j.items.open_number; cil = j.items.cil; flight = j.items.flight; ail = j.items.ail }
+
+-- these blocks were written home
+abbrev pub cleaned_in : List ℕ → Pages → Pages
+cleaned_in blocks j = record j { items = cleaned blocks j.items }

@@ -1,9 +1,8 @@
 -- One slot and its workers: the state of the slot, the hands, and what a step makes of them.
-use Rattle.std.specs.Prelude.{Bool, List, MatchBool, None, Option, Some, [], false, if◌then◌else◌, slice_index_or, true, ℕ, ◌<◌, ◌==◌, ◌≡◌}
+use Rattle.std.specs.Prelude.{Bool, List, MatchBool, None, Option, Some, [], if◌then◌else◌, slice_index_or, ℕ, ◌<◌, ◌==◌, ◌≡◌}
 use Rattle.xt_base.specs.Alone.{Said, Turn, alone, reason_of, said_of, turn}
 use Rattle.xt_base.specs.Calls.{Outcome, alone_with}
 use Rattle.xt_base.specs.Isolation.{BreaksOne, Told, is_no_memory, told_then}
-use Rattle.xt_base.specs.Jobs.{is_ckpt}
 use Rattle.xt_base.specs.State.{Lone, State}
 use Rattle.xt_base.specs.Steps.{slot_of}
 use Rattle.xt_base.specs.Turns.{hand_after, queue_after}
@@ -16,7 +15,6 @@ use Rattle.xt_base.specs.declared.steps.Reply.{Reply}
 use Rattle.xt_base.specs.declared.steps.Reply.TheVariants.{Refused}
 use Rattle.xt_base.specs.declared.steps.Request.{Request}
 use Rattle.xt_base.specs.declared.steps.Step.{Step}
-use Rattle.xt_base.specs.declared.steps.Step.TheVariants.{Begin, Call, End, Flush, Mount, Peek, Post, Show, Take}
 use Rattle.xt_mount.specs.declared.solo.Solo.{Solo}
 
 -- the slot's state
@@ -30,18 +28,6 @@ hand_of s w = slice_index_or s.hands w None
 -- the slot with another state
 abbrev pub with_lone : Lone → Solo → Solo
 with_lone l s = record s { last_life = l.last_life; seen_life = l.seen_life; seen_reason = l.seen_reason; mount = l.mounted }
-
--- the steps that have come so far: no flush, and no post of one
-abbrev pub step_has_come : Step → Bool
-step_has_come (Mount slot log_bytes blocks) = true
-step_has_come (Call slot life request answer) = true
-step_has_come (Post name) = is_ckpt name.kind
-step_has_come (Take worker name) = true
-step_has_come (Begin worker name) = true
-step_has_come (End worker name answers) = true
-step_has_come (Flush worker name answers) = false
-step_has_come (Show slot) = true
-step_has_come (Peek slot) = true
 
 -- the turn came about, or it was refused memory and nothing changed
 abbrev pub IsTurned : Turn → Reply → Solo → Solo → Type 0

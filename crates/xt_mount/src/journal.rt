@@ -1,15 +1,16 @@
 //! The journal of a mount: its open transactions with their tickets, its item lists, and the log space that both use.
 
-ghost use Rattle.std.specs.Prelude.{◌≡◌, ◌+◌, ◌*◌, ◌≤◌, ◌<◌, ◌||◌, [], Some, None, false, true, is_none, is_some, length, nat_le, nat_lt, not, IfOk, IfSome, OnOk, OnErr, option_copied};
+ghost use Rattle.std.specs.Prelude.{◌≡◌, ◌+◌, ◌*◌, ◌≤◌, ◌<◌, ◌||◌, [], Some, None, false, true, is_none, is_some, length, nat_le, nat_lt, not, ◌==◌, IfOk, IfSome, OnOk, OnErr, option_copied};
 ghost use Rattle.xt_base.specs.Calls.{edited, invalidated, legs_after, new_trans, without_hold};
-ghost use Rattle.xt_base.specs.Jobs.{flight_pieces, landed_items};
+ghost use Rattle.xt_base.specs.Jobs.{fits_plan, flight_pieces, gone};
 ghost use Rattle.xt_base.specs.Legs.{with_marks};
 ghost use Rattle.xt_base.specs.Maps.{at, has, is_in, with_member};
 ghost use Rattle.xt_base.specs.Sound.{AllBelow, IsRising};
 ghost use Rattle.xt_base.specs.Space.{charge, cost, flight_items, granted, is_listed};
 ghost use Rattle.xt_mount.specs.Ending.{edits_kept, leg_lost};
-ghost use Rattle.xt_mount.specs.Journals.{closed_in, flown_in, landed_in, legs_in, marked_in, no_pages, opened_in, releg, used_in};
+ghost use Rattle.xt_mount.specs.Journals.{cleaned_in, closed_in, flown_in, landed_in, legs_in, lists_in, marked_in, no_pages, opened_in, releg, used_in};
 ghost use Rattle.xt_items.specs.Lists.{flight_number};
+ghost use Rattle.xt_items.specs.Plans.{due, planned};
 ghost use Rattle.xt_resv.specs.Ledgers.{is_invalid, is_no_room};
 ghost use Rattle.xt_resv.specs.Mounts.{grant_of, ledger};
 
@@ -22,7 +23,11 @@ use std::marker::Model;
 use xt_base::chunks::Chunks;
 use xt_base::content::Content;
 use xt_base::map::NumberMap;
+use xt_base::names::Block;
+use xt_base::steps::HomeAnswers;
 use xt_items::items::Items;
+use xt_items::plan::FlushPlan;
+use xt_locks::locks::Locks;
 use xt_resv::space::LogSpace;
 use xt_trans::trans::TransRec;
 
@@ -415,4 +420,39 @@ impl Journal {
         self.items.fail();
         self.space.fail();
     }
+
+    // ---- flushes
+    /// The blocks that a flush writes home: the first 8 of the active list, in the order of (number, block), that are neither
+    /// committed nor in flight and that nobody owns. It takes no memory.
+    pub fn flush_plan(&self, locks: &Locks) -> FlushPlan
+        ensures { result ≡ planned (λ b. is_in b locks.now) (lists_in self.now) }
+    {
+        self.items.flush_plan(&|block| is_owned(locks, block))
+    }
+
+    /// Whether a flush has something to write.
+    pub fn has_due(&self, locks: &Locks) -> bool
+        ensures { result ≡ not (length (due (λ b. is_in b locks.now) (lists_in self.now)) == 0) }
+    {
+        self.items.has_due(&|block| is_owned(locks, block))
+    }
+
+    /// A flush of this plan was answered so: where the sync was Ok, the blocks whose write was Ok leave the active list, and landed
+    /// checkpoints that nothing needs any more leave the log. How many blocks they are. It takes no memory.
+    pub fn flush_done(&mut self, plan: &FlushPlan, answers: &HomeAnswers) -> u32
+        requires { fits_plan answers.now plan.now ≡ true }
+        ensures count { result ≡ length (gone plan.now answers.now) }
+        ensures pages { self.new ≡ cleaned_in (gone plan.now answers.now) self.old }
+    {
+        let count = self.items.flush_done(plan, answers);
+        self.space.tail(self.items.least());
+        count
+    }
+}
+
+/// Whether somebody owns a block.
+fn is_owned(locks: &Locks, block: u64) -> bool
+    ensures { result ≡ is_in block locks.now }
+{
+    locks.is_locked(Block(block))
 }

@@ -4,6 +4,7 @@
 mod alloc;
 mod ckpt;
 mod commit;
+mod flush;
 mod force;
 mod frames;
 mod fresh;

@@ -1,13 +1,14 @@
 //! One mount: each call and each job is one step of the machine of one mount.
 
-ghost use Rattle.std.specs.Prelude.{◌≡◌, ◌+◌, ◌⊎◌, [], None, Some, true, length, is_some, IfOk, IfErr, IfSome, if◌then◌else◌};
+ghost use Rattle.std.specs.Prelude.{◌≡◌, ◌+◌, ◌⊎◌, [], None, Some, Ok, false, true, length, is_some, option_copied, IfOk, IfErr, IfSome, if◌then◌else◌};
 ghost use Rattle.xt_base.specs.Alone.{IsCallUnlessMemory};
 ghost use Rattle.xt_base.specs.Calls.{alone_with, asks, first_of, gives};
-ghost use Rattle.xt_base.specs.Jobs.{begin as begin_step, end as end_step, fits_pieces, flight_pieces, is_begun, is_ckpt, is_waiting, posted as posted_state};
+ghost use Rattle.xt_base.specs.Jobs.{begin as begin_step, end as end_step, fits_pieces, fits_plan, flight_pieces, flush as flush_step, flush_plan, is_begun, is_ckpt, is_waiting, posted as posted_state};
+ghost use Rattle.xt_base.specs.Maps.{at};
 ghost use Rattle.xt_base.specs.Order.{is_there};
 ghost use Rattle.xt_base.specs.State.{mount_of};
 ghost use Rattle.xt_base.specs.declared.steps.Errno.TheVariants.{NoMemory};
-ghost use Rattle.xt_mount.specs.Come.{new_refusals, owed_now, read_block};
+ghost use Rattle.xt_mount.specs.Come.{new_refusals, owed_name, read_block};
 ghost use Rattle.xt_mount.specs.Stages.{stage_of};
 
 use crate::machine::Machine;
@@ -15,7 +16,8 @@ use bytes::Bytes;
 use std::alloc::Global;
 use std::marker::Model;
 use xt_base::names::{Block, JobKind, JobName, Life, Slot};
-use xt_base::steps::{Answer, Errno, LogAnswers, Reason, Reply, Request};
+use xt_base::steps::{Answer, Errno, HomeAnswers, LogAnswers, Reason, Reply, Request};
+use xt_items::plan::FlushPlan;
 
 /// The least and the greatest size of a log, in bytes.
 const LOG_BYTES: (u32, u32) = (65_536, 16_777_216);
@@ -128,18 +130,17 @@ impl Mount {
         self.serve(&request, &answer)
     }
 
-    /// The next job of a kind, if the mount owes one: a checkpoint, where it is live, nothing is in flight, something
-    /// is committed, and a checkpoint was asked or the commit list costs an eighth of the log. No flush is
-    /// owed yet: none can be run.
+    /// The next job of a kind, if the mount is live and owes one: a checkpoint, where nothing is in flight, something
+    /// is committed, and a checkpoint was asked or the commit list costs an eighth of the log; a flush, where one was asked.
     pub fn owed(&self, kind: JobKind) -> Option<JobName>
-        ensures { result ≡ owed_now kind self.now }
+        ensures { result ≡ owed_name kind self.now }
     {
         self.machine.owed(kind)
     }
 
-    /// A job that is owed was posted: it is outstanding until its end, or a begin that finds nothing to do.
+    /// A job that is owed was posted: it is outstanding until its end, its flush, or a begin that finds nothing to do.
     pub fn posted(&mut self, name: JobName)
-        requires { owed_now name.kind self.old ≡ Some name }
+        requires { owed_name name.kind self.old ≡ Some name }
         ensures { self.new ≡ posted_state name.kind self.old }
     {
         self.machine.jobs.posted(name);
@@ -175,5 +176,39 @@ impl Mount {
     {
         let _name = name;
         self.machine.end(answers)
+    }
+
+    /// The blocks that a flush writes home now, 0 to 8, in the order of their writes (`xfsaild_push`): those of the active list
+    /// with the least (number, block) that are neither committed nor in flight and that nobody owns. A plan of no block, as on
+    /// a shut mount, means that nothing is offered. It takes no memory and is never refused.
+    pub fn flush_plan(&self) -> Result<FlushPlan, Errno>
+        ensures { result ≡ Ok (flush_plan self.now) }
+    {
+        Ok(self.machine.flush_plan())
+    }
+
+    /// The committed content of a block, 4,096 bytes: what a flush writes home. None where the mount keeps none, as of a block
+    /// that is not busy.
+    pub fn committed(&self, block: Block) -> Option<&[u8]>
+        ensures value { option_copied result ≡ at block self.now.frames.committed }
+        ensures whole { IfSome result (λ bytes. length bytes.now ≡ 4096) }
+    {
+        match self.machine.frames.content(block.0) {
+            Some(content) => Some(content.bytes()),
+            None => None,
+        }
+    }
+
+    /// Ends an outstanding flush by what the home device answered to each write of its plan, and to the sync that follows. Where
+    /// the sync was Ok, the blocks whose write was Ok leave the active list; where all was Ok and a block is left that may be
+    /// written, a flush is asked again. `Nothing` where the plan has no block, else how many blocks left. It takes no memory.
+    pub fn flush(&mut self, name: JobName, answers: HomeAnswers) -> Reply
+        requires waiting { is_waiting name self.old ≡ true }
+        requires kind { is_ckpt name.kind ≡ false }
+        requires fits { fits_plan answers (flush_plan self.old) ≡ true }
+        ensures { gives result self.new ≡ flush_step [] answers self.old }
+    {
+        let _name = name;
+        self.machine.flush(&answers)
     }
 }

@@ -1,15 +1,18 @@
-//! What the end of a checkpoint offered to the log device.
+//! What the end of a checkpoint offered to the log device, and what a flush offered to the home device.
 
 ghost use Rattle.std.specs.Prelude.{◌≡◌, ◌≤◌, true, length, IfOk};
-ghost use Rattle.xt_base.specs.Jobs.{fits_pieces};
+ghost use Rattle.xt_base.specs.Jobs.{fits_pieces, fits_plan, flush_offers, flush_plan, writes};
 ghost use Rattle.xt_base.specs.Own.{AreShort};
-ghost use Rattle.xt_base.specs.Text.{log_offers_of, offered};
+ghost use Rattle.xt_base.specs.Text.{content_at, log_offers_of, offered};
+ghost use Rattle.xt_base.specs.declared.steps.HomeOffer.{HomeOffer as AHomeOffer};
 ghost use Rattle.xt_base.specs.declared.steps.LogOffer.{LogOffer as AnOffer};
 
+use crate::mount::Mount;
 use bytes::Bytes;
 use std::alloc::{AllocError, Global};
-use xt_base::content::Data;
-use xt_base::steps::{LogAnswers, LogOffer};
+use xt_base::content::{Content, Data};
+use xt_base::names::Block;
+use xt_base::steps::{HomeAnswers, HomeOffer, LogAnswers, LogOffer};
 
 /// The offer of a piece, which is copied.
 fn piece_offer(alloc: Global, piece: &Bytes, ok: bool) -> Result<LogOffer, AllocError>
@@ -53,5 +56,69 @@ pub fn log_offers(
         None => piece_offer(alloc, &pieces[taken], false)?,
     };
     offers.push(last)?;
+    Ok(offers)
+}
+
+/// A copy of what a mount has committed of a block; zeros where it keeps nothing.
+fn committed_copy(alloc: Global, mount: &Mount, block: Block) -> Result<Content, AllocError>
+    ensures { IfOk result (λ content. content ≡ content_at block mount.now.frames.committed) }
+{
+    let Some(bytes) = mount.committed(block) else {
+        return Content::zeros(alloc);
+    };
+    match Content::of(bytes.to_vec(alloc)?) {
+        Ok(content) => Ok(content),
+        Err(_) => unreachable!(),
+    }
+}
+
+/// The offer of a write, with its answer.
+fn write_offer(
+    alloc: Global,
+    mount: &Mount,
+    block: Block,
+    ok: bool,
+) -> Result<HomeOffer, AllocError>
+    ensures { IfOk result (λ offer. offer ≡ AHomeOffer.Write block (content_at block mount.now.frames.committed) ok) }
+{
+    let content = committed_copy(alloc, mount, block)?;
+    Ok(HomeOffer::Write { block, content, ok })
+}
+
+/// The offers of writes of these blocks, each with its answer, whatever the answers before it were.
+fn write_offers(
+    alloc: Global,
+    mount: &Mount,
+    blocks: &[Block],
+    answers: &[bool],
+) -> Result<Vec<HomeOffer>, AllocError>
+    requires { length answers.now ≡ length blocks.now }
+    ensures { IfOk result (λ offers. offers.items ≡ writes mount.now.frames.committed blocks.now answers.now) }
+{
+    let mut offers = Vec::new(alloc);
+    for (i, block) in blocks.iter().enumerate() {
+        offers.push(write_offer(alloc, mount, *block, answers[i])?)?;
+    }
+    Ok(offers)
+}
+
+/// What a flush offered to the home device, by its answers: each write of its plan with the block's committed content, and then,
+/// where something was written, the sync. The contents are copied; the one error is want of memory.
+pub fn home_offers(
+    alloc: Global,
+    answers: &HomeAnswers,
+    mount: &Mount,
+) -> Result<Vec<HomeOffer>, AllocError>
+    requires { fits_plan answers.now (flush_plan mount.now) ≡ true }
+    ensures { IfOk result (λ offers. offers.items ≡ flush_offers answers.now mount.now) }
+{
+    let Ok(plan) = mount.flush_plan() else {
+        unreachable!();
+    };
+    let count = plan.blocks().len();
+    let mut offers = write_offers(alloc, mount, plan.blocks(), &answers.writes[..count])?;
+    if count > 0 {
+        offers.push(HomeOffer::Sync { ok: answers.sync })?;
+    }
     Ok(offers)
 }

@@ -1,30 +1,17 @@
 //! The run of one slot over a list of steps.
 
 ghost use Rattle.std.specs.Prelude.{◌≡◌, ◌<◌, true, IfOk, IfErr, OnOk};
-ghost use Rattle.std.specs.List.{list_all};
 ghost use Rattle.xt_base.specs.Alone.{reason_of};
 ghost use Rattle.xt_base.specs.Isolation.{told_then, TellsOne};
 ghost use Rattle.xt_base.specs.Order.{suits};
 ghost use Rattle.xt_base.specs.Own.{IsOwnOf};
 ghost use Rattle.xt_base.specs.Steps.{slot_of};
-ghost use Rattle.xt_mount.specs.Solo.{lone_of, step_has_come, IsFaultOne, IsMore};
+ghost use Rattle.xt_mount.specs.Solo.{lone_of, IsFaultOne, IsMore};
 
 use crate::solo::{Solo, is_no_memory};
 use std::alloc::{AllocError, Global};
-use xt_base::names::JobKind;
 use xt_base::outcomes::{Outcomes, RunFault, Turn};
 use xt_base::steps::{Reason, Step};
-
-/// Whether a step has come so far: of the posts those of checkpoints, and no flush.
-pub fn has_come(step: &Step) -> bool
-    ensures { result ≡ step_has_come step.now }
-{
-    match step {
-        Step::Post(name) => matches!(name.kind, JobKind::Ckpt),
-        Step::Flush { .. } => false,
-        _ => true,
-    }
-}
 
 /// Notes a turn, and why its slot is shut then. The one error is want of memory.
 fn note(outcomes: &mut Outcomes, turn: Turn, reason: Option<Reason>) -> Result<(), AllocError>
@@ -43,7 +30,6 @@ fn note(outcomes: &mut Outcomes, turn: Turn, reason: Option<Reason>) -> Result<(
 
 /// Takes a step that may come, and notes its turn.
 fn advance(solo: &mut Solo, outcomes: &mut Outcomes, step: &Step) -> Result<(), AllocError>
-    requires came { step_has_come step.now ≡ true }
     requires slot { slot_of step.now ≡ solo.old.slot }
     requires own { IsOwnOf solo.old.slot (lone_of solo.old) }
     requires suit { suits step.now (lone_of solo.old) ≡ true }
@@ -58,7 +44,6 @@ fn advance(solo: &mut Solo, outcomes: &mut Outcomes, step: &Step) -> Result<(), 
 /// after those before it, with its place from 0 and what was told before it; `Memory` where a turn or a copy of an
 /// offer found no memory.
 pub fn run_one(alloc: Global, steps: &[Step]) -> Result<Outcomes, RunFault>
-    requires { list_all step_has_come steps.now ≡ true }
     ensures ok { IfOk result (λ o. TellsOne steps.now o) }
     ensures fault { IfErr result (IsFaultOne steps.now) }
 {

@@ -1,11 +1,11 @@
 //! Requests and jobs, each to the method that serves it.
 
-ghost use Rattle.std.specs.Prelude.{◌≡◌, [], true, IfOk, OnErr};
+ghost use Rattle.std.specs.Prelude.{◌≡◌, ◌/◌, [], true, if◌then◌else◌, IfOk, OnErr};
 ghost use Rattle.xt_base.specs.Calls.{alone_with, gives};
-ghost use Rattle.xt_base.specs.Jobs.{is_ckpt, is_owed, is_worth};
+ghost use Rattle.xt_base.specs.Jobs.{is_ckpt, is_owed, is_wanted, is_worth};
 ghost use Rattle.xt_base.specs.Sound.{IsSound};
 ghost use Rattle.xt_base.specs.declared.steps.Answer.{Answer as AnyAnswer};
-ghost use Rattle.xt_mount.specs.Come.{is_of_mount, owed_now};
+ghost use Rattle.xt_mount.specs.Come.{is_of_mount, owed_name};
 ghost use Rattle.xt_mount.specs.Machines.{state_of};
 ghost use Rattle.xt_mount.specs.Stages.{stage_of};
 
@@ -72,25 +72,42 @@ impl Machine {
             && least <= self.journal.cil_cost()
     }
 
-    /// Whether a live mount owes a checkpoint.
-    fn is_ckpt_owed(&self) -> bool
-        ensures { result ≡ is_owed JobKind.Ckpt (state_of self.now) }
+    /// The least cost of a commit list that is to be written: any, where a checkpoint was asked, else an eighth of the log.
+    fn least_cost(&self) -> u64
+        ensures { result ≡ (if (state_of self.now).jobs.asked_ckpt then 0 else (state_of self.now).log_bytes / 8) }
     {
-        let least = if self.jobs.asked(JobKind::Ckpt) {
+        if self.jobs.asked(JobKind::Ckpt) {
             0
         } else {
             u64::from(self.journal.log_bytes() / 8)
-        };
-        !self.is_shut() && self.is_worth(least) && self.jobs.next(JobKind::Ckpt).is_some()
+        }
     }
 
-    /// The next job of a kind, if the mount owes one; no flush is owed yet.
-    pub fn owed(&self, kind: JobKind) -> Option<JobName>
-        ensures { result ≡ owed_now kind (state_of self.now) }
+    /// Whether a job of a kind is wanted.
+    fn is_wanted(&self, kind: JobKind) -> bool
+        ensures { result ≡ is_wanted kind (state_of self.now) }
     {
         match kind {
-            JobKind::Ckpt if self.is_ckpt_owed() => self.jobs.next(kind),
-            _ => None,
+            JobKind::Ckpt => self.is_worth(self.least_cost()),
+            JobKind::Flush => self.jobs.asked(JobKind::Flush),
+        }
+    }
+
+    /// Whether a live mount owes a job of a kind.
+    fn is_owed(&self, kind: JobKind) -> bool
+        ensures { result ≡ is_owed kind (state_of self.now) }
+    {
+        !self.is_shut() && self.is_wanted(kind) && self.jobs.next(kind).is_some()
+    }
+
+    /// The next job of a kind, if the mount owes one.
+    pub fn owed(&self, kind: JobKind) -> Option<JobName>
+        ensures { result ≡ owed_name kind (state_of self.now) }
+    {
+        if self.is_owed(kind) {
+            self.jobs.next(kind)
+        } else {
+            None
         }
     }
 

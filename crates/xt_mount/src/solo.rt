@@ -1,10 +1,10 @@
 //! One slot and its workers: the mount if there is one, what the board shows of it, the queue of posted names, and
 //! the names in the workers' hands.
 
-ghost use Rattle.std.specs.Prelude.{◌≡◌, ◌==◌, ◌&&◌, ◌++◌, ◌∷◌, ℕ, length, [], None, true, if◌then◌else◌, is_none, option_to_list, slice_index_or, IfOk, OnOk, OnErr};
+ghost use Rattle.std.specs.Prelude.{◌≡◌, ◌==◌, ◌&&◌, ◌++◌, ◌∷◌, ℕ, length, [], None, false, true, if◌then◌else◌, is_none, option_to_list, slice_index_or, IfOk, OnOk, OnErr};
 ghost use Rattle.xt_base.specs.Alone.{alone, call as call_step, goes_on, is_okay, mount as mount_step, on_mount, reason_of, shown};
 ghost use Rattle.xt_base.specs.Calls.{is_unmount};
-ghost use Rattle.xt_base.specs.Jobs.{begin as begin_step, end as end_step, end_offers, fits_pieces, flight_pieces, is_begun, is_ckpt, is_owed_as, is_waiting};
+ghost use Rattle.xt_base.specs.Jobs.{begin as begin_step, end as end_step, end_offers, fits_pieces, fits_plan, flight_pieces, flush as flush_step, flush_offers, flush_plan, is_begun, is_ckpt, is_owed_as, is_waiting};
 ghost use Rattle.xt_base.specs.Isolation.{is_no_memory};
 ghost use Rattle.xt_base.specs.Order.{has_in_hand, is_answer, is_first, is_nothing, is_there, mount_is, of_life, same_kind, same_name, suits};
 ghost use Rattle.xt_base.specs.Own.{IsOwnOf};
@@ -12,15 +12,17 @@ ghost use Rattle.xt_base.specs.State.{empty};
 ghost use Rattle.xt_base.specs.Steps.{slot_of};
 ghost use Rattle.xt_base.specs.Turns.{can_step, hand_after, held_in, keeps_turn};
 ghost use Rattle.xt_base.specs.declared.steps.Step.{Step as AStep};
-ghost use Rattle.xt_mount.specs.Solo.{answered_turn, hand_of, lone_of, step_has_come, with_lone, IsServedUnlessMemory, IsStepped, IsTurned};
+ghost use Rattle.xt_mount.specs.Solo.{answered_turn, hand_of, lone_of, with_lone, IsServedUnlessMemory, IsStepped, IsTurned};
 
 use crate::mount::{Mount, Stage};
-use crate::offers::log_offers;
+use crate::offers::{home_offers, log_offers};
 use std::alloc::{AllocError, Global};
 use std::collections::VecDeque;
 use xt_base::names::{JobKind, JobName, Life, Slot, Worker};
 use xt_base::outcomes::Turn;
-use xt_base::steps::{Answer, Errno, LogAnswers, LogOffer, Reason, Reply, Request, Step};
+use xt_base::steps::{
+    Answer, Errno, HomeAnswers, HomeOffer, LogAnswers, LogOffer, Reason, Reply, Request, Step,
+};
 
 /// A slot with its workers.
 #[derive(Debug, Drop)]
@@ -99,6 +101,16 @@ fn fits_pieces(answers: &LogAnswers, pieces: usize) -> bool
         taken == pieces
     } else {
         taken < pieces
+    }
+}
+
+/// Whether each write of a mount's plan was answered.
+fn fits_plan(answers: &HomeAnswers, mount: &Mount) -> bool
+    ensures { result ≡ fits_plan answers.now (flush_plan mount.now) }
+{
+    match mount.flush_plan() {
+        Ok(plan) => answers.count == plan.count(),
+        Err(_) => unreachable!(),
     }
 }
 
@@ -206,9 +218,8 @@ impl Solo {
         }
     }
 
-    /// Whether a checkpoint of this name is owed.
+    /// Whether a job of this name is owed.
     fn is_owed(&self, name: &JobName) -> bool
-        requires { is_ckpt name.now.kind ≡ true }
         ensures { result ≡ mount_is (is_owed_as name.now) self.now.mount }
     {
         match &self.mount {
@@ -243,9 +254,20 @@ impl Solo {
         }
     }
 
+    /// Whether a flush is outstanding, and the answers have the shape of its plan.
+    fn fits_flush(&self, name: &JobName, answers: &HomeAnswers) -> bool
+        ensures { result ≡ mount_is (λ m. is_waiting name.now m && fits_plan answers.now (flush_plan m)) self.now.mount }
+    {
+        match &self.mount {
+            Some(mount) => {
+                matches!(mount.stage(name), Some(Stage::Waiting)) && fits_plan(answers, mount)
+            }
+            None => false,
+        }
+    }
+
     /// Whether the slot's state lets a step come.
     fn suits(&self, step: &Step) -> bool
-        requires { step_has_come step.now ≡ true }
         ensures { result ≡ suits step.now (lone_of self.now) }
     {
         match step {
@@ -265,14 +287,15 @@ impl Solo {
             Step::Post(name) => self.is_owed(name),
             Step::Begin { name, .. } => is_ckpt(name.kind) && self.is_waiting(name),
             Step::End { name, answers, .. } => self.fits_end(name, answers),
-            Step::Flush { .. } => unreachable!(),
+            Step::Flush { name, answers, .. } => {
+                !is_ckpt(name.kind) && self.fits_flush(name, answers)
+            }
             _ => true,
         }
     }
 
     /// Whether a step may come now: it names this slot, the queue and the hands let it come, and the slot's state does.
     pub fn can_take(&self, step: &Step) -> bool
-        requires { step_has_come step.now ≡ true }
         ensures { result ≡ ((slot_of step.now == self.now.slot) && can_step self.now.queue.items (hand_of self.now) (lone_of self.now) step.now) }
     {
         let may_come = self.keeps_turn(step) && self.suits(step);
@@ -357,6 +380,18 @@ impl Solo {
         }
     }
 
+    /// Ends a flush. It takes no memory.
+    fn flush(&mut self, name: JobName, answers: HomeAnswers) -> Reply
+        requires kind { is_ckpt name.kind ≡ false }
+        requires fits { mount_is (λ m. is_waiting name m && fits_plan answers (flush_plan m)) self.old.mount ≡ true }
+        ensures { IsTurned (on_mount self.old.mount (lone_of self.old) (λ m. goes_on (flush_step [] answers m) [] (flush_offers answers m) (lone_of self.old))) result self.new self.old }
+    {
+        match &mut self.mount {
+            Some(mount) => mount.flush(name, answers),
+            None => unreachable!(),
+        }
+    }
+
     /// The board shows what the mount is; an empty slot leaves it.
     fn show(&mut self)
         ensures { self.new ≡ with_lone (shown self.old.mount (lone_of self.old)) self.old }
@@ -367,9 +402,8 @@ impl Solo {
         }
     }
 
-    /// A checkpoint that is owed is outstanding.
+    /// A job that is owed is outstanding.
     fn note_post(&mut self, name: &JobName)
-        requires kind { is_ckpt name.now.kind ≡ true }
         requires owed { mount_is (is_owed_as name.now) self.old.mount ≡ true }
         requires slot { name.now.slot ≡ self.old.slot }
         requires own { IsOwnOf self.old.slot (lone_of self.old) }
@@ -381,9 +415,8 @@ impl Solo {
         }
     }
 
-    /// Posts a checkpoint that is owed. Its name goes to the queue first: where that finds no memory, nothing changes.
+    /// Posts a job that is owed. Its name goes to the queue first: where that finds no memory, nothing changes.
     fn post(&mut self, name: &JobName) -> Reply
-        requires kind { is_ckpt name.now.kind ≡ true }
         requires owed { mount_is (is_owed_as name.now) self.old.mount ≡ true }
         requires slot { name.now.slot ≡ self.old.slot }
         requires own { IsOwnOf self.old.slot (lone_of self.old) }
@@ -400,7 +433,6 @@ impl Solo {
 
     /// Serves a step that may come: its reply, what it makes of the slot, and the queue after it.
     fn serve(&mut self, step: &Step) -> Reply
-        requires came { step_has_come step.now ≡ true }
         requires slot { slot_of step.now ≡ self.old.slot }
         requires own { IsOwnOf self.old.slot (lone_of self.old) }
         requires suit { suits step.now (lone_of self.old) ≡ true }
@@ -425,7 +457,7 @@ impl Solo {
             }
             Step::Begin { name, .. } => self.begin(*name),
             Step::End { name, answers, .. } => self.end(*name, *answers),
-            Step::Flush { .. } => unreachable!(),
+            Step::Flush { name, answers, .. } => self.flush(*name, *answers),
             Step::Show(_) => {
                 self.show();
                 Reply::Okay
@@ -456,7 +488,7 @@ impl Solo {
     }
 
     /// What a step will have offered to the log device: at an end the pieces, which are copied, and the sync.
-    fn offers(&self, step: &Step) -> Result<Vec<LogOffer>, AllocError>
+    fn log_offers(&self, step: &Step) -> Result<Vec<LogOffer>, AllocError>
         requires own { IsOwnOf self.now.slot (lone_of self.now) }
         requires suit { suits step.now (lone_of self.now) ≡ true }
         ensures { IfOk result (λ offers. offers.items ≡ (alone step.now (lone_of self.now)).log) }
@@ -471,33 +503,45 @@ impl Solo {
         }
     }
 
+    /// What a step will have offered to the home device, reads aside: at a flush the contents of its plan, which are copied,
+    /// and the sync.
+    fn home_offers(&self, step: &Step) -> Result<Vec<HomeOffer>, AllocError>
+        requires { suits step.now (lone_of self.now) ≡ true }
+        ensures { IfOk result (λ offers. offers.items ≡ (alone step.now (lone_of self.now)).home) }
+    {
+        match (step, &self.mount) {
+            (Step::Flush { answers, .. }, Some(mount)) => home_offers(self.alloc, answers, mount),
+            _ => Ok(Vec::new(self.alloc)),
+        }
+    }
+
     /// Takes a step that may come, and tells its turn. Where the step itself is refused memory its reply is ENOMEM, and
     /// nothing else changes. The one error is want of memory for the copies of its offers.
     pub fn take(&mut self, step: &Step) -> Result<Turn, AllocError>
-        requires came { step_has_come step.now ≡ true }
         requires slot { slot_of step.now ≡ self.old.slot }
         requires own { IsOwnOf self.old.slot (lone_of self.old) }
         requires suit { suits step.now (lone_of self.old) ≡ true }
         ensures { IfOk result (λ turn. IsStepped step.now turn self.new self.old) }
     {
-        let offers = self.offers(step)?;
+        let log = self.log_offers(step)?;
+        let home = self.home_offers(step)?;
         let reply = self.serve(step);
         if is_no_memory(&reply) {
-            return Ok(self.turn(reply, Vec::new(self.alloc)));
+            return Ok(self.turn(reply, Vec::new(self.alloc), Vec::new(self.alloc)));
         }
         self.pass_on(step, &reply);
-        Ok(self.turn(reply, offers))
+        Ok(self.turn(reply, log, home))
     }
 
-    /// A turn of this slot that offered nothing to the home device.
-    fn turn(&self, reply: Reply, log: Vec<LogOffer>) -> Turn
-        ensures { result ≡ record { slot = self.now.slot; reply = reply; log = log.items; home = [] } }
+    /// A turn of this slot.
+    fn turn(&self, reply: Reply, log: Vec<LogOffer>, home: Vec<HomeOffer>) -> Turn
+        ensures { result ≡ record { slot = self.now.slot; reply = reply; log = log.items; home = home.items } }
     {
         Turn {
             slot: self.slot,
             reply,
             log,
-            home: Vec::new(self.alloc),
+            home,
         }
     }
 }

@@ -1,4 +1,4 @@
-use Rattle.std.proofs.Common.{◌≡◌, ◌≤◌, ◌+◌, [], length}
+use Rattle.std.proofs.Common.{◌≡◌, ◌≤◌, ◌+◌, length}
 use Rattle.xt_mount.specs.Ending.{edits_kept, marks_kept}
 use Rattle.xt_mount.proofs.leg_end.keep_changes.Given as goal
 

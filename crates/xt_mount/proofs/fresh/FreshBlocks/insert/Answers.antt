@@ -1,4 +1,4 @@
-use Rattle.std.proofs.Common.{◌≡◌, ◌∙◌, List, ap, arith, length, true, ℕ}
+use Rattle.std.proofs.Common.{◌∙◌, List, ap, arith, length, ℕ}
 use Rattle.xt_base.proofs.ViewLemmas.{keys_put}
 use Rattle.xt_base.specs.Maps.{with_member}
 use Rattle.xt_base.specs.Marks.{Marks}

@@ -1,6 +1,6 @@
 use Rattle.std.proofs.Common.{◌∙◌, ◌*◌, ap, arith, subst, sym}
 use Rattle.xt_base.specs.Calls.{legs_after}
-use Rattle.xt_base.specs.Legs.{clean_leg, with_marks}
+use Rattle.xt_base.specs.Legs.{with_marks}
 use Rattle.xt_base.specs.Sound.{IsRising}
 use Rattle.xt_base.specs.State.{Items, Leg, Transaction}
 use Rattle.xt_mount.proofs.JournalLemmas.{covered, granted_in, next_pages}

@@ -1,5 +1,4 @@
 use Rattle.xt_mount.proofs.RollLemmas.{absent_above}
-use Rattle.xt_mount.specs.Machines.{state_of}
 use Rattle.xt_mount.proofs.machine.Machine.alloc.Goals as goal
 
 pub begin-requires-clause-free : goal.begin-requires-clause-free

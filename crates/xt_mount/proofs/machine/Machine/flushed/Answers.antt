@@ -1,0 +1,20 @@
+use Rattle.std.proofs.Common.{◌∙◌, [], ap, length}
+use Rattle.xt_base.specs.Calls.{gives}
+use Rattle.xt_base.specs.Jobs.{finished, gone, renewed}
+use Rattle.xt_base.specs.Settle.{settled}
+use Rattle.xt_base.specs.declared.names.JobKind.{JobKind}
+use Rattle.xt_base.specs.declared.steps.Reply.{Reply}
+use Rattle.xt_jobs.specs.Tables.{Table}
+use Rattle.xt_mount.proofs.machine.Machine.flushed.Goals as goal
+use Rattle.xt_mount.specs.Journals.{Pages}
+use Rattle.xt_mount.specs.Machines.{state_of}
+use Rattle.xt_mount.specs.declared.machine.Machine.{Machine}
+
+pub returns : goal.returns
+returns c =
+    let machine : Machine = c.args.self.now in
+    let answers = c.args.answers.now in
+    ap (λ n. gives (Reply.Flushed n) (state_of c.settle.new.self)) c.flush_done-count.ensures.count
+    ∙ ap (gives (Reply.Flushed (length (gone c.args.plan.now answers)))) (c.settle.ensures ∙ ap (settled []) (c.renew_asking.ensures
+    ∙ ap (λ (t : Table). renewed answers (state_of (record machine { journal = c.flush_done-count.new.self; jobs = t }))) c.finish.ensures
+    ∙ ap (λ (j : Pages). renewed answers (finished JobKind.Flush (state_of (record machine { journal = j })))) c.flush_done-count.ensures.pages))

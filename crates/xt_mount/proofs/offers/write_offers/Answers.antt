@@ -1,0 +1,13 @@
+use Rattle.std.proofs.Common.{◌∙◌, ◌++◌, ◌∷◌, [], List, ap, false, get_or, sym}
+use Rattle.xt_base.specs.Text.{content_at}
+use Rattle.xt_base.specs.declared.steps.HomeOffer.{HomeOffer}
+use Rattle.xt_mount.proofs.FlushLemmas.{writes_more}
+use Rattle.xt_mount.proofs.offers.write_offers.Goals as goal
+
+pub loop-i-preserved : goal.loop-i-preserved
+loop-i-preserved c =
+    let contents = c.args.mount.now.frames.committed in
+    let block = c.index-blocks-i.result in
+    c.in_ok-push.ensures.items ∙ ap (λ (o : HomeOffer). c.loop-i.offers.items ++ o ∷ []) c.in_ok-write_offer.ensures
+    ∙ ap (λ (xs : List HomeOffer). xs ++ HomeOffer.Write block (content_at block contents) (get_or c.args.answers.now c.loop-i.i false) ∷ []) c.loop-i.invariant
+    ∙ sym (writes_more contents c.args.blocks.now c.args.answers.now c.loop-i.i block false c.loop-i-test.true c.requires c.index-blocks-i.is)
