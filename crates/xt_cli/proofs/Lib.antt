@@ -1,4 +1,3 @@
 pub mod AppendLemmas
-pub mod ComeLemmas
 pub mod ScriptLemmas
 pub mod PlayLemmas

@@ -1,9 +1,7 @@
 //! `xth script`: all lines are parsed, then run, and each reply is printed, with the offers that its step made.
 
-ghost use Rattle.std.specs.Prelude.{◌≡◌, IfErr, IfOk, IfSome, false, true};
-ghost use Rattle.std.specs.List.{list_all};
+ghost use Rattle.std.specs.Prelude.{◌≡◌, IfErr, IfOk, IfSome, false};
 ghost use Rattle.xt_cli.specs.Script.{is_bad, picked, IsFault, IsPlayed, IsPrinted, IsRun};
-ghost use Rattle.xt_mount.specs.Solo.{step_has_come};
 
 use crate::fault::ScriptFault;
 use crate::lines::{parse_script, read_script};
@@ -28,7 +26,6 @@ fn pick(mut steps: Vec<Step>, only: Option<Slot>) -> Vec<Step>
 /// Runs steps and prints what they said: the status is 0, or 3 where one breaks order.
 #[tactic(auto, using(crate::proofs::PlayLemmas::printed_up_to, crate::proofs::PlayLemmas::printed_all))]
 fn play_steps<W: Write>(alloc: Global, writer: &mut W, steps: &[Step]) -> Result<u8, ScriptFault>
-    requires { list_all step_has_come steps.now ≡ true }
     ensures printed { IfOk result (IsPrinted steps.now (W.contents writer.old) (W.contents writer.new)) }
     ensures fault { IfErr result (λ fault. is_bad fault ≡ false) }
 {
@@ -46,7 +43,7 @@ fn play_steps<W: Write>(alloc: Global, writer: &mut W, steps: &[Step]) -> Result
 }
 
 /// Reads, parses, runs and prints: the status is 0, or 3 where a step breaks order.
-#[tactic(auto, using(crate::proofs::ComeLemmas::picked_come, crate::proofs::PlayLemmas::played))]
+#[tactic(auto, using(crate::proofs::PlayLemmas::played))]
 fn play<R: Read, W: Write>(
     alloc: Global,
     reader: &mut R,
