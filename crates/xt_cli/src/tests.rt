@@ -341,7 +341,7 @@ fn log_space_is_asked_and_given_back(rt: HostRuntime) {
 #[test]
 fn blocks_are_written_home(rt: HostRuntime) {
     let alloc = rt.alloc();
-    says(&rt, alloc, RELOGGED_IN, RELOGGED_OUT, 0);
+    says(&rt, alloc, FLOWN_AGAIN_IN, FLOWN_AGAIN_OUT, 0);
     says(&rt, alloc, PINNED_IN, PINNED_OUT, 0);
     says(&rt, alloc, FAILED_WRITE_IN, FAILED_WRITE_OUT, 0);
 }

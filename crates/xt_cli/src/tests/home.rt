@@ -1,7 +1,7 @@
 //! Worked scripts of blocks that are written home, and what they print.
 
 /// A block is logged again while its checkpoint is in flight, and is written home once both have landed.
-pub const RELOGGED_IN: &str = "\
+pub const FLOWN_AGAIN_IN: &str = "\
     mount 0 65536 1024\n\
     0.1 alloc 176 1 plain\n\
     0.1 read t1 7 = 00*4096\n\
@@ -31,7 +31,7 @@ pub const RELOGGED_IN: &str = "\
     flush 0 0.1.flush.4 ok ok\n";
 
 /// What it prints.
-pub const RELOGGED_OUT: &str = "\
+pub const FLOWN_AGAIN_OUT: &str = "\
     0 life 1\n\
     0 t1\n\
     0 ok\n\
