@@ -1,13 +1,17 @@
 //! Worked scripts: what they print, and how they end.
 
+mod asked;
 mod buffers;
+mod home;
 mod idle;
 mod rolls;
 mod rows;
 mod shut;
 
 use crate::script::run_script;
+use asked::*;
 use buffers::*;
+use home::*;
 use idle::*;
 use rolls::*;
 use rows::*;
@@ -332,4 +336,37 @@ fn log_space_is_asked_and_given_back(rt: HostRuntime) {
     let alloc = rt.alloc();
     says(&rt, alloc, ROLLS_IN, ROLLS_OUT, 0);
     says(&rt, alloc, REFUSED_ALLOCS_IN, REFUSED_ALLOCS_OUT, 0);
+}
+
+#[test]
+fn blocks_are_written_home(rt: HostRuntime) {
+    let alloc = rt.alloc();
+    says(&rt, alloc, FLOWN_AGAIN_IN, FLOWN_AGAIN_OUT, 0);
+    says(&rt, alloc, PINNED_IN, PINNED_OUT, 0);
+    says(&rt, alloc, FAILED_WRITE_IN, FAILED_WRITE_OUT, 0);
+}
+
+#[test]
+fn a_failed_flush_leaves_its_blocks(rt: HostRuntime) {
+    let alloc = rt.alloc();
+    says(&rt, alloc, WRITE_SHOWN_IN, WRITE_SHOWN_OUT, 0);
+    says(&rt, alloc, SYNC_SHOWN_IN, SYNC_SHOWN_OUT, 0);
+    says(&rt, alloc, WRITE_FAILS_IN, WRITE_FAILS_OUT, 3);
+    says(&rt, alloc, SYNC_FAILS_IN, SYNC_FAILS_OUT, 3);
+}
+
+#[test]
+fn a_failed_second_checkpoint_shuts_the_mount(rt: HostRuntime) {
+    let alloc = rt.alloc();
+    says(&rt, alloc, SECOND_PIECE_IN, SECOND_PIECE_OUT, 0);
+    says(&rt, alloc, SECOND_SYNC_IN, SECOND_SYNC_OUT, 0);
+}
+
+#[test]
+fn what_is_not_asked_is_not_owed(rt: HostRuntime) {
+    let alloc = rt.alloc();
+    says(&rt, alloc, MANY_OPEN_IN, MANY_OPEN_OUT, 3);
+    says(&rt, alloc, PUSH_ENDS_IN, PUSH_ENDS_OUT, 3);
+    says(&rt, alloc, EMPTY_LIST_IN, EMPTY_LIST_OUT, 3);
+    says(&rt, alloc, SHUT_OWES_IN, SHUT_OWES_OUT, 3);
 }

@@ -4,16 +4,19 @@ use Rattle.std.specs.Fmt.{decimal}
 use Rattle.std.specs.List.{AllByRecursion}
 use Rattle.std.proofs.lemmas.Bool.{cases_lt, cond_both, ltb-false}
 use Rattle.std.proofs.lemmas.Fmt.{length-decimal-le}
+use Rattle.std.proofs.lemmas.List.{length-take-le}
 use Rattle.xt_base.specs.declared.names.JobKind.{JobKind}
-use Rattle.xt_base.specs.declared.names.JobKind.TheVariants.{Ckpt, Flush}
+use Rattle.xt_base.specs.declared.names.JobKind.TheVariants.{Ckpt}
 use Rattle.xt_base.specs.declared.names.JobName.{JobName}
+use Rattle.xt_base.specs.Jobs.{write_answers}
 use Rattle.xt_base.specs.declared.steps.Answer.{Answer}
+use Rattle.xt_base.specs.declared.steps.HomeAnswers.{HomeAnswers}
 use Rattle.xt_base.specs.declared.steps.Request.{Request}
 use Rattle.xt_base.specs.declared.steps.Request.TheVariants.{Alloc, Cancel, Commit, Force, ForceTo, Get, Hold, Inval, Join, Log, Push, Read, Release, Relse, Roll, Shutdown, Unhold, Unmount, View}
 use Rattle.xt_base.specs.declared.steps.Step.{Step}
-use Rattle.xt_base.specs.declared.steps.Step.TheVariants.{Begin, Call, End, Mount, Peek, Post, Show, Take}
+use Rattle.xt_base.specs.declared.steps.Step.TheVariants.{Begin, Call, End, Flush, Mount, Peek, Post, Show, Take}
 use Rattle.xt_text.specs.DataText.{after_run, between, hex, is_short, onto_runs, run_text, runs, runs_text, spelling}
-use Rattle.xt_text.specs.Lines.{IsAnswer, IsAnswerTo, IsName, IsRequest, IsStep, answer_text, kind_text, line_of, name_text, perm_text, request_text, sync_text, trans_text, ◌·◌, ◌␣◌}
+use Rattle.xt_text.specs.Lines.{IsAnswer, IsAnswerTo, IsHomeAnswers, IsName, IsRequest, IsStep, answer_text, home_text, kind_text, line_of, name_text, ok_text, oks_text, perm_text, request_text, sync_text, trans_text, ◌·◌, ◌␣◌}
 use Rattle.xt_text.specs.declared.data_text.Run.{Run}
 
 -- ---- numbers
@@ -112,7 +115,7 @@ dotted a b = omega (arith, length-append a (46 ∷ b))
 -- what a job does has at most five characters
 pub kind_fits : (kind : JobKind) → length (kind_text kind) ≤ 5
 kind_fits Ckpt = omega arith
-kind_fits Flush = omega arith
+kind_fits JobKind.Flush = omega arith
 
 -- a name has at most 68
 pub name_fits : (name : JobName) → IsName name → length (name_text name) ≤ 68
@@ -126,7 +129,7 @@ name_fits name is =
       decimal_fits name.slot (omega arith),
       decimal_fits name.life (omega arith),
       kind_fits name.kind,
-      decimal_fits name.serial is.3,
+      decimal_fits name.serial is.2,
     )
 
 -- plain or perm has at most five
@@ -197,6 +200,30 @@ asked_fits (Read trans block) a is fits = omega (arith, length-append (request_t
 asked_fits r Answer.None is fits = omega (arith, length-append (request_text r) [], request_fits r is)
 asked_fits r other is fits = absurd fits
 
+-- an answer of a device has at most four
+pub ok_fits : (ok : Bool) → length (ok_text ok) ≤ 4
+ok_fits true = omega arith
+ok_fits false = omega arith
+
+-- answers of a device have at most five each
+pub oks_fit : (oks : List Bool) → length (oks_text oks) ≤ 5 * length oks
+oks_fit [] = omega arith
+oks_fit (ok ∷ oks) = omega (arith, length-append (32 ∷ ok_text ok) (oks_text oks), ok_fits ok, oks_fit oks)
+
+-- the answers to a flush have at most 45
+pub home_fits : (answers : HomeAnswers) → IsHomeAnswers answers → length (home_text answers) ≤ 45
+home_fits answers is =
+    cond_both (eqb answers.count 0) [] (oks_text (write_answers answers) ++ 32 ∷ ok_text answers.sync) (λ text. length text ≤ 45)
+    (λ none. omega arith)
+    (λ some. omega (
+      arith,
+      length-append (oks_text (write_answers answers)) (32 ∷ ok_text answers.sync),
+      oks_fit (write_answers answers),
+      length-take-le answers.count answers.writes (omega (arith, is.eight, is.few)),
+      is.few,
+      ok_fits answers.sync,
+    ))
+
 -- a line has at most 8,400 characters
 pub line_fits : (s : Step) → IsStep s → length (line_of s) ≤ 8400
 line_fits (Mount slot log_bytes blocks) is =
@@ -232,6 +259,14 @@ line_fits (End worker name answers) is =
       decimal_fits answers.taken (omega arith),
       sync_fits answers.sync,
     )
+line_fits (Flush worker name answers) is =
+    omega (
+      arith,
+      joined (decimal worker) (name_text name ++ home_text answers),
+      length-append (name_text name) (home_text answers),
+      decimal_fits worker (omega arith),
+      name_fits name is.1,
+      home_fits answers is.2,
+    )
 line_fits (Show slot) is = omega (arith, decimal_fits slot (omega arith))
 line_fits (Peek slot) is = omega (arith, decimal_fits slot (omega arith))
-line_fits other is = absurd is

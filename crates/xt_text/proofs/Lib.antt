@@ -1,4 +1,5 @@
 pub mod BufferLemmas
+pub mod HomeAgain
 pub mod Lengths
 pub mod ParseLemmas
 pub mod ReadAgain

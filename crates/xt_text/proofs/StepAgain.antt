@@ -10,13 +10,14 @@ use Rattle.xt_base.specs.declared.steps.Answer.{Answer}
 use Rattle.xt_base.specs.declared.steps.Request.{Request}
 use Rattle.xt_base.specs.declared.steps.Request.TheVariants.{Alloc, Cancel, Commit, Force, ForceTo, Get, Hold, Inval, Join, Log, Push, Read, Release, Relse, Roll, Shutdown, Unhold, Unmount, View}
 use Rattle.xt_base.specs.declared.steps.Step.{Step}
-use Rattle.xt_base.specs.declared.steps.Step.TheVariants.{Begin, Call, End, Mount, Peek, Post, Show, Take}
+use Rattle.xt_base.specs.declared.steps.Step.TheVariants.{Begin, Call, End, Flush, Mount, Peek, Post, Show, Take}
+use Rattle.xt_text.proofs.HomeAgain.{home_again}
 use Rattle.xt_text.proofs.ReadAgain.{data_again}
 use Rattle.xt_text.proofs.WordsAgain.{before_joined, before_whole, behind_joined, behind_whole, below_again, decimal_lacks, lacks_joined, name_again, name_lacks, number_again, perm_again, sync_again, trans_again, u32_again}
 use Rattle.xt_text.specs.DataReading.{read_content, read_data}
 use Rattle.xt_text.specs.DataText.{IsData, spelling}
-use Rattle.xt_text.specs.LineReading.{alloc_of, answer_of, asked_of, before, begin_of, behind, call_of, drop_of, end_of, log_of, mount_of, mount_request, own_of, own_request, peek_of, post_of, read_of, request_of, show_of, step_of, take_of, trans_request, words_step}
-use Rattle.xt_text.specs.Lines.{IsAnswer, IsAnswerTo, IsContent, IsRequest, IsStep, answer_text, line_of, name_text, perm_text, request_text, sync_text, trans_text, ◌·◌, ◌␣◌}
+use Rattle.xt_text.specs.LineReading.{alloc_of, answer_of, asked_of, before, begin_of, behind, call_of, drop_of, end_of, flush_of, log_of, mount_of, mount_request, own_of, own_request, peek_of, post_of, read_of, request_of, show_of, step_of, take_of, trans_request, words_step}
+use Rattle.xt_text.specs.Lines.{IsAnswer, IsAnswerTo, IsContent, IsRequest, IsStep, answer_text, home_text, line_of, name_text, perm_text, request_text, sync_text, trans_text, ◌·◌, ◌␣◌}
 
 -- what stands before the space behind a number
 pub before_number : (n : ℕ) (b : List ℕ) → n < 2 ^ 64 → before 32 (decimal n ␣ b) ≡ decimal n
@@ -172,6 +173,7 @@ call_line_again slot life r a low small is fits =
       no_verb slot 116 (46 ∷ decimal life) (codes "ake") (omega arith) (omega arith),
       no_verb slot 98 (46 ∷ decimal life) (codes "egin") (omega arith) (omega arith),
       no_verb slot 101 (46 ∷ decimal life) (codes "nd") (omega arith) (omega arith),
+      no_verb slot 102 (46 ∷ decimal life) (codes "lush") (omega arith) (omega arith),
       no_verb slot 115 (46 ∷ decimal life) (codes "how") (omega arith) (omega arith),
       no_verb slot 112 (46 ∷ decimal life) (codes "eek") (omega arith) (omega arith),
     )
@@ -179,7 +181,7 @@ call_line_again slot life r a low small is fits =
 
 -- the line of a step gives the step
 pub step_again : (s : Step) → IsStep s → step_of (line_of s) ≡ Some s
-unfolding step_of words_step mount_of post_of take_of begin_of end_of show_of peek_of
+unfolding step_of words_step mount_of post_of take_of begin_of end_of flush_of show_of peek_of
 step_again (Mount slot log_bytes blocks) is =
     rw (
       before_number slot (decimal log_bytes ␣ decimal blocks) (omega arith),
@@ -212,6 +214,17 @@ step_again (End worker name answers) is =
       sync_again answers.sync,
     )
     refl
+step_again (Flush worker name answers) is =
+    let tail = name_text name ++ home_text answers in
+    let both = home_again name answers is.1 is.2 in
+    rw (
+      before_number worker tail (omega arith),
+      behind_number worker tail (omega arith),
+      both.0,
+      both.1,
+      below_again 8 worker is.0 (omega arith),
+      name_again name is.1,
+    )
+    refl
 step_again (Show slot) is = rw (below_again 16 slot is (omega arith)) refl
 step_again (Peek slot) is = rw (below_again 16 slot is (omega arith)) refl
-step_again other is = absurd is

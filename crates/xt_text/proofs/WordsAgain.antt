@@ -12,7 +12,7 @@ use Rattle.xt_base.specs.declared.steps.Request.{Request}
 use Rattle.xt_base.specs.declared.steps.Request.TheVariants.{Read}
 use Rattle.xt_text.proofs.ReadAgain.{number_on_digit}
 use Rattle.xt_text.specs.LineReading.{before, behind, kind_of, lettered, name_of, perm_of, sync_of, u32_of}
-use Rattle.xt_text.specs.Lines.{IsAnswerTo, IsKind, IsName, kind_text, name_text, perm_text, sync_text, trans_text, ◌·◌}
+use Rattle.xt_text.specs.Lines.{IsAnswerTo, IsName, kind_text, name_text, perm_text, sync_text, trans_text, ◌·◌}
 use Rattle.xt_text.specs.Reading.{below, number_of, number_with}
 
 -- ---- cutting at a separator
@@ -89,10 +89,10 @@ trans_again n small = number_again n small
 
 -- ---- words that stand for a choice
 -- what a job does gives itself
-pub kind_again : (kind : JobKind) → IsKind kind → kind_of (kind_text kind) ≡ Some kind
+pub kind_again : (kind : JobKind) → kind_of (kind_text kind) ≡ Some kind
 unfolding kind_of
-kind_again Ckpt is = refl
-kind_again Flush is = absurd is
+kind_again Ckpt = refl
+kind_again Flush = refl
 
 -- plain or perm gives itself
 pub perm_again : (perm : Bool) → perm_of (perm_text perm) ≡ Some perm
@@ -132,8 +132,8 @@ name_again name is =
       behind_joined 46 (kind_text name.kind) (decimal name.serial) (kind_lacks_dot name.kind),
       below_again 16 name.slot is.0 (omega arith),
       u32_again name.life is.1,
-      kind_again name.kind is.2,
-      number_again name.serial is.3,
+      kind_again name.kind,
+      number_again name.serial is.2,
     )
     refl
 
@@ -150,6 +150,6 @@ name_lacks name is =
       lacks_joined 32 (decimal name.life) _ (decimal_lacks 32 name.life (omega arith) (omega arith)) (
         refl,
         lacks_joined 32 (kind_text name.kind) _ (kind_lacks_space name.kind)
-            (refl, decimal_lacks 32 name.serial (omega arith) is.3),
+            (refl, decimal_lacks 32 name.serial (omega arith) is.2),
       ),
     )

@@ -9,8 +9,9 @@ use Rattle.xt_base.specs.declared.steps.Answer.{Answer}
 use Rattle.xt_base.specs.declared.steps.Request.{Request}
 use Rattle.xt_base.specs.declared.steps.Request.TheVariants.{Alloc, Cancel, Commit, Force, ForceTo, Get, Hold, Inval, Join, Log, Push, Read, Release, Relse, Roll, Shutdown, Unhold, Unmount, View}
 use Rattle.xt_base.specs.declared.steps.Step.{Step}
-use Rattle.xt_base.specs.declared.steps.Step.TheVariants.{Begin, Call, End, Mount, Peek, Post, Show, Take}
+use Rattle.xt_base.specs.declared.steps.Step.TheVariants.{Begin, Call, End, Flush, Mount, Peek, Post, Show, Take}
 use Rattle.xt_text.specs.DataReading.{read_content, read_data}
+use Rattle.xt_text.specs.HomeReading.{home_of}
 use Rattle.xt_text.specs.Reading.{below, number_of, ◌>>=◌}
 
 -- what stands before the first separator of a text, all of it where there is none
@@ -31,9 +32,9 @@ abbrev pub lettered : List ℕ → Option ℕ
 lettered [] = None
 lettered (c ∷ cs) = number_of cs
 
--- what a job does, of the kinds whose names have come
+-- what a job does
 unfoldable pub kind_of : List ℕ → Option JobKind
-kind_of word = if bytes_eq word (codes "ckpt") then Some Ckpt else None
+kind_of word = if bytes_eq word (codes "ckpt") then Some Ckpt else if bytes_eq word (codes "flush") then Some JobKind.Flush else None
 
 -- the name of a job
 unfoldable pub name_of : List ℕ → Option JobName
@@ -204,6 +205,15 @@ end_of words =
     sync_of (behind 32 b) >>= λ sync.
     Some (End worker name (record { taken = taken; sync = sync }))
 
+-- WORKER NAME, and the answers
+unfoldable pub flush_of : List ℕ → Option Step
+flush_of words =
+    let a = behind 32 words in
+    below 8 (before 32 words) >>= λ worker.
+    name_of (before 32 a) >>= λ name.
+    home_of (behind 32 a) >>= λ answers.
+    Some (Flush worker name answers)
+
 -- a step: its first word, and what stands behind it
 unfoldable pub words_step : List ℕ → List ℕ → Option Step
 words_step word words =
@@ -212,6 +222,7 @@ words_step word words =
     else if bytes_eq word (codes "take") then take_of words
     else if bytes_eq word (codes "begin") then begin_of words
     else if bytes_eq word (codes "end") then end_of words
+    else if bytes_eq word (codes "flush") then flush_of words
     else if bytes_eq word (codes "show") then show_of words
     else if bytes_eq word (codes "peek") then peek_of words
     else call_of word words

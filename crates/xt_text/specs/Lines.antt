@@ -1,14 +1,17 @@
 -- The lines of steps: the text of each step, and which steps have one.
 use Rattle.std.specs.Fmt.{decimal}
-use Rattle.std.specs.Prelude.{Bool, List, None, Option, Some, [], codes, false, length, true, ℕ, ◌++◌, ◌<◌, ◌^◌, ◌≡◌, ◌∷◌}
+use Rattle.std.specs.List.{flat_map}
+use Rattle.std.specs.Prelude.{Bool, List, None, Option, Some, [], codes, drop, false, if◌then◌else◌, length, replicate, true, ℕ, ◌++◌, ◌-◌, ◌<◌, ◌==◌, ◌^◌, ◌≡◌, ◌≤◌, ◌∷◌}
+use Rattle.xt_base.specs.Jobs.{write_answers}
 use Rattle.xt_base.specs.declared.names.JobKind.{JobKind}
-use Rattle.xt_base.specs.declared.names.JobKind.TheVariants.{Ckpt, Flush}
+use Rattle.xt_base.specs.declared.names.JobKind.TheVariants.{Ckpt}
 use Rattle.xt_base.specs.declared.names.JobName.{JobName}
 use Rattle.xt_base.specs.declared.steps.Answer.{Answer}
+use Rattle.xt_base.specs.declared.steps.HomeAnswers.{HomeAnswers}
 use Rattle.xt_base.specs.declared.steps.Request.{Request}
 use Rattle.xt_base.specs.declared.steps.Request.TheVariants.{Alloc, Cancel, Commit, Force, ForceTo, Get, Hold, Inval, Join, Log, Push, Read, Release, Relse, Roll, Shutdown, Unhold, Unmount, View}
 use Rattle.xt_base.specs.declared.steps.Step.{Step}
-use Rattle.xt_base.specs.declared.steps.Step.TheVariants.{Begin, Call, End, Mount, Peek, Post, Show, Take}
+use Rattle.xt_base.specs.declared.steps.Step.TheVariants.{Begin, Call, End, Flush, Mount, Peek, Post, Show, Take}
 use Rattle.xt_text.specs.DataText.{IsData, spelling}
 
 -- two words with a space between them
@@ -33,7 +36,7 @@ ckpt_text number = 99 ∷ decimal number
 -- what a job does
 abbrev pub kind_text : JobKind → List ℕ
 kind_text Ckpt = codes "ckpt"
-kind_text Flush = codes "flush"
+kind_text JobKind.Flush = codes "flush"
 
 -- the name of a job
 abbrev pub name_text : JobName → List ℕ
@@ -53,6 +56,14 @@ ok_text false = codes "fail"
 abbrev pub sync_text : Option Bool → List ℕ
 sync_text None = codes "none"
 sync_text (Some ok) = ok_text ok
+
+-- answers of a device, each with a space in front
+abbrev pub oks_text : List Bool → List ℕ
+oks_text oks = flat_map (λ ok. 32 ∷ ok_text ok) oks
+
+-- what the home device answered to a flush, behind its name: to each write, and then to the sync; nothing where it was not asked
+abbrev pub home_text : HomeAnswers → List ℕ
+home_text answers = if answers.count == 0 then [] else oks_text (write_answers answers) ++ 32 ∷ ok_text answers.sync
 
 -- ---- lines
 -- the text of a request
@@ -83,7 +94,7 @@ answer_text Answer.None = []
 answer_text (Answer.Content bytes) = codes " = " ++ spelling bytes
 answer_text Answer.Failed = codes " = fail"
 
--- the line of a step, without its newline; a step whose word has not come yet has none
+-- the line of a step, without its newline
 abbrev pub line_of : Step → List ℕ
 line_of (Mount slot log_bytes blocks) = codes "mount" ␣ decimal slot ␣ decimal log_bytes ␣ decimal blocks
 line_of (Call slot life request answer) = (decimal slot · decimal life) ␣ (request_text request ++ answer_text answer)
@@ -91,19 +102,14 @@ line_of (Post name) = codes "post" ␣ name_text name
 line_of (Take worker name) = codes "take" ␣ decimal worker ␣ name_text name
 line_of (Begin worker name) = codes "begin" ␣ decimal worker ␣ name_text name
 line_of (End worker name answers) = codes "end" ␣ decimal worker ␣ name_text name ␣ decimal answers.taken ␣ sync_text answers.sync
+line_of (Flush worker name answers) = codes "flush" ␣ decimal worker ␣ (name_text name ++ home_text answers)
 line_of (Show slot) = codes "show" ␣ decimal slot
 line_of (Peek slot) = codes "peek" ␣ decimal slot
-line_of other = []
 
--- ---- which steps have a line: those whose word has come, with the values that their types have
--- a kind of job whose names have come
-abbrev pub IsKind : JobKind → Type 0
-IsKind Ckpt = Unit {0}
-IsKind Flush = ⊥
-
+-- ---- which steps have a line of their own
 -- the values of a name
 abbrev pub IsName : JobName → Type 0
-IsName name = (name.slot < 16) × (name.life < 2 ^ 32) × IsKind name.kind × (name.serial < 2 ^ 64)
+IsName name = (name.slot < 16) × (name.life < 2 ^ 32) × (name.serial < 2 ^ 64)
 
 -- a request with the values that its types have
 abbrev pub IsRequest : Request → Type 0
@@ -147,7 +153,14 @@ abbrev pub IsAnswerTo : Request → Answer → Type 0
 IsAnswerTo (Read trans block) answer = IsAnswer answer
 IsAnswerTo other answer = IsUnasked answer
 
--- a step whose word has come
+-- the answers to a flush: to at most 8 writes; what stands for no answer is false
+pub record IsHomeAnswers (answers : HomeAnswers) : Type 0 where
+  pub eight : length answers.writes ≡ 8
+  pub few : answers.count ≤ 8
+  pub unused : drop answers.count answers.writes ≡ replicate (8 - answers.count) false
+  pub unasked : answers.count ≡ 0 → answers.sync ≡ false
+
+-- a step that has a line of its own: an answer stands only where something was asked
 abbrev pub IsStep : Step → Type 0
 IsStep (Mount slot log_bytes blocks) = (slot < 16) × (log_bytes < 2 ^ 32) × (blocks < 2 ^ 64)
 IsStep (Call slot life request answer) = (slot < 16) × (life < 2 ^ 32) × IsRequest request × IsAnswerTo request answer
@@ -155,6 +168,6 @@ IsStep (Post name) = IsName name
 IsStep (Take worker name) = (worker < 8) × IsName name
 IsStep (Begin worker name) = (worker < 8) × IsName name
 IsStep (End worker name answers) = (worker < 8) × IsName name × (answers.taken < 2 ^ 32)
+IsStep (Flush worker name answers) = (worker < 8) × IsName name × IsHomeAnswers answers
 IsStep (Show slot) = slot < 16
 IsStep (Peek slot) = slot < 16
-IsStep other = ⊥

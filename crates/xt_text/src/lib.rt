@@ -6,6 +6,7 @@ pub mod bad_line;
 pub mod buffer;
 pub mod data_text;
 mod fields;
+mod home_answers;
 mod numbers;
 pub mod parse;
 pub mod print_reply;

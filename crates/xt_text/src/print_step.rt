@@ -8,6 +8,7 @@ ghost use Rattle.xt_text.specs.Lines.{answer_text, line_of, name_text, perm_text
 
 use crate::buffer::Text;
 use crate::fields::{then_ckpt, then_data, then_name, then_number, then_ok, then_trans, then_word};
+use crate::home_answers::then_home;
 use crate::numbers::put_number;
 use xt_base::content::Data;
 use xt_base::names::{Block, JobName, Life, Slot, TransNo, Worker};
@@ -169,8 +170,7 @@ fn put_with_slot(out: &mut Text, word: &[u8], slot: Slot)
     then_number(out, slot.index() as u64);
 }
 
-/// Puts the line of a step, without a newline, behind what the buffer holds; nothing for a step whose word has not
-/// come yet.
+/// Puts the line of a step, without a newline, behind what the buffer holds.
 #[tactic(auto, using(crate::proofs::BufferLemmas::put_put, crate::proofs::BufferLemmas::put_none))]
 pub fn print_step(step: &Step, out: &mut Text)
     ensures { out.new ≡ put out.old (line_of step.now) }
@@ -202,8 +202,15 @@ pub fn print_step(step: &Step, out: &mut Text)
             then_number(out, answers.taken as u64);
             then_sync(out, answers.sync);
         }
+        Step::Flush {
+            worker,
+            name,
+            answers,
+        } => {
+            put_job_step(out, b"flush", *worker, *name);
+            then_home(out, answers);
+        }
         Step::Show(slot) => put_with_slot(out, b"show", *slot),
         Step::Peek(slot) => put_with_slot(out, b"peek", *slot),
-        _ => (),
     }
 }

@@ -1,12 +1,13 @@
 //! Lines read loosely: the line of each step gives that step, and other lines may give some step too.
 
 ghost use Rattle.std.specs.Prelude.{◌<◌, ◌^◌, IfOk};
-ghost use Rattle.xt_text.specs.LineReading.{alloc_of, answer_of, asked_of, begin_of, call_of, drop_of, end_of, log_of, mount_of, mount_request, own_of, own_request, peek_of, post_of, read_of, request_of, show_of, step_of, take_of, trans_request, words_step};
+ghost use Rattle.xt_text.specs.LineReading.{alloc_of, answer_of, asked_of, begin_of, call_of, drop_of, end_of, flush_of, log_of, mount_of, mount_request, own_of, own_request, peek_of, post_of, read_of, request_of, show_of, step_of, take_of, trans_request, words_step};
 ghost use Rattle.xt_text.specs.Lines.{IsAnswer, IsRequest, IsStep};
 ghost use Rattle.xt_text.specs.Reading.{Gives};
 
 use crate::bad_line::BadLine;
 use crate::data_text::{read_content, read_data};
+use crate::home_answers::home_of;
 use crate::numbers::number_of;
 use crate::words::{
     block_of, ckpt_of, cut, life_of, name_of, perm_of, slot_of, sync_of, trans_of, u32_of,
@@ -330,6 +331,24 @@ fn end_of(words: &[u8]) -> Result<Step, BadLine>
     })
 }
 
+/// WORKER NAME, and the answers.
+#[tactic(auto, unfolding(crate::specs::LineReading::flush_of))]
+fn flush_of(alloc: Global, words: &[u8]) -> Result<Step, BadLine>
+    ensures value { Gives result (flush_of words.now) }
+    ensures valid { IfOk result IsStep }
+{
+    let (worker, words) = cut(words, b' ');
+    let (name, answers) = cut(words, b' ');
+    let worker = worker_of(worker)?;
+    let name = name_of(name)?;
+    let answers = home_of(alloc, answers)?;
+    Ok(Step::Flush {
+        worker,
+        name,
+        answers,
+    })
+}
+
 /// A step: its first word, and what stands behind it.
 #[tactic(auto, unfolding(crate::specs::LineReading::words_step))]
 fn words_step(alloc: Global, word: &[u8], words: &[u8]) -> Result<Step, BadLine>
@@ -346,6 +365,8 @@ fn words_step(alloc: Global, word: &[u8], words: &[u8]) -> Result<Step, BadLine>
         begin_of(words)
     } else if word == b"end".as_slice() {
         end_of(words)
+    } else if word == b"flush".as_slice() {
+        flush_of(alloc, words)
     } else if word == b"show".as_slice() {
         show_of(words)
     } else if word == b"peek".as_slice() {

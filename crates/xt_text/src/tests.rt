@@ -10,7 +10,9 @@ use std::process::Abort;
 use std::test::Fail;
 use xt_base::content::{Content, Data, HeldBlocks};
 use xt_base::names::{Block, CkptNo, Life, Slot, TransNo};
-use xt_base::steps::{Answer, Errno, HomeOffer, LogOffer, Reason, Reply, Request, Step};
+use xt_base::steps::{
+    Answer, Errno, HomeAnswers, HomeOffer, LogOffer, Reason, Reply, Request, Step,
+};
 
 /// Whether a line is refused for its spelling.
 fn is_bad(alloc: Global, line: &[u8]) -> Result<bool, Fail> {
@@ -86,6 +88,20 @@ fn lines_of_steps_are_read_and_printed(rt: HostRuntime) -> Result<(), Fail> {
         "end 0 0.1.ckpt.1 2 ok",
         "end 0 0.1.ckpt.1 4294967295 fail",
         "end 7 0.1.ckpt.1 0 none",
+        "post 0.1.flush.1",
+        "take 7 15.4294967295.flush.18446744073709551615",
+        "begin 0 0.1.flush.1",
+        "end 0 0.1.flush.1 1 ok",
+        "flush 0 0.1.flush.1",
+        "flush 7 15.4294967295.flush.18446744073709551615",
+        "flush 0 0.1.ckpt.1",
+        "flush 0 0.1.flush.1 ok ok",
+        "flush 0 0.1.flush.1 ok fail",
+        "flush 0 0.1.flush.1 fail ok",
+        "flush 0 0.1.flush.1 fail fail",
+        "flush 0 0.1.flush.1 ok fail ok fail ok fail ok fail fail",
+        "flush 0 0.1.flush.1 ok ok ok ok ok ok ok ok ok",
+        "flush 7 15.4294967295.flush.18446744073709551615 fail fail fail fail fail fail fail fail fail",
         "show 0",
         "show 15",
         "peek 0",
@@ -365,15 +381,67 @@ fn other_spellings_of_data_are_bad(rt: HostRuntime) -> Result<(), Fail> {
 }
 
 #[test]
-fn words_that_have_not_come_are_bad(rt: HostRuntime) -> Result<(), Fail> {
+fn other_answers_of_flushes_are_bad(rt: HostRuntime) -> Result<(), Fail> {
     for line in [
-        "flush 0 0.1.flush.1",
-        "post 0.1.flush.1",
-        "take 0 0.1.flush.1",
-        "begin 0 0.1.flush.1",
+        "flush",
+        "flush 0",
+        "flush 8 0.1.flush.1",
+        "flush 0.1.flush.1",
+        "flush 0 0.1.flush",
+        "flush 0 0.1.Flush.1",
+        "flush 0 0.1.flush.01",
+        "flush 0 0.1.flush.1 ",
+        "flush 0 0.1.flush.1 ok",
+        "flush 0 0.1.flush.1 fail",
+        "flush 0 0.1.flush.1 none",
+        "flush 0 0.1.flush.1 0",
+        "flush 0 0.1.flush.1 ok ok ",
+        "flush 0 0.1.flush.1 ok  ok",
+        "flush 0 0.1.flush.1 okok",
+        "flush 0 0.1.flush.1 o o",
+        "flush 0 0.1.flush.1 ok f",
+        "flush 0 0.1.flush.1 ok none",
+        "flush 0 0.1.flush.1 of of",
+        "flush 0 0.1.flush.1 OK OK",
+        "flush 0 0.1.flush.1 ok ok ok ok ok ok ok ok ok ok",
+        "post flush",
+        "post 0.1.flush.1 ok",
+        "0.1 flush",
     ] {
         assert!(rt; is_bad(rt.alloc(), line.as_bytes())?, "{line}");
     }
+    Ok(())
+}
+
+/// What a line of a flush says that the home device answered.
+fn answered(alloc: Global, line: &str) -> Result<HomeAnswers, Fail> {
+    let step = parse_line(alloc, line.as_bytes())?;
+    match &step {
+        Step::Flush { answers, .. } => Ok(*answers),
+        _ => Ok(Err("not a flush")?),
+    }
+}
+
+#[test]
+fn answers_of_flushes_are_read(rt: HostRuntime) -> Result<(), Fail> {
+    let answers = answered(rt.alloc(), "flush 0 0.1.flush.1 ok fail ok fail")?;
+    assert_eq!(rt; answers.count, 3);
+    let writes = [true, false, true, false, false, false, false, false];
+    assert_eq!(rt; answers.writes.as_slice(), writes.as_slice());
+    assert!(rt; !answers.sync);
+    let answers = answered(rt.alloc(), "flush 0 0.1.flush.1 fail ok")?;
+    assert_eq!(rt; answers.count, 1);
+    assert_eq!(rt; answers.writes.as_slice(), [false; 8].as_slice());
+    assert!(rt; answers.sync);
+    let line = "flush 0 0.1.flush.1 ok ok ok ok ok ok ok ok ok";
+    let answers = answered(rt.alloc(), line)?;
+    assert_eq!(rt; answers.count, 8);
+    assert_eq!(rt; answers.writes.as_slice(), [true; 8].as_slice());
+    assert!(rt; answers.sync);
+    let answers = answered(rt.alloc(), "flush 0 0.1.flush.1")?;
+    assert_eq!(rt; answers.count, 0);
+    assert_eq!(rt; answers.writes.as_slice(), [false; 8].as_slice());
+    assert!(rt; !answers.sync);
     Ok(())
 }
 

@@ -4,7 +4,7 @@
 ghost use Rattle.std.specs.List.{position_or_len};
 ghost use Rattle.std.specs.Prelude.{◌≡◌, ◌==◌, ◌<◌, ◌^◌, IfOk};
 ghost use Rattle.xt_text.specs.LineReading.{before, behind, kind_of, lettered, name_of, perm_of, sync_of, u32_of};
-ghost use Rattle.xt_text.specs.Lines.{IsKind, IsName};
+ghost use Rattle.xt_text.specs.Lines.{IsName};
 ghost use Rattle.xt_text.specs.Reading.{Gives, below, number_of};
 
 use crate::bad_line::BadLine;
@@ -104,14 +104,15 @@ pub(crate) fn ckpt_of(word: &[u8]) -> Result<CkptNo, BadLine>
     Ok(CkptNo(number))
 }
 
-/// What a job does. Names of flushes have not come yet.
+/// What a job does.
 #[tactic(auto, unfolding(crate::specs::LineReading::kind_of))]
 fn kind_of(word: &[u8]) -> Result<JobKind, BadLine>
-    ensures value { Gives result (kind_of word.now) }
-    ensures come { IfOk result IsKind }
+    ensures { Gives result (kind_of word.now) }
 {
     if word == b"ckpt".as_slice() {
         Ok(JobKind::Ckpt)
+    } else if word == b"flush".as_slice() {
+        Ok(JobKind::Flush)
     } else {
         Err(BadLine::Spelling)
     }

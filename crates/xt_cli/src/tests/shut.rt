@@ -1,6 +1,6 @@
 //! Worked scripts of blocks given up for good, of shut mounts and the board, and of lives, and what they print.
 
-/// A block that a transaction gave up for good stays locked until its checkpoint has landed, and then has no content.
+/// A block that a transaction gave up for good stays locked until its checkpoint has landed, and is never written home.
 pub const INVALIDATED_IN: &str = "\
     mount 0 65536 1024\n\
     0.1 alloc 48 1 plain\n\
@@ -17,9 +17,12 @@ pub const INVALIDATED_IN: &str = "\
     end 0 0.1.ckpt.1 1 ok\n\
     0.1 get t2 7\n\
     0.1 view t2 7\n\
-    0.1 push\n";
+    0.1 push\n\
+    post 0.1.flush.2\n\
+    take 0 0.1.flush.2\n\
+    flush 0 0.1.flush.2\n";
 
-/// A block that a transaction gave up for good stays locked until its checkpoint has landed, and then has no content: what is printed.
+/// What it prints.
 pub const INVALIDATED_OUT: &str = "\
     0 life 1\n\
     0 t1\n\
@@ -38,7 +41,10 @@ pub const INVALIDATED_OUT: &str = "\
     0 logsync ok\n\
     0 ok\n\
     0 data 00*4096\n\
-    0 ok\n";
+    0 ok\n\
+    0 ok\n\
+    0 ok\n\
+    0 nothing\n";
 
 /// A dirty cancel shuts the mount, the board shows why, and the mount is taken off its slot.
 pub const CANCEL_SHOWN_IN: &str = "\
