@@ -192,33 +192,6 @@ impl TransRec {
         }
     }
 
-    /// The leg's charge, were these chunks of a block changed too; at most 530,512.
-    pub fn charge_logged(&self, block: u64, marked: Chunks) -> u64
-        ensures value { result ≡ charge (edited block [] marked self.now).changes }
-        ensures range { result ≤ 530512 }
-    {
-        self.charge_after(self.newly_logged(block, marked))
-    }
-
-    /// The leg's charge, were a block invalidated too; at most 530,512.
-    pub fn charge_invalidated(&self, block: u64) -> u64
-        ensures value { result ≡ charge (invalidated_leg block self.now).changes }
-        ensures range { result ≤ 530512 }
-    {
-        self.charge_after(self.newly_invalidated(block))
-    }
-
-    /// The leg's charge with what is charged anew.
-    fn charge_after(&self, newly: Newly) -> u64
-        requires blocks { newly.blocks ≤ 1 }
-        requires chunks { newly.chunks ≤ 32 }
-        ensures value { result ≡ charge self.now.changes + (if is_dirty self.now then 0 else 32) + 16 * newly.blocks + 128 * newly.chunks }
-        ensures range { result ≤ 530512 }
-    {
-        let first = if self.is_dirty() { 0u64 } else { 32 };
-        self.charge() + first + 16 * newly.blocks as u64 + 128 * newly.chunks as u64
-    }
-
     /// The chunks charged for a block.
     fn charged_of(&self, block: u64) -> Chunks
         ensures { result ≡ (change_of block self.now).charged }
