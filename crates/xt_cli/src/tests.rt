@@ -2,6 +2,7 @@
 
 mod asked;
 mod buffers;
+mod drive;
 mod home;
 mod idle;
 mod rolls;
@@ -11,6 +12,7 @@ mod shut;
 use crate::script::run_script;
 use asked::*;
 use buffers::*;
+use drive::{Told, drive, home_lines, lines_of, log_lines};
 use home::*;
 use idle::*;
 use rolls::*;
@@ -20,7 +22,13 @@ use std::alloc::Global;
 use std::io::{self, Read, Write};
 use std::process::Abort;
 use std::test::Fail;
-use xt_base::names::Slot;
+use xt_base::names::{Block, Slot};
+use xt_base::steps::LogOffer;
+use xt_dev::call::HomeCall;
+use xt_dev::fail_at::FailAt;
+use xt_dev::home::HomeDevice;
+use xt_dev::mem_home::MemHome;
+use xt_dev::mem_log::MemLog;
 
 /// Steps of two slots, among each other.
 const TWO_SLOTS: &str = "\
@@ -369,4 +377,74 @@ fn what_is_not_asked_is_not_owed(rt: HostRuntime) {
     says(&rt, alloc, PUSH_ENDS_IN, PUSH_ENDS_OUT, 3);
     says(&rt, alloc, EMPTY_LIST_IN, EMPTY_LIST_OUT, 3);
     says(&rt, alloc, SHUT_OWES_IN, SHUT_OWES_OUT, 3);
+}
+
+/// Asserts that the replies of a mount and the offers that its devices tell are the lines of an output.
+fn tells(
+    rt: &impl Abort,
+    alloc: Global,
+    replies: &[u8],
+    offers: &[LogOffer],
+    calls: &[HomeCall],
+    want: &str,
+) -> Result<(), Fail> {
+    let slot = Slot::new(0).ok_or("a slot")?;
+    let log = log_lines(alloc, slot, offers)?;
+    let home = home_lines(alloc, slot, calls)?;
+    assert_eq!(rt; replies, lines_of(alloc, want, Told::Reply)?.as_slice());
+    assert_eq!(rt;
+        log.as_slice(),
+        lines_of(alloc, want, Told::Log)?.as_slice()
+    );
+    assert_eq!(rt;
+        home.as_slice(),
+        lines_of(alloc, want, Told::Home)?.as_slice()
+    );
+    Ok(())
+}
+
+/// Whether a call read a block, all of whose bytes are one.
+fn is_read(call: &HomeCall, wanted: Block, byte: u8) -> bool {
+    match call {
+        HomeCall::Read {
+            block,
+            content: Some(content),
+        } => *block == wanted && content.bytes().iter().all(|b| *b == byte),
+        _ => false,
+    }
+}
+
+#[test]
+fn devices_are_offered_no_block_that_was_given_up(rt: HostRuntime) -> Result<(), Fail> {
+    let alloc = rt.alloc();
+    let (mut log, mut home) = (MemLog::new(alloc), MemHome::new(alloc));
+    assert!(rt; home.write(Block(7), &[0x55; 4096]).is_ok());
+    let replies = drive(alloc, INVALIDATED_IN, &mut log, &mut home)?;
+    let offers = log.taken().ok_or("it tells")?;
+    let calls = home.taken().ok_or("it tells")?;
+    assert_eq!(rt; calls.len(), 2);
+    assert!(rt; is_read(&calls[1], Block(7), 0x55));
+    tells(&rt, alloc, &replies, offers, &calls[1..], INVALIDATED_OUT)
+}
+
+#[test]
+fn devices_are_offered_each_block_once_its_checkpoints_landed(rt: HostRuntime) -> Result<(), Fail> {
+    let alloc = rt.alloc();
+    let (mut log, mut home) = (MemLog::new(alloc), MemHome::new(alloc));
+    let replies = drive(alloc, FLOWN_AGAIN_IN, &mut log, &mut home)?;
+    let offers = log.taken().ok_or("it tells")?;
+    let calls = home.taken().ok_or("it tells")?;
+    tells(&rt, alloc, &replies, offers, calls, FLOWN_AGAIN_OUT)
+}
+
+/// The read is the first call of the home device, and the write of the first flush the second.
+#[test]
+fn a_device_that_fails_a_write_is_offered_it_again(rt: HostRuntime) -> Result<(), Fail> {
+    let alloc = rt.alloc();
+    let mut log = MemLog::new(alloc);
+    let mut home = FailAt::over_home(alloc, MemHome::new(alloc), 2);
+    let replies = drive(alloc, FAILED_WRITE_IN, &mut log, &mut home)?;
+    let offers = log.taken().ok_or("it tells")?;
+    let calls = home.taken().ok_or("it tells")?;
+    tells(&rt, alloc, &replies, offers, calls, FAILED_WRITE_OUT)
 }

@@ -1,0 +1,302 @@
+//! One mount, driven call by call over devices in memory.
+
+ghost use Rattle.std.specs.Prelude.{◌≡◌, ◌≤◌, All, length, true, IfOk};
+ghost use Rattle.xt_base.specs.Calls.{asks};
+ghost use Rattle.xt_base.specs.Jobs.{fits_pieces, fits_plan, flush_plan, is_begun, is_ckpt, is_waiting};
+ghost use Rattle.xt_base.specs.Order.{is_answer, is_there};
+
+use crate::lines::parse_script;
+use bytes::Bytes;
+use std::alloc::Global;
+use std::test::Fail;
+use xt_base::content::Content;
+use xt_base::names::{Block, JobKind, JobName, Life, Slot};
+use xt_base::steps::{Answer, HomeAnswers, LogAnswers, LogOffer, Reply, Request, Step};
+use xt_dev::call::HomeCall;
+use xt_dev::home::HomeDevice;
+use xt_dev::log::LogDevice;
+use xt_dev::offer::offer;
+use xt_dev::offer_home::offer_home;
+use xt_mount::mount::{Mount, Stage};
+use xt_text::buffer::Text;
+use xt_text::print_reply::{print_home_offer, print_log_offer, print_slot_reply};
+
+/// What a line of output tells.
+#[derive(Clone, Copy, PartialEq, Eq)]
+pub enum Told {
+    /// The reply of a step.
+    Reply,
+    /// An offer to the log device.
+    Log,
+    /// An offer to the home device.
+    Home,
+}
+
+/// What a line of slot 0 tells.
+fn told_by(line: &str) -> Told {
+    if line.starts_with("0 log") {
+        Told::Log
+    } else if line.starts_with("0 home") {
+        Told::Home
+    } else {
+        Told::Reply
+    }
+}
+
+/// The lines of an output that tell one thing, in order.
+pub fn lines_of(alloc: Global, output: &str, told: Told) -> Result<Vec<u8>, Fail> {
+    let mut lines = Vec::new(alloc);
+    for line in output.lines() {
+        if told_by(line) == told {
+            lines.extend_from_slice(line.as_bytes())?;
+            lines.push(b'\n')?;
+        }
+    }
+    Ok(lines)
+}
+
+/// Puts what a buffer holds behind other lines, with a newline.
+fn put_line(lines: &mut Vec<u8>, text: &Text) -> Result<(), Fail> {
+    lines.extend_from_slice(text.bytes())?;
+    lines.push(b'\n')?;
+    Ok(())
+}
+
+/// The lines of what a log device tells.
+pub fn log_lines(alloc: Global, slot: Slot, offers: &[LogOffer]) -> Result<Vec<u8>, Fail> {
+    let mut lines = Vec::new(alloc);
+    let mut text = Text::new(alloc)?;
+    for offer in offers {
+        text.clear();
+        print_log_offer(slot, offer, &mut text);
+        put_line(&mut lines, &text)?;
+    }
+    Ok(lines)
+}
+
+/// The lines of what a home device tells, the reads left out.
+pub fn home_lines(alloc: Global, slot: Slot, calls: &[HomeCall]) -> Result<Vec<u8>, Fail> {
+    let mut lines = Vec::new(alloc);
+    let mut text = Text::new(alloc)?;
+    for call in calls {
+        if let HomeCall::Offer(offer) = call {
+            text.clear();
+            print_home_offer(slot, offer, &mut text);
+            put_line(&mut lines, &text)?;
+        }
+    }
+    Ok(lines)
+}
+
+/// What the home device answers to the read of a block.
+fn read(alloc: Global, home: &mut dyn HomeDevice, block: Block) -> Result<Answer, Fail>
+    ensures { IfOk result (λ answer. is_answer answer ≡ true) }
+{
+    let mut bytes = [0; 4096];
+    if home.read(block, &mut bytes).is_err() {
+        return Ok(Answer::Failed);
+    }
+    match Content::of(bytes.as_slice().to_vec(alloc)?) {
+        Ok(content) => Ok(Answer::Content(content)),
+        Err(_) => Err(Fail::from("the length of a block")),
+    }
+}
+
+/// What the home device answers, if the request asks it.
+fn answer_to(
+    alloc: Global,
+    mount: &Mount,
+    home: &mut dyn HomeDevice,
+    request: &Request,
+) -> Result<Answer, Fail>
+    ensures { IfOk result (λ answer. is_there (asks request.now mount.now) answer ≡ true) }
+{
+    match mount.needs(request) {
+        Some(block) => read(alloc, home, block),
+        None => Ok(Answer::None),
+    }
+}
+
+/// A request, answered by the home device where it asks it.
+fn call(
+    alloc: Global,
+    mount: &mut Mount,
+    home: &mut dyn HomeDevice,
+    request: Request,
+) -> Result<Reply, Fail> {
+    let answer = answer_to(alloc, mount, home, &request)?;
+    Ok(mount.call(request, answer))
+}
+
+/// Posts the job that is owed, which must have this name.
+fn post(mount: &mut Mount, name: JobName) -> Result<Reply, Fail> {
+    let owed = mount.owed(name.kind).ok_or("no job is owed")?;
+    if owed != name {
+        return Err(Fail::from("another job is owed"));
+    }
+    mount.posted(owed);
+    Ok(Reply::Okay)
+}
+
+/// Whether a job is a checkpoint.
+fn is_ckpt(kind: JobKind) -> bool
+    ensures { result ≡ is_ckpt kind }
+{
+    match kind {
+        JobKind::Ckpt => true,
+        JobKind::Flush => false,
+    }
+}
+
+/// Whether a job is outstanding and not begun.
+fn is_waiting(mount: &Mount, name: &JobName) -> bool
+    ensures { result ≡ is_waiting name.now mount.now }
+{
+    matches!(mount.stage(name), Some(Stage::Waiting))
+}
+
+/// Whether a checkpoint is begun.
+fn is_begun(mount: &Mount, name: &JobName) -> bool
+    ensures { result ≡ is_begun name.now mount.now }
+{
+    matches!(mount.stage(name), Some(Stage::Begun))
+}
+
+/// Begins a checkpoint that was posted.
+fn begin(mount: &mut Mount, name: JobName) -> Result<Reply, Fail> {
+    if is_ckpt(name.kind) && is_waiting(mount, &name) {
+        Ok(mount.begin(name))
+    } else {
+        Err(Fail::from("no such checkpoint waits"))
+    }
+}
+
+/// Whether each piece has at most 4,096 bytes.
+fn are_short(pieces: &[Bytes]) -> bool
+    ensures { result ≡ true → All (λ piece. length piece ≤ 4096) pieces.now }
+{
+    pieces.iter().all(|piece| piece.len() <= 4096)
+}
+
+/// What the log device answers to the pieces of a checkpoint and to the sync.
+fn offered(log: &mut dyn LogDevice, pieces: &[Bytes]) -> Result<LogAnswers, Fail>
+    ensures { IfOk result (λ answers. fits_pieces answers (length pieces.now) ≡ true) }
+{
+    if pieces.len() <= 65 && are_short(pieces) {
+        Ok(offer(log, pieces))
+    } else {
+        Err(Fail::from("pieces of no checkpoint"))
+    }
+}
+
+/// Ends a checkpoint by what the log device answers.
+fn end(mount: &mut Mount, log: &mut dyn LogDevice, name: JobName) -> Result<Reply, Fail> {
+    if !is_begun(mount, &name) {
+        return Err(Fail::from("no such checkpoint is begun"));
+    }
+    let answers = offered(log, mount.pieces())?;
+    Ok(mount.end(name, answers))
+}
+
+/// Whether each content is that of a whole block.
+fn are_whole(writes: &[(Block, &[u8])]) -> bool
+    ensures { result ≡ true → All (λ w. length w.1.now ≡ 4096) writes.now }
+{
+    writes.iter().all(|write| write.1.len() == 4096)
+}
+
+/// The write at a place of a plan: its block with the committed content, if there are both.
+fn write_at<'a>(mount: &'a Mount, blocks: &[Block], place: usize) -> (Block, &'a [u8]) {
+    let block = blocks.get(place).copied().unwrap_or(Block(0));
+    (block, mount.committed(block).unwrap_or(b""))
+}
+
+/// What the home device answers to the writes of a flush: each block of its plan with the committed content.
+fn written(mount: &Mount, home: &mut dyn HomeDevice) -> Result<HomeAnswers, Fail>
+    ensures { IfOk result (λ answers. fits_plan answers (flush_plan mount.now) ≡ true) }
+{
+    let plan = mount.flush_plan().map_err(|_| "no plan")?;
+    let blocks = plan.blocks();
+    let writes = [
+        write_at(mount, blocks, 0),
+        write_at(mount, blocks, 1),
+        write_at(mount, blocks, 2),
+        write_at(mount, blocks, 3),
+        write_at(mount, blocks, 4),
+        write_at(mount, blocks, 5),
+        write_at(mount, blocks, 6),
+        write_at(mount, blocks, 7),
+    ];
+    let writes = &writes[..blocks.len()];
+    if !are_whole(writes) {
+        return Err(Fail::from("contents of no blocks"));
+    }
+    Ok(offer_home(home, writes))
+}
+
+/// Ends a flush by what the home device answers.
+fn flush(mount: &mut Mount, home: &mut dyn HomeDevice, name: JobName) -> Result<Reply, Fail> {
+    if is_ckpt(name.kind) || !is_waiting(mount, &name) {
+        return Err(Fail::from("no such flush waits"));
+    }
+    let answers = written(mount, home)?;
+    Ok(mount.flush(name, answers))
+}
+
+/// Takes a step. What the step says that a device answered is left out: the devices are asked.
+fn take(
+    alloc: Global,
+    mount: &mut Mount,
+    log: &mut dyn LogDevice,
+    home: &mut dyn HomeDevice,
+    step: Step,
+) -> Result<Reply, Fail> {
+    match step {
+        Step::Call { request, .. } => call(alloc, mount, home, request),
+        Step::Post(name) => post(mount, name),
+        Step::Take { .. } => Ok(Reply::Okay),
+        Step::Begin { name, .. } => begin(mount, name),
+        Step::End { name, .. } => end(mount, log, name),
+        Step::Flush { name, .. } => flush(mount, home, name),
+        Step::Mount { .. } | Step::Show(_) | Step::Peek(_) => Err(Fail::from("no step of a mount")),
+    }
+}
+
+/// The first mount of a slot, by the first step of a script.
+fn mounted(alloc: Global, step: Option<&Step>) -> Result<Mount, Fail> {
+    match step {
+        Some(
+            Step::Mount {
+                slot,
+                log_bytes,
+                blocks,
+            },
+        ) => Ok(Mount::new(alloc, *slot, Life(0), *log_bytes, *blocks)?),
+        _ => Err(Fail::from("no mount at first")),
+    }
+}
+
+/// Drives one mount by the lines of a script over devices, and gives the lines of its replies.
+pub fn drive(
+    alloc: Global,
+    script: &str,
+    log: &mut dyn LogDevice,
+    home: &mut dyn HomeDevice,
+) -> Result<Vec<u8>, Fail> {
+    let steps = parse_script(alloc, script.as_bytes()).map_err(|_| "lines of steps")?;
+    let mut mount = mounted(alloc, steps.first())?;
+    let mut text = Text::new(alloc)?;
+    let mut replies = Vec::new(alloc);
+    for (i, step) in steps.into_iter().enumerate() {
+        let slot = step.slot();
+        let reply = if i == 0 {
+            Reply::Life(mount.life())
+        } else {
+            take(alloc, &mut mount, log, home, step)?
+        };
+        text.clear();
+        print_slot_reply(slot, &reply, &mut text);
+        put_line(&mut replies, &text)?;
+    }
+    Ok(replies)
+}
