@@ -117,13 +117,17 @@ fn answer_to(
     }
 }
 
-/// A request, answered by the home device where it asks it.
+/// A request to the life of the mount, answered by the home device where it asks it.
 fn call(
     alloc: Global,
     mount: &mut Mount,
     home: &mut dyn HomeDevice,
+    life: Life,
     request: Request,
 ) -> Result<Reply, Fail> {
+    if life != mount.life() {
+        return Err(Fail::from("a call of another life"));
+    }
     let answer = answer_to(alloc, mount, home, &request)?;
     Ok(mount.call(request, answer))
 }
@@ -252,7 +256,7 @@ fn take(
     step: Step,
 ) -> Result<Reply, Fail> {
     match step {
-        Step::Call { request, .. } => call(alloc, mount, home, request),
+        Step::Call { life, request, .. } => call(alloc, mount, home, life, request),
         Step::Post(name) => post(mount, name),
         Step::Take { .. } => Ok(Reply::Okay),
         Step::Begin { name, .. } => begin(mount, name),
