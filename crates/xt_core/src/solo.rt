@@ -12,9 +12,9 @@ ghost use Rattle.xt_base.specs.State.{empty};
 ghost use Rattle.xt_base.specs.Steps.{slot_of};
 ghost use Rattle.xt_base.specs.Turns.{can_step, hand_after, held_in, keeps_turn};
 ghost use Rattle.xt_base.specs.declared.steps.Step.{Step as AStep};
-ghost use Rattle.xt_mount.specs.Solo.{answered_turn, hand_of, lone_of, with_lone, IsServedUnlessMemory, IsStepped, IsTurned};
+ghost use Rattle.xt_core.specs.Solo.{answered_turn, hand_of, lone_of, with_lone, IsServedUnlessMemory, IsStepped, IsTurned};
 
-use crate::mount::{Mount, Stage};
+use xt_mount::mount::{Mount, Stage};
 use crate::offers::{home_offers, log_offers};
 use std::alloc::{AllocError, Global};
 use std::collections::VecDeque;

@@ -7,7 +7,7 @@ ghost use Rattle.xt_base.specs.Text.{content_at, log_offers_of, offered};
 ghost use Rattle.xt_base.specs.declared.steps.HomeOffer.{HomeOffer as AHomeOffer};
 ghost use Rattle.xt_base.specs.declared.steps.LogOffer.{LogOffer as AnOffer};
 
-use crate::mount::Mount;
+use xt_mount::mount::Mount;
 use bytes::Bytes;
 use std::alloc::{AllocError, Global};
 use xt_base::content::{Content, Data};
