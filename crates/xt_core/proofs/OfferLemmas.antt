@@ -1,15 +1,10 @@
 -- The writes of a flush, one more at a time.
-use Rattle.std.proofs.Common.{◌≡◌, ◌≢◌, ◌∙◌, ◌+◌, ◌<◌, ◌++◌, ◌∷◌, Bool, List, [], ap, arith, false, get_or, length, length-take, refl, sym, take, ℕ}
-use Rattle.std.proofs.lemmas.Bool.{ne_eqb}
+use Rattle.std.proofs.Common.{◌≡◌, ◌∙◌, ◌+◌, ◌<◌, ◌++◌, ◌∷◌, Bool, List, [], ap, arith, get_or, length, length-take, refl, sym, take, ℕ}
 use Rattle.std.proofs.lemmas.List.{take_more}
-use Rattle.std.specs.Prelude.{if◌then◌else◌, min, ◌==◌}
-use Rattle.xt_base.specs.Calls.{gives}
-use Rattle.xt_base.specs.Jobs.{flush, flush_of, flush_plan, flushed, unflushed, writes}
-use Rattle.xt_base.specs.State.{State}
+use Rattle.std.specs.Prelude.{min}
+use Rattle.xt_base.specs.Jobs.{writes}
 use Rattle.xt_base.specs.Text.{content_at}
-use Rattle.xt_base.specs.declared.steps.HomeAnswers.{HomeAnswers}
 use Rattle.xt_base.specs.declared.steps.HomeOffer.{HomeOffer}
-use Rattle.xt_base.specs.declared.steps.Reply.TheVariants.{Nothing}
 
 -- one write more, where as many blocks as answers are there
 writes_last : (contents : List (ℕ × List ℕ)) (bs : List ℕ) (oks : List Bool) (b : ℕ) (ok : Bool) → length bs ≡ length oks

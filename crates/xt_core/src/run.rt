@@ -1,7 +1,6 @@
 //! The run of one slot over a list of steps.
 
 ghost use Rattle.std.specs.Prelude.{◌≡◌, ◌<◌, true, IfOk, IfErr, OnOk};
-ghost use Rattle.xt_base.specs.Alone.{reason_of};
 ghost use Rattle.xt_base.specs.Isolation.{told_then, TellsOne};
 ghost use Rattle.xt_base.specs.Order.{suits};
 ghost use Rattle.xt_base.specs.Own.{IsOwnOf};

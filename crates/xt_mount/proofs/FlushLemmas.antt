@@ -1,14 +1,11 @@
 -- A flush, by its plan and its answers.
-use Rattle.std.proofs.Common.{◌≡◌, ◌≢◌, ◌∙◌, ◌+◌, ◌<◌, ◌++◌, ◌∷◌, Bool, List, [], ap, arith, false, get_or, length, length-take, refl, sym, take, ℕ}
+use Rattle.std.proofs.Common.{◌≡◌, ◌≢◌, ◌∙◌, Bool, List, [], ap, false, length, sym, ℕ}
 use Rattle.std.proofs.lemmas.Bool.{ne_eqb}
-use Rattle.std.proofs.lemmas.List.{take_more}
-use Rattle.std.specs.Prelude.{if◌then◌else◌, min, ◌==◌}
+use Rattle.std.specs.Prelude.{if◌then◌else◌, ◌==◌}
 use Rattle.xt_base.specs.Calls.{gives}
-use Rattle.xt_base.specs.Jobs.{flush, flush_of, flush_plan, flushed, unflushed, writes}
+use Rattle.xt_base.specs.Jobs.{flush, flush_of, flush_plan, flushed, unflushed}
 use Rattle.xt_base.specs.State.{State}
-use Rattle.xt_base.specs.Text.{content_at}
 use Rattle.xt_base.specs.declared.steps.HomeAnswers.{HomeAnswers}
-use Rattle.xt_base.specs.declared.steps.HomeOffer.{HomeOffer}
 use Rattle.xt_base.specs.declared.steps.Reply.TheVariants.{Nothing}
 
 -- a plan of so many blocks that they are not none
