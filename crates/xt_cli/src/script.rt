@@ -11,7 +11,7 @@ use std::io::{Read, Write};
 use xt_base::names::Slot;
 use xt_base::outcomes::RunFault;
 use xt_base::steps::Step;
-use xt_mount::run::run_one;
+use xt_core::run::run_one;
 
 /// The steps that are run: all, or those of one slot.
 fn pick(mut steps: Vec<Step>, only: Option<Slot>) -> Vec<Step>

@@ -1,14 +1,11 @@
 -- A flush, by its plan and its answers.
-use Rattle.std.proofs.Common.{◌≡◌, ◌≢◌, ◌∙◌, ◌+◌, ◌<◌, ◌++◌, ◌∷◌, Bool, List, [], ap, arith, false, get_or, length, length-take, refl, sym, take, ℕ}
+use Rattle.std.proofs.Common.{◌≡◌, ◌≢◌, ◌∙◌, Bool, List, [], ap, false, length, sym, ℕ}
 use Rattle.std.proofs.lemmas.Bool.{ne_eqb}
-use Rattle.std.proofs.lemmas.List.{take_more}
-use Rattle.std.specs.Prelude.{if◌then◌else◌, min, ◌==◌}
+use Rattle.std.specs.Prelude.{if◌then◌else◌, ◌==◌}
 use Rattle.xt_base.specs.Calls.{gives}
-use Rattle.xt_base.specs.Jobs.{flush, flush_of, flush_plan, flushed, unflushed, writes}
+use Rattle.xt_base.specs.Jobs.{flush, flush_of, flush_plan, flushed, unflushed}
 use Rattle.xt_base.specs.State.{State}
-use Rattle.xt_base.specs.Text.{content_at}
 use Rattle.xt_base.specs.declared.steps.HomeAnswers.{HomeAnswers}
-use Rattle.xt_base.specs.declared.steps.HomeOffer.{HomeOffer}
 use Rattle.xt_base.specs.declared.steps.Reply.TheVariants.{Nothing}
 
 -- a plan of so many blocks that they are not none
@@ -19,21 +16,3 @@ not_none plan count is other = ap (λ n. n == 0) (sym is) ∙ ne_eqb count 0 oth
 pub flush_is : (s : State) (answers : HomeAnswers) (plan : List ℕ) → plan ≡ flush_plan s → (length plan == 0) ≡ false → flushed [] plan answers s ≡ flush [] answers s
 flush_is s answers plan is some =
     sym (ap (λ (b : Bool). if b then gives Nothing (unflushed s) else flushed [] plan answers s) some) ∙ ap (flush_of [] answers s) is
-
--- ---- offers
--- one write more, where as many blocks as answers are there
-writes_last : (contents : List (ℕ × List ℕ)) (bs : List ℕ) (oks : List Bool) (b : ℕ) (ok : Bool) → length bs ≡ length oks
-    → writes contents (bs ++ b ∷ []) (oks ++ ok ∷ []) ≡ writes contents bs oks ++ HomeOffer.Write b (content_at b contents) ok ∷ []
-writes_last contents [] [] b ok same = refl
-writes_last contents [] (o ∷ oks) b ok same = absurd (omega (arith, same))
-writes_last contents (x ∷ bs) [] b ok same = absurd (omega (arith, same))
-writes_last contents (x ∷ bs) (o ∷ oks) b ok same = ap (λ ys. HomeOffer.Write x (content_at x contents) o ∷ ys) (writes_last contents bs oks b ok (omega (arith, same)))
-
--- the write at a place after those before it
-pub writes_more : (contents : List (ℕ × List ℕ)) (bs : List ℕ) (oks : List Bool) (i b : ℕ) (d : Bool) → i < length bs → length oks ≡ length bs → b ≡ get_or bs i b
-    → writes contents (take (i + 1) bs) (take (i + 1) oks) ≡ writes contents (take i bs) (take i oks) ++ HomeOffer.Write b (content_at b contents) (get_or oks i d) ∷ []
-writes_more contents bs oks i b d within same is =
-    let answered : i < length oks = omega (arith, same, within) in
-    ap (λ xs. writes contents xs (take (i + 1) oks)) (take_more bs i b within ∙ ap (λ y. take i bs ++ y ∷ []) (sym is))
-    ∙ ap (writes contents (take i bs ++ b ∷ [])) (take_more oks i d answered)
-    ∙ writes_last contents (take i bs) (take i oks) b (get_or oks i d) (length-take i bs ∙ ap (min i) (sym same) ∙ sym (length-take i oks))

@@ -5,8 +5,6 @@ pub mod KeepLemmas
 pub mod EndLemmas
 pub mod CkptLemmas
 pub mod MountLemmas
-pub mod SoloLemmas
-pub mod CallLemmas
 pub mod ChargeLemmas
 pub mod JournalLemmas
 pub mod RollLemmas

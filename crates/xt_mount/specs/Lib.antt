@@ -8,4 +8,3 @@ pub mod Reads
 pub mod Texts
 pub mod Come
 pub mod Stages
-pub mod Solo

@@ -1,7 +1,7 @@
 use Rattle.std.proofs.Common.{◌∙◌, subst, sym}
-use Rattle.xt_mount.proofs.SoloLemmas.{taken_step}
-use Rattle.xt_mount.proofs.solo.Solo.take.Goals as goal
-use Rattle.xt_mount.specs.Solo.{IsStepped}
+use Rattle.xt_core.proofs.SoloLemmas.{taken_step}
+use Rattle.xt_core.proofs.solo.Solo.take.Goals as goal
+use Rattle.xt_core.specs.Solo.{IsStepped}
 
 pub returns : goal.returns
 returns c =

@@ -16,8 +16,8 @@ use Rattle.xt_base.specs.declared.steps.LogOffer.{LogOffer}
 use Rattle.xt_base.specs.declared.steps.Reason.{Reason}
 use Rattle.xt_base.specs.declared.steps.Reply.{Reply}
 use Rattle.xt_base.specs.declared.steps.Step.{Step}
-use Rattle.xt_mount.specs.Solo.{IsKept, IsMore, IsRefused, IsServed, IsServedUnlessMemory, IsStepped, IsTaken, IsTurned, hand_of, lone_of, with_lone}
-use Rattle.xt_mount.specs.declared.solo.Solo.{Solo}
+use Rattle.xt_core.specs.Solo.{IsKept, IsMore, IsRefused, IsServed, IsServedUnlessMemory, IsStepped, IsTaken, IsTurned, hand_of, lone_of, with_lone}
+use Rattle.xt_core.specs.declared.solo.Solo.{Solo}
 
 -- ---- a step
 said : ℕ → Reply → List LogOffer → List HomeOffer → Said

@@ -1,6 +1,6 @@
 use Rattle.std.proofs.Common.{◌∙◌, sym}
-use Rattle.xt_mount.proofs.SoloLemmas.{MayCome, may_come, running_breaks, running_more, running_tells}
-use Rattle.xt_mount.proofs.run.run_one.Goals as goal
+use Rattle.xt_core.proofs.SoloLemmas.{MayCome, may_come, running_breaks, running_more, running_tells}
+use Rattle.xt_core.proofs.run.run_one.Goals as goal
 
 pub returns-then-not-can_take-clause-fault : goal.returns-then-not-can_take-clause-fault
 returns-then-not-can_take-clause-fault c =

@@ -1,5 +1,5 @@
-use Rattle.xt_mount.proofs.CallLemmas.{served_call}
-use Rattle.xt_mount.proofs.solo.Solo.call.Goals as goal
+use Rattle.xt_core.proofs.CallLemmas.{served_call}
+use Rattle.xt_core.proofs.solo.Solo.call.Goals as goal
 
 pub returns : goal.returns
 returns c =

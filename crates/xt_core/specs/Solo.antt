@@ -15,7 +15,7 @@ use Rattle.xt_base.specs.declared.steps.Reply.{Reply}
 use Rattle.xt_base.specs.declared.steps.Reply.TheVariants.{Refused}
 use Rattle.xt_base.specs.declared.steps.Request.{Request}
 use Rattle.xt_base.specs.declared.steps.Step.{Step}
-use Rattle.xt_mount.specs.declared.solo.Solo.{Solo}
+use Rattle.xt_core.specs.declared.solo.Solo.{Solo}
 
 -- the slot's state
 abbrev pub lone_of : Solo → Lone

@@ -1,12 +1,11 @@
 //! The run of one slot over a list of steps.
 
 ghost use Rattle.std.specs.Prelude.{◌≡◌, ◌<◌, true, IfOk, IfErr, OnOk};
-ghost use Rattle.xt_base.specs.Alone.{reason_of};
 ghost use Rattle.xt_base.specs.Isolation.{told_then, TellsOne};
 ghost use Rattle.xt_base.specs.Order.{suits};
 ghost use Rattle.xt_base.specs.Own.{IsOwnOf};
 ghost use Rattle.xt_base.specs.Steps.{slot_of};
-ghost use Rattle.xt_mount.specs.Solo.{lone_of, IsFaultOne, IsMore};
+ghost use Rattle.xt_core.specs.Solo.{lone_of, IsFaultOne, IsMore};
 
 use crate::solo::{Solo, is_no_memory};
 use std::alloc::{AllocError, Global};

@@ -13,9 +13,9 @@ use Rattle.xt_base.specs.declared.steps.Reply.{Reply}
 use Rattle.xt_base.specs.declared.steps.Reply.TheVariants.{Okay, Refused}
 use Rattle.xt_base.specs.declared.steps.Request.{Request}
 use Rattle.xt_base.specs.declared.steps.Step.TheVariants.{Call}
-use Rattle.xt_mount.proofs.SoloLemmas.{by_false, by_true, to_false, to_true}
-use Rattle.xt_mount.specs.Solo.{IsTurned, answered_turn, lone_of, mounted_turn, with_lone}
-use Rattle.xt_mount.specs.declared.solo.Solo.{Solo}
+use Rattle.xt_core.proofs.SoloLemmas.{by_false, by_true, to_false, to_true}
+use Rattle.xt_core.specs.Solo.{IsTurned, answered_turn, lone_of, mounted_turn, with_lone}
+use Rattle.xt_core.specs.declared.solo.Solo.{Solo}
 
 -- a reply that is ENOMEM is not ok
 okay_none : (r : Reply) → is_no_memory r ≡ true → is_okay r ≡ false

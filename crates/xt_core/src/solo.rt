@@ -1,7 +1,7 @@
 //! One slot and its workers: the mount if there is one, what the board shows of it, the queue of posted names, and
 //! the names in the workers' hands.
 
-ghost use Rattle.std.specs.Prelude.{◌≡◌, ◌==◌, ◌&&◌, ◌++◌, ◌∷◌, ℕ, length, [], None, false, true, if◌then◌else◌, is_none, option_to_list, slice_index_or, IfOk, OnOk, OnErr};
+ghost use Rattle.std.specs.Prelude.{◌≡◌, ◌==◌, ◌&&◌, ◌++◌, ◌∷◌, ℕ, length, [], None, false, true, if◌then◌else◌, is_none, IfOk, OnOk, OnErr};
 ghost use Rattle.xt_base.specs.Alone.{alone, call as call_step, goes_on, is_okay, mount as mount_step, on_mount, reason_of, shown};
 ghost use Rattle.xt_base.specs.Calls.{is_unmount};
 ghost use Rattle.xt_base.specs.Jobs.{begin as begin_step, end as end_step, end_offers, fits_pieces, fits_plan, flight_pieces, flush as flush_step, flush_offers, flush_plan, is_begun, is_ckpt, is_owed_as, is_waiting};
@@ -12,9 +12,8 @@ ghost use Rattle.xt_base.specs.State.{empty};
 ghost use Rattle.xt_base.specs.Steps.{slot_of};
 ghost use Rattle.xt_base.specs.Turns.{can_step, hand_after, held_in, keeps_turn};
 ghost use Rattle.xt_base.specs.declared.steps.Step.{Step as AStep};
-ghost use Rattle.xt_mount.specs.Solo.{answered_turn, hand_of, lone_of, with_lone, IsServedUnlessMemory, IsStepped, IsTurned};
+ghost use Rattle.xt_core.specs.Solo.{answered_turn, hand_of, lone_of, with_lone, IsServedUnlessMemory, IsStepped, IsTurned};
 
-use crate::mount::{Mount, Stage};
 use crate::offers::{home_offers, log_offers};
 use std::alloc::{AllocError, Global};
 use std::collections::VecDeque;
@@ -23,6 +22,7 @@ use xt_base::outcomes::Turn;
 use xt_base::steps::{
     Answer, Errno, HomeAnswers, HomeOffer, LogAnswers, LogOffer, Reason, Reply, Request, Step,
 };
+use xt_mount::mount::{Mount, Stage};
 
 /// A slot with its workers.
 #[derive(Debug, Drop)]

@@ -7,12 +7,12 @@ ghost use Rattle.xt_base.specs.Text.{content_at, log_offers_of, offered};
 ghost use Rattle.xt_base.specs.declared.steps.HomeOffer.{HomeOffer as AHomeOffer};
 ghost use Rattle.xt_base.specs.declared.steps.LogOffer.{LogOffer as AnOffer};
 
-use crate::mount::Mount;
 use bytes::Bytes;
 use std::alloc::{AllocError, Global};
 use xt_base::content::{Content, Data};
 use xt_base::names::Block;
 use xt_base::steps::{HomeAnswers, HomeOffer, LogAnswers, LogOffer};
+use xt_mount::mount::Mount;
 
 /// The offer of a piece, which is copied.
 fn piece_offer(alloc: Global, piece: &Bytes, ok: bool) -> Result<LogOffer, AllocError>

@@ -1,8 +1,8 @@
 use Rattle.std.proofs.Common.{refl, subst, sym}
 use Rattle.xt_base.specs.declared.steps.Step.{Step}
-use Rattle.xt_mount.proofs.SoloLemmas.{turned_step}
-use Rattle.xt_mount.proofs.solo.Solo.serve.Goals as goal
-use Rattle.xt_mount.specs.Solo.{IsServedUnlessMemory}
+use Rattle.xt_core.proofs.SoloLemmas.{turned_step}
+use Rattle.xt_core.proofs.solo.Solo.serve.Goals as goal
+use Rattle.xt_core.specs.Solo.{IsServedUnlessMemory}
 
 pub returns-in-Flush : goal.returns-in-Flush
 returns-in-Flush c =

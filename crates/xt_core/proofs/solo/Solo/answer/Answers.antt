@@ -1,7 +1,7 @@
 use Rattle.std.proofs.Common.{◌∙◌, ap, sym}
 use Rattle.std.specs.Prelude.{◌==◌}
-use Rattle.xt_mount.proofs.CallLemmas.{turned_by}
-use Rattle.xt_mount.proofs.solo.Solo.answer.Goals as goal
+use Rattle.xt_core.proofs.CallLemmas.{turned_by}
+use Rattle.xt_core.proofs.solo.Solo.answer.Goals as goal
 
 pub returns-then-eq : goal.returns-then-eq
 returns-then-eq c =

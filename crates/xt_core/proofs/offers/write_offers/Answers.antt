@@ -1,8 +1,8 @@
 use Rattle.std.proofs.Common.{◌∙◌, ◌++◌, ◌∷◌, [], List, ap, false, get_or, sym}
 use Rattle.xt_base.specs.Text.{content_at}
 use Rattle.xt_base.specs.declared.steps.HomeOffer.{HomeOffer}
-use Rattle.xt_mount.proofs.FlushLemmas.{writes_more}
-use Rattle.xt_mount.proofs.offers.write_offers.Goals as goal
+use Rattle.xt_core.proofs.OfferLemmas.{writes_more}
+use Rattle.xt_core.proofs.offers.write_offers.Goals as goal
 
 pub loop-i-preserved : goal.loop-i-preserved
 loop-i-preserved c =

@@ -1,0 +1,3 @@
+pub mod SoloLemmas
+pub mod CallLemmas
+pub mod OfferLemmas

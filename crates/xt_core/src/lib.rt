@@ -1,0 +1,6 @@
+//! The pure host: one slot with its queue and its workers' hands, run over a list of steps.
+#![tactic(auto)]
+
+mod offers;
+pub mod run;
+mod solo;
