@@ -2,9 +2,9 @@ use Rattle.std.proofs.Common.{◌∙◌, List, ap, arith, length, ℕ}
 use Rattle.xt_base.proofs.ViewLemmas.{keys_put}
 use Rattle.xt_base.specs.Maps.{with_member}
 use Rattle.xt_base.specs.Marks.{Marks}
-use Rattle.xt_mount.proofs.FreshLemmas.{are_put, length_fresh}
-use Rattle.xt_mount.specs.Fresh.{fresh_of, is_fresh_mark}
-use Rattle.xt_mount.proofs.fresh.FreshBlocks.insert.Goals as goal
+use Rattle.xt_frames.proofs.FreshLemmas.{are_put, length_fresh}
+use Rattle.xt_frames.specs.Fresh.{fresh_of, is_fresh_mark}
+use Rattle.xt_frames.proofs.fresh.FreshBlocks.insert.Goals as goal
 
 pub put-requires : goal.put-requires
 put-requires c = λ absent.

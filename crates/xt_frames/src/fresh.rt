@@ -21,7 +21,7 @@ impl Model for FreshBlocks {
 
     ghost Value = { List ℕ };
 
-    ghost use Rattle.xt_mount.specs.Fresh.{AreFresh, fresh_of};
+    ghost use Rattle.xt_frames.specs.Fresh.{AreFresh, fresh_of};
 
     ghost view = { λ f. fresh_of f.marks };
 

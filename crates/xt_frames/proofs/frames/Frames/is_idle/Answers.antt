@@ -2,8 +2,8 @@ use Rattle.std.proofs.Common.{◌≡◌, ◌∙◌, ap, length, arith}
 use Rattle.xt_base.specs.Maps.{is_in}
 use Rattle.xt_base.specs.Places.{spot}
 use Rattle.xt_base.specs.State.{Frames}
-use Rattle.xt_mount.proofs.FrameLemmas.{spot_is_in}
-use Rattle.xt_mount.proofs.frames.Frames.is_idle.Goals as goal
+use Rattle.xt_frames.proofs.FrameLemmas.{spot_is_in}
+use Rattle.xt_frames.proofs.frames.Frames.is_idle.Goals as goal
 
 pub returns : goal.returns
 returns c =

@@ -8,7 +8,7 @@ use Rattle.xt_base.proofs.RisingLemmas.{each_put, each_without, rises_put, rises
 use Rattle.xt_base.specs.Maps.{put, without}
 use Rattle.xt_base.specs.Sound.{Each, RisesFrom}
 use Rattle.xt_base.specs.declared.marks.ItemMarks.{ItemMarks}
-use Rattle.xt_mount.specs.Fresh.{AreFresh, fresh_of, is_fresh_mark}
+use Rattle.xt_frames.specs.Fresh.{AreFresh, fresh_of, is_fresh_mark}
 
 abbrev Marked : Type 0
 Marked = List (ℕ × ItemMarks)

@@ -1,9 +1,9 @@
 use Rattle.std.proofs.Common.{◌<◌, ◌≤◌, ◌∙◌, ap, length, arith}
 use Rattle.xt_base.specs.Places.{spot}
 use Rattle.xt_base.proofs.PlaceLemmas.{rest_found, rest_missing}
-use Rattle.xt_mount.specs.contracts.frames.Frames.{the_view}
-use Rattle.xt_mount.proofs.FrameLemmas.{idle_left, idle_stays}
-use Rattle.xt_mount.proofs.frames.Frames.leave_idle.Goals as goal
+use Rattle.xt_frames.specs.contracts.frames.Frames.{the_view}
+use Rattle.xt_frames.proofs.FrameLemmas.{idle_left, idle_stays}
+use Rattle.xt_frames.proofs.frames.Frames.leave_idle.Goals as goal
 
 pub returns-then-found-len : goal.returns-then-found-len
 returns-then-found-len c =

@@ -1,7 +1,7 @@
 use Rattle.std.proofs.Common.{◌∙◌, List, ap, arith, length, sym, ℕ}
 use Rattle.std.specs.Prelude.{slice_get}
-use Rattle.xt_mount.proofs.FreshLemmas.{fresh_there, length_fresh}
-use Rattle.xt_mount.proofs.fresh.FreshBlocks.at.Goals as goal
+use Rattle.xt_frames.proofs.FreshLemmas.{fresh_there, length_fresh}
+use Rattle.xt_frames.proofs.fresh.FreshBlocks.at.Goals as goal
 
 pub entry_at-requires : goal.entry_at-requires
 entry_at-requires c =

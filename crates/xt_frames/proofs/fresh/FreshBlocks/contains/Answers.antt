@@ -2,8 +2,8 @@ use Rattle.std.proofs.Common.{◌∙◌, ap, sym}
 use Rattle.xt_base.proofs.ViewLemmas.{has_keys}
 use Rattle.xt_base.specs.Maps.{has}
 use Rattle.xt_base.specs.Views.{key_if}
-use Rattle.xt_mount.specs.Fresh.{is_fresh_mark}
-use Rattle.xt_mount.proofs.fresh.FreshBlocks.contains.Goals as goal
+use Rattle.xt_frames.specs.Fresh.{is_fresh_mark}
+use Rattle.xt_frames.proofs.fresh.FreshBlocks.contains.Goals as goal
 
 pub returns-in-Some : goal.returns-in-Some
 returns-in-Some c =

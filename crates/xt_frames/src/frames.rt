@@ -2,7 +2,7 @@
 
 ghost use Rattle.std.specs.Prelude.{◌≡◌, ◌+◌, Some, ◌<◌, ◌≤◌, ◌++◌, ◌∷◌, [], length, take, drop, slice_get, IfOk, IfSome, option_copied, if◌then◌else◌};
 ghost use Rattle.xt_base.specs.Maps.{at, has, is_in, put, with_member, without, without_member};
-ghost use Rattle.xt_mount.specs.Layers.{no_frames, brought_in};
+ghost use Rattle.xt_frames.specs.Contents.{no_frames, brought_in};
 
 use crate::fresh::FreshBlocks;
 use std::alloc::{AllocError, Global};

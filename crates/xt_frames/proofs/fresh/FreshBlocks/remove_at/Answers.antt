@@ -1,6 +1,6 @@
 use Rattle.std.proofs.Common.{◌∙◌, ◌+◌, ◌++◌, List, ap, arith, drop, length, take, ℕ}
-use Rattle.xt_mount.proofs.FreshLemmas.{are_cut, fresh_cut, length_fresh}
-use Rattle.xt_mount.proofs.fresh.FreshBlocks.remove_at.Goals as goal
+use Rattle.xt_frames.proofs.FreshLemmas.{are_cut, fresh_cut, length_fresh}
+use Rattle.xt_frames.proofs.fresh.FreshBlocks.remove_at.Goals as goal
 
 pub remove_at-marks-requires : goal.remove_at-marks-requires
 remove_at-marks-requires c =

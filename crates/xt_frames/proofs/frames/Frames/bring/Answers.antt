@@ -1,9 +1,9 @@
 use Rattle.std.proofs.Common.{◌<◌, ◌≤◌, ◌∙◌, ap, length, arith}
 use Rattle.xt_base.specs.Places.{spot}
 use Rattle.xt_base.proofs.PlaceLemmas.{value_found, rest_found, value_missing}
-use Rattle.xt_mount.specs.contracts.frames.Frames.{the_view}
-use Rattle.xt_mount.proofs.FrameLemmas.{brought_idle, brought_fresh}
-use Rattle.xt_mount.proofs.frames.Frames.bring.Goals as goal
+use Rattle.xt_frames.specs.contracts.frames.Frames.{the_view}
+use Rattle.xt_frames.proofs.FrameLemmas.{brought_idle, brought_fresh}
+use Rattle.xt_frames.proofs.frames.Frames.bring.Goals as goal
 
 pub returns-then-found-len : goal.returns-then-found-len
 returns-then-found-len c =

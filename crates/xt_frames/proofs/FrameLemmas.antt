@@ -7,7 +7,7 @@ use Rattle.xt_base.specs.Places.{spot}
 use Rattle.xt_base.proofs.PlaceLemmas.{found, missing}
 use Rattle.xt_base.specs.Maps.{at, is_in, put, without, with_member}
 use Rattle.xt_base.specs.State.{Frames}
-use Rattle.xt_mount.specs.Layers.{brought_in}
+use Rattle.xt_frames.specs.Contents.{brought_in}
 
 module _ (b : ℕ) (f g : Frames) (same : f ≡ g) where
   -- with its idle content
