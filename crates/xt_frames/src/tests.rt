@@ -1,4 +1,4 @@
-//! The contents on small lists worked out by hand, and what a refused allocation leaves.
+//! The contents on small lists worked out by hand.
 
 use crate::frames::Frames;
 use std::alloc::{AllocError, Global};
@@ -11,16 +11,37 @@ fn content_of(alloc: Global, first: u8) -> Result<Content, AllocError> {
     Ok(content)
 }
 
-/// A content that begins with this byte is committed; false where a growth is refused, or where there is no room.
-fn commit(alloc: Global, frames: &mut Frames, block: u64, first: u8) -> bool {
-    let Ok(content) = content_of(alloc, first) else {
-        return false;
-    };
-    if frames.committed_len() >= 128 {
-        return false;
+/// A content that begins with this byte is committed, where there is room.
+fn commit(alloc: Global, frames: &mut Frames, block: u64, first: u8) -> Result<(), AllocError> {
+    let content = content_of(alloc, first)?;
+    if frames.committed_len() < 128 {
+        frames.commit(block, content);
     }
-    frames.commit(block, content);
-    true
+    Ok(())
+}
+
+/// Contents of which one is committed.
+fn with_one(alloc: Global, block: u64, first: u8) -> Result<Frames, AllocError> {
+    let mut frames = Frames::new(alloc)?;
+    commit(alloc, &mut frames, block, first)?;
+    Ok(frames)
+}
+
+/// The first committed content goes, where there is one; the block that it was of.
+fn settle_first(frames: &mut Frames, is_kept: bool) -> Option<u64> {
+    if frames.committed_len() == 0 {
+        return None;
+    }
+    let block = frames.committed_at(0);
+    frames.settle_at(0, is_kept);
+    Some(block)
+}
+
+/// A block is brought in, where there is room.
+fn bring(frames: &mut Frames, block: u64) {
+    if frames.committed_len() < 128 && frames.fresh_len() < 128 {
+        frames.bring(block);
+    }
 }
 
 /// The first byte of the committed content of a block.
@@ -29,134 +50,110 @@ fn first_byte(frames: &Frames, block: u64) -> Option<u8> {
     Some(content.bytes()[0])
 }
 
-/// Of three blocks the middle one is kept idle and the first one is not. Brought again, the one has its content, the other
-/// is fresh. Where a growth is refused nothing has changed: run it with each allocation failing in turn.
-#[test]
-fn idle_content_comes_back(rt: HostRuntime) {
-    let Ok(mut frames) = Frames::new(rt.alloc()) else {
-        return;
-    };
-    for (block, first) in [(7, 0x11), (9, 0x22), (5, 0x55)] {
-        let before = frames.committed_len();
-        if !commit(rt.alloc(), &mut frames, block, first) {
-            assert_eq!(rt;
-                (frames.committed_len(), first_byte(&frames, block)),
-                (before, None)
-            );
-            return;
+/// How many of the blocks from 0 to 99 are idle.
+fn idle_count(frames: &Frames) -> usize {
+    let mut count = 0;
+    for block in 0..100 {
+        if count < 100 && frames.is_idle(block) {
+            count += 1;
         }
     }
-    assert!(rt; frames.committed_len() == 3);
-    assert_eq!(rt;
-        (
-            frames.committed_at(0),
-            frames.committed_at(1),
-            frames.committed_at(2)
-        ),
-        (5, 7, 9)
-    );
-    frames.settle_at(1, true);
-    assert!(rt; frames.committed_len() == 2);
-    frames.settle_at(0, false);
-    assert!(rt; frames.is_idle(7) && !frames.is_idle(5) && !frames.is_idle(9));
-    assert_eq!(rt;
-        (
-            first_byte(&frames, 5),
-            first_byte(&frames, 7),
-            first_byte(&frames, 9)
-        ),
-        (None, None, Some(0x22))
-    );
-    assert!(rt; frames.committed_len() == 1 && frames.fresh_len() == 0);
-    frames.bring(7);
-    assert!(rt; frames.committed_len() == 2 && frames.fresh_len() == 0);
-    frames.bring(5);
-    assert!(rt; !frames.is_idle(7) && !frames.is_fresh(7) && frames.is_fresh(5));
-    assert_eq!(rt;
-        (first_byte(&frames, 5), first_byte(&frames, 7)),
-        (None, Some(0x11))
-    );
-    frames.uncommit(9);
-    assert!(rt; !frames.is_idle(9) && first_byte(&frames, 9).is_none());
-    assert_eq!(rt; (frames.committed_len(), frames.fresh_len()), (1, 1));
+    count
 }
 
-/// A block that was idle is brought with another content: the old one is forgotten.
+/// A block is committed, and what is committed first becomes idle.
+fn rest(alloc: Global, frames: &mut Frames, block: u64) -> Result<(), AllocError> {
+    commit(alloc, frames, block, 0x44)?;
+    let _block = settle_first(frames, true);
+    Ok(())
+}
+
+/// A content that is kept is idle, and comes back with its block.
 #[test]
-fn another_content_is_brought(rt: HostRuntime) {
-    let Ok(mut frames) = Frames::new(rt.alloc()) else {
-        return;
-    };
-    if !commit(rt.alloc(), &mut frames, 7, 0x11) {
-        return;
-    }
-    assert!(rt; frames.committed_len() == 1);
-    frames.settle_at(0, true);
-    assert!(rt; frames.is_idle(7) && frames.committed_len() == 0);
-    let Ok(content) = content_of(rt.alloc(), 0x33) else {
-        return;
-    };
+fn idle_content_comes_back(rt: HostRuntime) -> Result<(), AllocError> {
+    let mut frames = with_one(rt.alloc(), 7, 0x11)?;
+    assert_eq!(rt; settle_first(&mut frames, true), Some(7));
+    assert_eq!(rt; first_byte(&frames, 7), None);
+    assert!(rt; frames.is_idle(7));
+    bring(&mut frames, 7);
+    assert_eq!(rt; first_byte(&frames, 7), Some(0x11));
+    assert!(rt; !frames.is_idle(7));
+    assert!(rt; !frames.is_fresh(7));
+    Ok(())
+}
+
+/// A content that is not kept is gone: its block comes back fresh.
+#[test]
+fn other_content_is_gone(rt: HostRuntime) -> Result<(), AllocError> {
+    let mut frames = with_one(rt.alloc(), 7, 0x11)?;
+    assert_eq!(rt; settle_first(&mut frames, false), Some(7));
+    assert!(rt; !frames.is_idle(7));
+    bring(&mut frames, 7);
+    assert_eq!(rt; first_byte(&frames, 7), None);
+    assert!(rt; frames.is_fresh(7));
+    Ok(())
+}
+
+/// A block that was idle is brought with another content: the old one is gone.
+#[test]
+fn another_content_is_brought(rt: HostRuntime) -> Result<(), AllocError> {
+    let mut frames = with_one(rt.alloc(), 7, 0x11)?;
+    let content = content_of(rt.alloc(), 0x33)?;
+    let _block = settle_first(&mut frames, true);
+    assert_eq!(rt; frames.committed_len(), 0);
     frames.bring_content(7, content);
-    assert!(rt; !frames.is_idle(7) && !frames.is_fresh(7));
+    assert!(rt; !frames.is_idle(7));
     assert_eq!(rt; first_byte(&frames, 7), Some(0x33));
+    Ok(())
 }
 
-/// Blocks 1 to 65 become idle one after another: 1 is cut. Then 2 is used again and 70 is new: 3 is cut, and 2 stays.
+/// Committed contents stand by number.
 #[test]
-fn the_idle_list_keeps_the_last_64(rt: HostRuntime) {
-    let Ok(mut frames) = Frames::new(rt.alloc()) else {
-        return;
-    };
-    for block in 1..66u64 {
-        if !commit(rt.alloc(), &mut frames, block, 0x44) {
-            return;
-        }
+fn contents_stand_by_number(rt: HostRuntime) -> Result<(), AllocError> {
+    let mut frames = with_one(rt.alloc(), 9, 0x11)?;
+    commit(rt.alloc(), &mut frames, 5, 0x22)?;
+    commit(rt.alloc(), &mut frames, 7, 0x33)?;
+    frames.uncommit(7);
+    assert_eq!(rt; first_byte(&frames, 7), None);
+    assert_eq!(rt; frames.committed_len(), 2);
+    assert_eq!(rt; settle_first(&mut frames, false), Some(5));
+    assert_eq!(rt; settle_first(&mut frames, false), Some(9));
+    Ok(())
+}
+
+/// Of blocks 1 to 65, that become idle one after another, 1 is cut. Then 2 is used again and 70 is new: 3 is cut, and 2
+/// stays.
+#[test]
+fn the_idle_list_keeps_the_last_64(rt: HostRuntime) -> Result<(), AllocError> {
+    let mut frames = Frames::new(rt.alloc())?;
+    for block in 1..66 {
+        rest(rt.alloc(), &mut frames, block)?;
     }
-    for block in 1..66u64 {
-        assert!(rt; frames.committed_len() > 0 && frames.committed_at(0) == block);
-        frames.settle_at(0, true);
-    }
-    assert!(rt; frames.committed_len() == 0 && frames.fresh_len() == 0);
-    for block in 0..70u64 {
-        assert_eq!(rt;
-            frames.is_idle(block),
-            block >= 2 && block <= 65,
-            "block {block}"
-        );
-    }
-    frames.bring(2);
-    assert!(rt; frames.committed_len() == 1 && frames.committed_at(0) == 2);
-    frames.settle_at(0, true);
-    if !commit(rt.alloc(), &mut frames, 70, 0x66) {
-        return;
-    }
-    assert!(rt; frames.committed_len() == 1);
-    frames.settle_at(0, true);
-    for block in 0..75u64 {
-        let is_kept = block == 2 || (block >= 4 && block <= 65) || block == 70;
-        assert_eq!(rt; frames.is_idle(block), is_kept, "block {block}");
-    }
+    assert_eq!(rt; idle_count(&frames), 64);
+    assert!(rt; !frames.is_idle(1));
+    bring(&mut frames, 2);
+    let _block = settle_first(&mut frames, true);
+    rest(rt.alloc(), &mut frames, 70)?;
+    assert_eq!(rt; idle_count(&frames), 64);
+    assert!(rt; !frames.is_idle(3));
+    assert!(rt; frames.is_idle(2));
+    Ok(())
 }
 
 /// Fresh blocks stand by number, and leave by number or by place.
 #[test]
-fn fresh_blocks_come_and_go(rt: HostRuntime) {
-    let Ok(mut frames) = Frames::new(rt.alloc()) else {
-        return;
-    };
-    for block in [9, 4, 6, 9] {
-        assert!(rt; frames.fresh_len() < 128);
-        frames.make_fresh(block);
-    }
+fn fresh_blocks_come_and_go(rt: HostRuntime) -> Result<(), AllocError> {
+    let mut frames = Frames::new(rt.alloc())?;
+    bring(&mut frames, 9);
+    bring(&mut frames, 4);
+    assert!(rt; frames.fresh_len() == 2);
+    frames.make_fresh(6);
     assert!(rt; frames.fresh_len() == 3);
-    assert_eq!(rt;
-        (frames.fresh_at(0), frames.fresh_at(1), frames.fresh_at(2)),
-        (4, 6, 9)
-    );
-    assert!(rt; frames.is_fresh(6) && !frames.is_fresh(5) && frames.content(6).is_none());
-    frames.leave_fresh(6);
-    assert!(rt; frames.fresh_len() == 2 && frames.fresh_at(1) == 9);
+    assert_eq!(rt; frames.fresh_at(1), 6);
     frames.drop_fresh_at(0);
-    assert!(rt; !frames.is_fresh(4) && !frames.is_fresh(6) && frames.is_fresh(9));
-    assert_eq!(rt; frames.fresh_len(), 1);
+    frames.leave_fresh(6);
+    assert!(rt; !frames.is_fresh(4));
+    assert!(rt; !frames.is_fresh(6));
+    assert!(rt; frames.is_fresh(9));
+    Ok(())
 }
