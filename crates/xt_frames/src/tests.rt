@@ -27,14 +27,13 @@ fn with_one(alloc: Global, block: u64, first: u8) -> Result<Frames, AllocError> 
     Ok(frames)
 }
 
-/// The first committed content goes, where there is one; the block that it was of.
-fn settle_first(frames: &mut Frames, is_kept: bool) -> Option<u64> {
-    if frames.committed_len() == 0 {
-        return None;
+/// The first committed content goes, where it is of this block; whether it was.
+fn settle(frames: &mut Frames, block: u64, is_kept: bool) -> bool {
+    if frames.committed_len() == 0 || frames.committed_at(0) != block {
+        return false;
     }
-    let block = frames.committed_at(0);
     frames.settle_at(0, is_kept);
-    Some(block)
+    true
 }
 
 /// A block is brought in, where there is room.
@@ -44,10 +43,12 @@ fn bring(frames: &mut Frames, block: u64) {
     }
 }
 
-/// The first byte of the committed content of a block.
-fn first_byte(frames: &Frames, block: u64) -> Option<u8> {
-    let content = frames.content(block)?;
-    Some(content.bytes()[0])
+/// Whether the committed content of a block begins with this byte.
+fn begins(frames: &Frames, block: u64, first: u8) -> bool {
+    match frames.content(block) {
+        Some(content) => content.bytes()[0] == first,
+        None => false,
+    }
 }
 
 /// How many of the blocks from 0 to 99 are idle.
@@ -61,24 +62,21 @@ fn idle_count(frames: &Frames) -> usize {
     count
 }
 
-/// A block is committed, and what is committed first becomes idle.
-fn rest(alloc: Global, frames: &mut Frames, block: u64) -> Result<(), AllocError> {
+/// A block is committed, and becomes idle.
+fn rest(alloc: Global, frames: &mut Frames, block: u64) -> Result<bool, AllocError> {
     commit(alloc, frames, block, 0x44)?;
-    let _block = settle_first(frames, true);
-    Ok(())
+    Ok(settle(frames, block, true))
 }
 
 /// A content that is kept is idle, and comes back with its block.
 #[test]
 fn idle_content_comes_back(rt: HostRuntime) -> Result<(), AllocError> {
     let mut frames = with_one(rt.alloc(), 7, 0x11)?;
-    assert_eq!(rt; settle_first(&mut frames, true), Some(7));
-    assert_eq!(rt; first_byte(&frames, 7), None);
-    assert!(rt; frames.is_idle(7));
+    assert!(rt; settle(&mut frames, 7, true));
+    assert!(rt; frames.is_idle(7) && frames.content(7).is_none());
     bring(&mut frames, 7);
-    assert_eq!(rt; first_byte(&frames, 7), Some(0x11));
-    assert!(rt; !frames.is_idle(7));
-    assert!(rt; !frames.is_fresh(7));
+    assert!(rt; begins(&frames, 7, 0x11));
+    assert!(rt; !frames.is_idle(7) && !frames.is_fresh(7));
     Ok(())
 }
 
@@ -86,11 +84,10 @@ fn idle_content_comes_back(rt: HostRuntime) -> Result<(), AllocError> {
 #[test]
 fn other_content_is_gone(rt: HostRuntime) -> Result<(), AllocError> {
     let mut frames = with_one(rt.alloc(), 7, 0x11)?;
-    assert_eq!(rt; settle_first(&mut frames, false), Some(7));
+    assert!(rt; settle(&mut frames, 7, false));
     assert!(rt; !frames.is_idle(7));
     bring(&mut frames, 7);
-    assert_eq!(rt; first_byte(&frames, 7), None);
-    assert!(rt; frames.is_fresh(7));
+    assert!(rt; frames.is_fresh(7) && frames.content(7).is_none());
     Ok(())
 }
 
@@ -99,11 +96,10 @@ fn other_content_is_gone(rt: HostRuntime) -> Result<(), AllocError> {
 fn another_content_is_brought(rt: HostRuntime) -> Result<(), AllocError> {
     let mut frames = with_one(rt.alloc(), 7, 0x11)?;
     let content = content_of(rt.alloc(), 0x33)?;
-    let _block = settle_first(&mut frames, true);
-    assert_eq!(rt; frames.committed_len(), 0);
+    let _is_idle = settle(&mut frames, 7, true);
+    assert!(rt; frames.committed_len() == 0);
     frames.bring_content(7, content);
-    assert!(rt; !frames.is_idle(7));
-    assert_eq!(rt; first_byte(&frames, 7), Some(0x33));
+    assert!(rt; begins(&frames, 7, 0x33) && !frames.is_idle(7));
     Ok(())
 }
 
@@ -111,13 +107,11 @@ fn another_content_is_brought(rt: HostRuntime) -> Result<(), AllocError> {
 #[test]
 fn contents_stand_by_number(rt: HostRuntime) -> Result<(), AllocError> {
     let mut frames = with_one(rt.alloc(), 9, 0x11)?;
-    commit(rt.alloc(), &mut frames, 5, 0x22)?;
     commit(rt.alloc(), &mut frames, 7, 0x33)?;
+    commit(rt.alloc(), &mut frames, 5, 0x22)?;
     frames.uncommit(7);
-    assert_eq!(rt; first_byte(&frames, 7), None);
-    assert_eq!(rt; frames.committed_len(), 2);
-    assert_eq!(rt; settle_first(&mut frames, false), Some(5));
-    assert_eq!(rt; settle_first(&mut frames, false), Some(9));
+    assert!(rt; frames.committed_len() == 2);
+    assert!(rt; settle(&mut frames, 5, false) && settle(&mut frames, 9, false));
     Ok(())
 }
 
@@ -127,15 +121,12 @@ fn contents_stand_by_number(rt: HostRuntime) -> Result<(), AllocError> {
 fn the_idle_list_keeps_the_last_64(rt: HostRuntime) -> Result<(), AllocError> {
     let mut frames = Frames::new(rt.alloc())?;
     for block in 1..66 {
-        rest(rt.alloc(), &mut frames, block)?;
+        let _is_idle = rest(rt.alloc(), &mut frames, block)?;
     }
-    assert_eq!(rt; idle_count(&frames), 64);
-    assert!(rt; !frames.is_idle(1));
+    assert!(rt; idle_count(&frames) == 64 && !frames.is_idle(1));
     bring(&mut frames, 2);
-    let _block = settle_first(&mut frames, true);
-    rest(rt.alloc(), &mut frames, 70)?;
-    assert_eq!(rt; idle_count(&frames), 64);
-    assert!(rt; !frames.is_idle(3));
+    assert!(rt; settle(&mut frames, 2, true) && rest(rt.alloc(), &mut frames, 70)?);
+    assert!(rt; idle_count(&frames) == 64 && !frames.is_idle(3));
     assert!(rt; frames.is_idle(2));
     Ok(())
 }
@@ -148,12 +139,9 @@ fn fresh_blocks_come_and_go(rt: HostRuntime) -> Result<(), AllocError> {
     bring(&mut frames, 4);
     assert!(rt; frames.fresh_len() == 2);
     frames.make_fresh(6);
-    assert!(rt; frames.fresh_len() == 3);
-    assert_eq!(rt; frames.fresh_at(1), 6);
+    assert!(rt; frames.fresh_len() == 3 && frames.fresh_at(1) == 6);
     frames.drop_fresh_at(0);
     frames.leave_fresh(6);
-    assert!(rt; !frames.is_fresh(4));
-    assert!(rt; !frames.is_fresh(6));
-    assert!(rt; frames.is_fresh(9));
+    assert!(rt; frames.is_fresh(9) && !frames.is_fresh(4) && !frames.is_fresh(6));
     Ok(())
 }
