@@ -1,5 +1,3 @@
-pub mod FrameLemmas
-pub mod FreshLemmas
 pub mod SettleLemmas
 pub mod KeepLemmas
 pub mod EndLemmas

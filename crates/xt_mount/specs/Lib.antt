@@ -1,9 +1,7 @@
-pub mod Layers
 pub mod Journals
 pub mod Machines
 pub mod Settling
 pub mod Ending
-pub mod Fresh
 pub mod Reads
 pub mod Texts
 pub mod Come

@@ -14,7 +14,6 @@ ghost use Rattle.xt_items.specs.Plans.{due, planned};
 ghost use Rattle.xt_resv.specs.Ledgers.{is_invalid, is_no_room};
 ghost use Rattle.xt_resv.specs.Mounts.{grant_of, ledger};
 
-use crate::frames::Frames;
 use crate::leg_end::{keep_changes, lose_leg};
 use crate::open_trans::OpenTrans;
 use bytes::Bytes;
@@ -25,6 +24,7 @@ use xt_base::content::Content;
 use xt_base::map::NumberMap;
 use xt_base::names::Block;
 use xt_base::steps::HomeAnswers;
+use xt_frames::frames::Frames;
 use xt_items::items::Items;
 use xt_items::plan::FlushPlan;
 use xt_locks::locks::Locks;

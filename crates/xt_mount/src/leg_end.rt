@@ -8,10 +8,10 @@ ghost use Rattle.xt_base.specs.Sound.{IsSound};
 ghost use Rattle.xt_mount.specs.Ending.{contents_lost, edits_kept, fresh_lost, is_saved, leg_lost, lost_with, marks_kept, owner_kept, owner_left};
 ghost use Rattle.xt_mount.specs.Machines.{state_of};
 
-use crate::frames::Frames;
 use crate::machine::Machine;
 use xt_base::names::{CkptNo, TransNo};
 use xt_base::steps::Owner;
+use xt_frames::frames::Frames;
 use xt_items::items::Items;
 use xt_locks::locks::Locks;
 use xt_trans::trans::{Change, TransRec};

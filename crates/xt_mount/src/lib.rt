@@ -6,8 +6,6 @@ mod ckpt;
 mod commit;
 mod flush;
 mod force;
-mod frames;
-mod fresh;
 mod get;
 mod hold;
 mod journal;

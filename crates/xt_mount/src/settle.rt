@@ -5,10 +5,10 @@ ghost use Rattle.xt_base.specs.Settle.{settled};
 ghost use Rattle.xt_mount.specs.Machines.{state_of};
 ghost use Rattle.xt_mount.specs.Settling.{is_busy_in, settled_contents, settled_fresh};
 
-use crate::frames::Frames;
 use crate::journal::Journal;
 use crate::machine::Machine;
 use xt_base::names::Block;
+use xt_frames::frames::Frames;
 use xt_locks::locks::Locks;
 
 impl Machine {

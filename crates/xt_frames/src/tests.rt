@@ -1,0 +1,147 @@
+//! The contents on small lists worked out by hand.
+
+use crate::frames::Frames;
+use std::alloc::{AllocError, Global};
+use xt_base::content::Content;
+
+/// A content that begins with this byte, and is zeros else.
+fn content_of(alloc: Global, first: u8) -> Result<Content, AllocError> {
+    let mut content = Content::zeros(alloc)?;
+    content.write(0, &[first]);
+    Ok(content)
+}
+
+/// A content that begins with this byte is committed, where there is room.
+fn commit(alloc: Global, frames: &mut Frames, block: u64, first: u8) -> Result<(), AllocError> {
+    let content = content_of(alloc, first)?;
+    if frames.committed_len() < 128 {
+        frames.commit(block, content);
+    }
+    Ok(())
+}
+
+/// Contents of which one is committed.
+fn with_one(alloc: Global, block: u64, first: u8) -> Result<Frames, AllocError> {
+    let mut frames = Frames::new(alloc)?;
+    commit(alloc, &mut frames, block, first)?;
+    Ok(frames)
+}
+
+/// The first committed content goes, where it is of this block; whether it was.
+fn settle(frames: &mut Frames, block: u64, is_kept: bool) -> bool {
+    if frames.committed_len() == 0 || frames.committed_at(0) != block {
+        return false;
+    }
+    frames.settle_at(0, is_kept);
+    true
+}
+
+/// A block is brought in, where there is room.
+fn bring(frames: &mut Frames, block: u64) {
+    if frames.committed_len() < 128 && frames.fresh_len() < 128 {
+        frames.bring(block);
+    }
+}
+
+/// Whether the committed content of a block begins with this byte.
+fn begins(frames: &Frames, block: u64, first: u8) -> bool {
+    match frames.content(block) {
+        Some(content) => content.bytes()[0] == first,
+        None => false,
+    }
+}
+
+/// How many of the blocks from 0 to 99 are idle.
+fn idle_count(frames: &Frames) -> usize {
+    let mut count = 0;
+    for block in 0..100 {
+        if count < 100 && frames.is_idle(block) {
+            count += 1;
+        }
+    }
+    count
+}
+
+/// A block is committed, and becomes idle.
+fn rest(alloc: Global, frames: &mut Frames, block: u64) -> Result<bool, AllocError> {
+    commit(alloc, frames, block, 0x44)?;
+    Ok(settle(frames, block, true))
+}
+
+/// A content that is kept is idle, and comes back with its block.
+#[test]
+fn idle_content_comes_back(rt: HostRuntime) -> Result<(), AllocError> {
+    let mut frames = with_one(rt.alloc(), 7, 0x11)?;
+    assert!(rt; settle(&mut frames, 7, true));
+    assert!(rt; frames.is_idle(7) && frames.content(7).is_none());
+    bring(&mut frames, 7);
+    assert!(rt; begins(&frames, 7, 0x11));
+    assert!(rt; !frames.is_idle(7) && !frames.is_fresh(7));
+    Ok(())
+}
+
+/// A content that is not kept is gone: its block comes back fresh.
+#[test]
+fn other_content_is_gone(rt: HostRuntime) -> Result<(), AllocError> {
+    let mut frames = with_one(rt.alloc(), 7, 0x11)?;
+    assert!(rt; settle(&mut frames, 7, false));
+    assert!(rt; !frames.is_idle(7));
+    bring(&mut frames, 7);
+    assert!(rt; frames.is_fresh(7) && frames.content(7).is_none());
+    Ok(())
+}
+
+/// A block that was idle is brought with another content: the old one is gone.
+#[test]
+fn another_content_is_brought(rt: HostRuntime) -> Result<(), AllocError> {
+    let mut frames = with_one(rt.alloc(), 7, 0x11)?;
+    let content = content_of(rt.alloc(), 0x33)?;
+    let _is_idle = settle(&mut frames, 7, true);
+    assert!(rt; frames.committed_len() == 0);
+    frames.bring_content(7, content);
+    assert!(rt; begins(&frames, 7, 0x33) && !frames.is_idle(7));
+    Ok(())
+}
+
+/// Committed contents stand by number.
+#[test]
+fn contents_stand_by_number(rt: HostRuntime) -> Result<(), AllocError> {
+    let mut frames = with_one(rt.alloc(), 9, 0x11)?;
+    commit(rt.alloc(), &mut frames, 7, 0x33)?;
+    commit(rt.alloc(), &mut frames, 5, 0x22)?;
+    frames.uncommit(7);
+    assert!(rt; frames.committed_len() == 2);
+    assert!(rt; settle(&mut frames, 5, false) && settle(&mut frames, 9, false));
+    Ok(())
+}
+
+/// Of blocks 1 to 65, that become idle one after another, 1 is cut. Then 2 is used again and 70 is new: 3 is cut, and 2
+/// stays.
+#[test]
+fn the_idle_list_keeps_the_last_64(rt: HostRuntime) -> Result<(), AllocError> {
+    let mut frames = Frames::new(rt.alloc())?;
+    for block in 1..66 {
+        let _is_idle = rest(rt.alloc(), &mut frames, block)?;
+    }
+    assert!(rt; idle_count(&frames) == 64 && !frames.is_idle(1));
+    bring(&mut frames, 2);
+    assert!(rt; settle(&mut frames, 2, true) && rest(rt.alloc(), &mut frames, 70)?);
+    assert!(rt; idle_count(&frames) == 64 && !frames.is_idle(3));
+    assert!(rt; frames.is_idle(2));
+    Ok(())
+}
+
+/// Fresh blocks stand by number, and leave by number or by place.
+#[test]
+fn fresh_blocks_come_and_go(rt: HostRuntime) -> Result<(), AllocError> {
+    let mut frames = Frames::new(rt.alloc())?;
+    bring(&mut frames, 9);
+    bring(&mut frames, 4);
+    assert!(rt; frames.fresh_len() == 2);
+    frames.make_fresh(6);
+    assert!(rt; frames.fresh_len() == 3 && frames.fresh_at(1) == 6);
+    frames.drop_fresh_at(0);
+    frames.leave_fresh(6);
+    assert!(rt; frames.is_fresh(9) && !frames.is_fresh(4) && !frames.is_fresh(6));
+    Ok(())
+}
