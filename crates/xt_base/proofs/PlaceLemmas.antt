@@ -1,11 +1,12 @@
 -- What stands at the place of a key.
-use Rattle.std.proofs.Common.{◌≡◌, ◌≢◌, ◌∙◌, ℕ, suc, ◌+◌, ◌++◌, ◌<◌, ◌≤◌, List, [], ◌∷◌, None, Some, sym, ap, refl, length, arith, drop, inl, inr, subst, get_or, slice_get, take, false, zero}
+use Rattle.std.proofs.Common.{true, ◌≡◌, ◌≢◌, ◌∙◌, ℕ, suc, ◌+◌, ◌++◌, ◌<◌, ◌≤◌, List, [], ◌∷◌, None, Some, sym, ap, refl, length, arith, drop, inl, inr, subst, get_or, slice_get, take, false, zero}
 use Rattle.std.specs.Prelude.{IfSome, insert, is_some, remove}
 use Rattle.std.proofs.Math.ListN.{set}
 use Rattle.std.proofs.lemmas.List.{drop-set, take-append-drop, take-set}
 use Rattle.std.proofs.lemmas.Option.{slice_get-get_or}
 use Rattle.std.proofs.lemmas.Bool.Decides.{nat_tests}
 use Rattle.std.proofs.lemmas.Bool.{cases_eq, cases_order, false≢true}
+use Rattle.xt_base.proofs.KeyLemmas.{is_in_first, is_in_later}
 use Rattle.xt_base.proofs.RisingLemmas.{none_below, rises_weaker}
 use Rattle.xt_base.specs.Maps.{at, is_in, put, without}
 use Rattle.xt_base.specs.Places.{place, spot}
@@ -183,6 +184,12 @@ module _ {V : Type 0} where
   one_there [] p d e lt = absurd (omega arith)
   one_there (x ∷ xs) zero d e lt = refl
   one_there (x ∷ xs) (suc p) d e lt = one_there xs p d e (shorter p (length xs) lt)
+
+  -- the key of what stands at a place is there
+  pub in_at : (k : ℕ) (m : List (ℕ × V)) (p : ℕ) (e : ℕ × V) → p < length m → e ≡ get_or m p e → e.0 ≡ k → true ≡ is_in k m
+  in_at k [] p e lt here same = absurd (omega arith)
+  in_at k (x ∷ xs) zero e lt here same = sym (is_in_first k x xs (sym same ∙ ap (λ (y : ℕ × V). y.0) here))
+  in_at k (x ∷ xs) (suc p) e lt here same = sym (is_in_later k x xs (sym (in_at k xs p e (shorter p (length xs) lt) here same)))
 
   -- a key that is not there goes in at its place
   pub put_absent : (k : ℕ) (v : V) (m : List (ℕ × V)) (p : ℕ) → p ≡ place k m → is_in k m ≡ false → insert {X = ℕ × V} m p (k, v) ≡ put k v m

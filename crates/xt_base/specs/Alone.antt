@@ -115,6 +115,11 @@ abbrev pub reason_of : Option State → Option Reason
 reason_of None = None
 reason_of (Some m) = m.shut
 
+-- what one step offered to the two devices
+pub record Offered : Type 0 where
+  pub log : List LogOffer
+  pub home : List HomeOffer
+
 -- what one step said: its slot, its reply, and what it offered to the two devices
 pub record Said : Type 0 where
   pub slot : ℕ

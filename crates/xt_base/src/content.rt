@@ -1,6 +1,6 @@
 //! Bytes: the content of a block, what a request carries, and lists of blocks that stay held.
 
-ghost use Rattle.std.specs.Prelude.{◌≡◌, ◌+◌, ◌≤◌, ◌<◌, ◌++◌, ◌↔◌, List, ℕ, length, take, drop, replicate, IfOk, OnErr, IsSome, IfSome, IsNone};
+ghost use Rattle.std.specs.Prelude.{◌≡◌, ◌+◌, ◌≤◌, ◌<◌, ◌++◌, ◌↔◌, List, ℕ, length, take, drop, replicate, IfOk, IsSome, IfSome};
 
 use crate::names::Block;
 use std::alloc::{AllocError, Global};
@@ -9,10 +9,10 @@ use std::marker::Model;
 /// The bytes of a block.
 pub const BLOCK_BYTES: usize = 4096;
 
-/// The content of a block: exactly 4,096 bytes.
+/// The content of a block: exactly 4,096 bytes, in a box, so that what has a content is small.
 #[derive(Debug, Drop)]
 pub struct Content {
-    bytes: Vec<u8>,
+    bytes: Box<Vec<u8>>,
 }
 
 impl Model for Content {
@@ -20,9 +20,9 @@ impl Model for Content {
 
     ghost Value = { List ℕ };
 
-    ghost view = { λ c. c.bytes.items };
+    ghost view = { λ c. c.bytes.value.items };
 
-    ghost invariant = { λ c. length c.bytes.items ≡ 4096 };
+    ghost invariant = { λ c. length c.bytes.value.items ≡ 4096 };
 }
 
 impl Content {
@@ -30,27 +30,27 @@ impl Content {
     pub fn zeros(alloc: Global) -> Result<Self, AllocError>
         ensures { IfOk result (λ content. content ≡ replicate 4096 0) }
     {
-        let bytes = vec![in alloc; 0u8; 4096]?;
+        let bytes = Box::new(alloc, vec![in alloc; 0u8; 4096]?)?;
         Ok(Content { bytes })
     }
 
-    /// The content of these bytes, or the bytes back where they are not 4,096.
-    pub fn of(bytes: Vec<u8>) -> Result<Self, Vec<u8>>
-        ensures whole { length bytes.items ≡ 4096 → IfOk result (λ content. content ≡ bytes.items) }
-        ensures other { OnErr result (length bytes.items ≡ 4096 → ⊥) }
+    /// The content of these bytes; None where they are not 4,096. The one error is want of memory.
+    pub fn of(alloc: Global, bytes: Vec<u8>) -> Result<Option<Self>, AllocError>
+        ensures whole { IfOk result (λ found. IsSome found ↔ (length bytes.items ≡ 4096)) }
+        ensures value { IfOk result (λ found. IfSome found (λ content. content ≡ bytes.items)) }
     {
-        if bytes.len() == BLOCK_BYTES {
-            Ok(Content { bytes })
-        } else {
-            Err(bytes)
+        if bytes.len() != BLOCK_BYTES {
+            return Ok(None);
         }
+        let bytes = Box::new(alloc, bytes)?;
+        Ok(Some(Content { bytes }))
     }
 
     /// A copy. The one error is want of memory.
     pub fn copy(&self, alloc: Global) -> Result<Self, AllocError>
         ensures { IfOk result (λ content. content ≡ self.now) }
     {
-        let bytes = self.bytes.to_vec(alloc)?;
+        let bytes = Box::new(alloc, self.bytes.to_vec(alloc)?)?;
         Ok(Content { bytes })
     }
 
@@ -72,10 +72,10 @@ impl Content {
     }
 }
 
-/// Bytes that a request carries or a device was offered: at most 4,096.
+/// Bytes that a request carries or a device was offered: at most 4,096, in a box, so that what has data is small.
 #[derive(Debug, Drop)]
 pub struct Data {
-    bytes: Vec<u8>,
+    bytes: Box<Vec<u8>>,
 }
 
 impl Model for Data {
@@ -83,22 +83,22 @@ impl Model for Data {
 
     ghost Value = { List ℕ };
 
-    ghost view = { λ d. d.bytes.items };
+    ghost view = { λ d. d.bytes.value.items };
 
-    ghost invariant = { λ d. length d.bytes.items ≤ 4096 };
+    ghost invariant = { λ d. length d.bytes.value.items ≤ 4096 };
 }
 
 impl Data {
-    /// Bytes that are few enough; else None.
-    pub fn of(bytes: Vec<u8>) -> Option<Self>
-        ensures valid { IsSome result ↔ (length bytes.items ≤ 4096) }
-        ensures value { IfSome result (λ carried. carried ≡ bytes.items) }
+    /// Bytes that are few enough; else None. The one error is want of memory.
+    pub fn of(alloc: Global, bytes: Vec<u8>) -> Result<Option<Self>, AllocError>
+        ensures valid { IfOk result (λ found. IsSome found ↔ (length bytes.items ≤ 4096)) }
+        ensures value { IfOk result (λ found. IfSome found (λ carried. carried ≡ bytes.items)) }
     {
-        if bytes.len() <= BLOCK_BYTES {
-            Some(Data { bytes })
-        } else {
-            None
+        if bytes.len() > BLOCK_BYTES {
+            return Ok(None);
         }
+        let bytes = Box::new(alloc, bytes)?;
+        Ok(Some(Data { bytes }))
     }
 
     /// Its bytes.
@@ -110,10 +110,10 @@ impl Data {
     }
 }
 
-/// Blocks that are handed back held, in the order in which they are told: 1 to 64.
+/// Blocks that are handed back held, in the order in which they are told: 1 to 64, in a box, so that a reply is small.
 #[derive(Debug, Drop)]
 pub struct HeldBlocks {
-    blocks: Vec<Block>,
+    blocks: Box<Vec<Block>>,
 }
 
 impl Model for HeldBlocks {
@@ -121,22 +121,22 @@ impl Model for HeldBlocks {
 
     ghost Value = { List ℕ };
 
-    ghost view = { λ h. h.blocks.items };
+    ghost view = { λ h. h.blocks.value.items };
 
-    ghost invariant = { λ h. (0 < length h.blocks.items) × (length h.blocks.items ≤ 64) };
+    ghost invariant = { λ h. (0 < length h.blocks.value.items) × (length h.blocks.value.items ≤ 64) };
 }
 
 impl HeldBlocks {
-    /// The blocks of a list of 1 to 64; else None.
-    pub fn of(blocks: Vec<Block>) -> Option<Self>
-        ensures valid { IsSome result ↔ ((0 < length blocks.items) × (length blocks.items ≤ 64)) }
-        ensures value { IfSome result (λ held. held ≡ blocks.items) }
+    /// The blocks of a list of 1 to 64; else None. The one error is want of memory.
+    pub fn of(alloc: Global, blocks: Vec<Block>) -> Result<Option<Self>, AllocError>
+        ensures valid { IfOk result (λ found. IsSome found ↔ ((0 < length blocks.items) × (length blocks.items ≤ 64))) }
+        ensures value { IfOk result (λ found. IfSome found (λ held. held ≡ blocks.items)) }
     {
-        if !blocks.is_empty() && blocks.len() <= 64 {
-            Some(HeldBlocks { blocks })
-        } else {
-            None
+        if blocks.is_empty() || blocks.len() > 64 {
+            return Ok(None);
         }
+        let blocks = Box::new(alloc, blocks)?;
+        Ok(Some(HeldBlocks { blocks }))
     }
 
     /// The blocks, ascending.

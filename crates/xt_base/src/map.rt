@@ -1,6 +1,6 @@
 //! A finite map from numbers, for a mount's small tables.
 
-ghost use Rattle.std.specs.Prelude.{◌≡◌, ◌+◌, ◌≤◌, ◌<◌, ◌==◌, ◌∷◌, ◌++◌, [], false, length, take, drop, slice_get, IfOk, IfSome, IfNone, MatchOption, option_copied};
+ghost use Rattle.std.specs.Prelude.{◌≡◌, ◌+◌, ◌≤◌, ◌<◌, ◌==◌, ◌∷◌, ◌++◌, [], false, true, length, take, drop, slice_get, IfOk, IfSome, IfNone, MatchOption, option_copied};
 ghost use Rattle.xt_base.specs.Maps.{at, is_in, put as with_entry, without};
 ghost use Rattle.xt_base.specs.Places.{place, spot};
 ghost use Rattle.xt_base.specs.Sound.{IsRising};
@@ -80,6 +80,28 @@ impl<V> NumberMap<V> {
         ensures { result ≡ is_in key self.now }
     {
         self.get(key).is_some()
+    }
+
+    /// Whether there is an entry at a place, and it has a key.
+    fn has_at(&self, at: usize, key: u64) -> bool
+        ensures { result ≡ true → (true ≡ is_in key self.now) × (at < 128) }
+    {
+        at < self.entries.len() && self.entries[at].0 == key
+    }
+
+    /// Whether it has a key, for keys that are asked in rising order: `near` is where to look first, which may be
+    /// wrong, and then where to look first for the next one.
+    pub fn contains_near(&self, near: &mut usize, key: u64) -> bool
+        ensures { result ≡ is_in key self.now }
+    {
+        if self.has_at(*near, key) {
+            *near += 1;
+            return true;
+        }
+        let found = self.contains(key);
+        let at = place_of(&self.entries, key);
+        *near = if found { at + 1 } else { at };
+        found
     }
 
     /// Puts a value at a key. A new key needs room. It takes no memory.

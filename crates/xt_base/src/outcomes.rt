@@ -1,6 +1,6 @@
 //! What a run of steps told.
 
-ghost use Rattle.std.specs.Prelude.{◌≡◌, ◌<◌, ◌++◌, ◌∷◌, [], true, slice_set, OnOk, OnErr};
+ghost use Rattle.std.specs.Prelude.{◌≡◌, ◌<◌, ◌++◌, ◌∷◌, [], true, slice_set, IfOk, OnOk, OnErr};
 ghost use Rattle.xt_base.specs.Isolation.{is_refused, shut_in, untold};
 
 use crate::names::Slot;
@@ -8,14 +8,77 @@ use crate::steps::{HomeOffer, LogOffer, Reason, Reply};
 use std::alloc::{AllocError, Global};
 use std::marker::Model;
 
-/// What one step said: its slot, its reply, and what it offered to the slot's log device and home
-/// device, in order.
+/// The offers of a step that made some.
+#[derive(Debug, Drop)]
+struct OfferLists {
+    log: Vec<LogOffer>,
+    home: Vec<HomeOffer>,
+}
+
+/// What one step offered to its slot's log device and home device, in order. Most steps offer nothing, so offers are in a box.
+#[derive(Debug, Drop)]
+pub struct Offers {
+    lists: Option<Box<OfferLists>>,
+}
+
+impl Model for Offers {
+    ghost use Rattle.std.specs.Prelude.{[], option_map, unwrap_or};
+    ghost use Rattle.xt_base.specs.Alone.{Offered};
+
+    ghost Value = { Offered };
+
+    ghost view = { λ o. record {
+      log = unwrap_or (option_map (λ lists. lists.value.log.items) o.lists) [];
+      home = unwrap_or (option_map (λ lists. lists.value.home.items) o.lists) [];
+    } };
+}
+
+impl Offers {
+    /// No offer.
+    pub fn none() -> Self
+        ensures { result ≡ record { log = []; home = [] } }
+    {
+        Offers { lists: None }
+    }
+
+    /// These offers to the log device and to the home device. The one error is want of memory.
+    pub fn of(alloc: Global, log: Vec<LogOffer>, home: Vec<HomeOffer>) -> Result<Self, AllocError>
+        ensures { IfOk result (λ offers. offers ≡ record { log = log.items; home = home.items }) }
+    {
+        if log.is_empty() && home.is_empty() {
+            return Ok(Offers::none());
+        }
+        let lists = Some(Box::new(alloc, OfferLists { log, home })?);
+        Ok(Offers { lists })
+    }
+
+    /// What was offered to the log device.
+    pub fn log(&self) -> &[LogOffer]
+        ensures { result.now ≡ self.now.log }
+    {
+        match &self.lists {
+            Some(lists) => &lists.log,
+            None => &[],
+        }
+    }
+
+    /// What was offered to the home device, reads aside.
+    pub fn home(&self) -> &[HomeOffer]
+        ensures { result.now ≡ self.now.home }
+    {
+        match &self.lists {
+            Some(lists) => &lists.home,
+            None => &[],
+        }
+    }
+}
+
+/// What one step said: its slot, its reply, and what it offered.
 #[derive(Debug, Drop)]
 pub struct Turn {
     pub slot: Slot,
     pub reply: Reply,
-    pub log: Vec<LogOffer>,
-    pub home: Vec<HomeOffer>,
+    pub offers: Offers,
 }
 
 impl Model for Turn {
@@ -23,7 +86,7 @@ impl Model for Turn {
 
     ghost Value = { Said };
 
-    ghost view = { λ t. record { slot = t.slot; reply = t.reply; log = t.log.items; home = t.home.items } };
+    ghost view = { λ t. record { slot = t.slot; reply = t.reply; log = t.offers.log; home = t.offers.home } };
 }
 
 /// What a run of steps told: a turn for each step, and for each of sixteen slots why it is shut at
@@ -44,15 +107,17 @@ impl Model for Outcomes {
 }
 
 impl Outcomes {
-    /// Of a run of no step: no turn, each slot live, and none refused memory.
-    pub fn new(alloc: Global) -> Self
-        ensures { result ≡ untold }
+    /// Of a run of no step: no turn, each slot live, and none refused memory. There is room for the turns of so many steps.
+    /// The one error is want of memory for it.
+    pub fn new(alloc: Global, steps: usize) -> Result<Self, AllocError>
+        ensures { IfOk result (λ outcomes. outcomes ≡ untold) }
     {
-        Outcomes {
-            turns: Vec::new(alloc),
+        let turns = Vec::with_capacity(alloc, steps)?;
+        Ok(Outcomes {
+            turns,
             shut: [None; 16],
             refused: [false; 16],
-        }
+        })
     }
 
     /// The turns, one for each step, in the order of the steps.

@@ -10,7 +10,8 @@ use std::alloc::{AllocError, Global};
 use std::io::{self, Read};
 use xt_base::steps::Step;
 use xt_text::bad_line::BadLine;
-use xt_text::parse::parse_line;
+use xt_text::buffer::Text;
+use xt_text::parse::parse_line_in;
 
 /// The most bytes of a script.
 pub const SCRIPT_BYTES: usize = 16_777_216;
@@ -64,11 +65,12 @@ pub fn parse_script(alloc: Global, script: &[u8]) -> Result<Vec<Step>, ScriptFau
     ensures steps { IfOk result (λ steps. IsScript script.now steps.items) }
     ensures bad { IfErr result (λ fault. IsBadIn script.now fault) }
 {
+    let mut text = Text::new(alloc).map_err(ScriptFault::Memory)?;
     let mut steps = Vec::new(alloc);
     let mut rest = script;
     while !rest.is_empty() {
         let (line, after) = first_line(rest);
-        match parse_line(alloc, line) {
+        match parse_line_in(alloc, line, &mut text) {
             Ok(step) => steps
                 .push(step)
                 .map_err(|_| ScriptFault::Memory(AllocError))?,

@@ -16,6 +16,9 @@ use std::alloc::{AllocError, Global};
 use std::io::{BufWriter, Input};
 use std::process::ExitCode;
 
+/// How many bytes of output are written at once.
+const OUTPUT_BYTES: usize = 65_536;
+
 /// The command line.
 fn command<'a>(alloc: Global) -> Result<Command<'a>, AllocError> {
     let script = Command::new(alloc, "script").about(
@@ -31,7 +34,7 @@ fn command<'a>(alloc: Global) -> Result<Command<'a>, AllocError> {
 /// Runs the script on standard input.
 fn script_on_streams(rt: &HostRuntime) -> Result<u8, ScriptFault> {
     let alloc = rt.alloc();
-    let mut writer = BufWriter::new(alloc, rt.stdout())?;
+    let mut writer = BufWriter::with_capacity(alloc, OUTPUT_BYTES, rt.stdout())?;
     Ok(run_script(alloc, &mut rt.reader(), &mut writer, &mut rt.stderr(), None))
 }
 

@@ -30,8 +30,8 @@ fn print_turn<W: Write>(writer: &mut W, text: &mut Text, turn: &Turn) -> io::Res
     text.clear();
     print_slot_reply(turn.slot, &turn.reply, text);
     print_line(writer, text)?;
-    print_log(writer, text, turn.slot, &turn.log)?;
-    print_home(writer, text, turn.slot, &turn.home)
+    print_log(writer, text, turn.slot, turn.offers.log())?;
+    print_home(writer, text, turn.slot, turn.offers.home())
 }
 
 /// Prints the offers to a log device.
@@ -73,7 +73,7 @@ fn print_line<W: Write>(writer: &mut W, text: &mut Text) -> io::Result<()>
     requires { FitsLine text.old }
     ensures { OnOk result (Appends (W.contents writer.old) (W.contents writer.new) (ended (held text.old))) }
 {
-    text.put(b"\n");
+    text.push(b'\n');
     writer.write_all(text.bytes())
 }
 

@@ -20,18 +20,18 @@ fn piece_offer(alloc: Global, piece: &Bytes, ok: bool) -> Result<LogOffer, Alloc
     ensures { IfOk result (λ offer. offer ≡ AnOffer.Piece piece.now ok) }
 {
     let bytes = piece.as_slice().to_vec(alloc)?;
-    match Data::of(bytes) {
+    match Data::of(alloc, bytes)? {
         Some(bytes) => Ok(LogOffer::Piece { bytes, ok }),
         None => unreachable!(),
     }
 }
 
-/// The offers of pieces that were taken.
+/// The offers of pieces that were taken, with room for one more.
 fn taken_offers(alloc: Global, pieces: &[Bytes]) -> Result<Vec<LogOffer>, AllocError>
     requires { AreShort pieces.now }
     ensures { IfOk result (λ offers. offers.items ≡ offered true pieces.now) }
 {
-    let mut offers = Vec::new(alloc);
+    let mut offers = Vec::with_capacity(alloc, pieces.len() + 1)?;
     for piece in pieces {
         offers.push(piece_offer(alloc, piece, true)?)?;
     }
@@ -66,9 +66,9 @@ fn committed_copy(alloc: Global, mount: &Mount, block: Block) -> Result<Content,
     let Some(bytes) = mount.committed(block) else {
         return Content::zeros(alloc);
     };
-    match Content::of(bytes.to_vec(alloc)?) {
-        Ok(content) => Ok(content),
-        Err(_) => unreachable!(),
+    match Content::of(alloc, bytes.to_vec(alloc)?)? {
+        Some(content) => Ok(content),
+        None => unreachable!(),
     }
 }
 

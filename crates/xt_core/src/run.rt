@@ -46,7 +46,9 @@ pub fn run_one(alloc: Global, steps: &[Step]) -> Result<Outcomes, RunFault>
     ensures ok { IfOk result (λ o. TellsOne steps.now o) }
     ensures fault { IfErr result (IsFaultOne steps.now) }
 {
-    let mut outcomes = Outcomes::new(alloc);
+    let Ok(mut outcomes) = Outcomes::new(alloc, steps.len()) else {
+        return Err(RunFault::Memory);
+    };
     let Some(first) = steps.first() else {
         return Ok(outcomes);
     };

@@ -18,7 +18,7 @@ use crate::offers::{home_offers, log_offers};
 use std::alloc::{AllocError, Global};
 use std::collections::VecDeque;
 use xt_base::names::{JobKind, JobName, Life, Slot, Worker};
-use xt_base::outcomes::Turn;
+use xt_base::outcomes::{Offers, Turn};
 use xt_base::steps::{
     Answer, Errno, HomeAnswers, HomeOffer, LogAnswers, LogOffer, Reason, Reply, Request, Step,
 };
@@ -515,6 +515,18 @@ impl Solo {
         }
     }
 
+    /// What a step will have offered, reads aside.
+    fn offers(&self, step: &Step) -> Result<Offers, AllocError>
+        requires own { IsOwnOf self.now.slot (lone_of self.now) }
+        requires suit { suits step.now (lone_of self.now) ≡ true }
+        ensures log { IfOk result (λ offers. offers.log ≡ (alone step.now (lone_of self.now)).log) }
+        ensures home { IfOk result (λ offers. offers.home ≡ (alone step.now (lone_of self.now)).home) }
+    {
+        let log = self.log_offers(step)?;
+        let home = self.home_offers(step)?;
+        Offers::of(self.alloc, log, home)
+    }
+
     /// Takes a step that may come, and tells its turn. Where the step itself is refused memory its reply is ENOMEM, and
     /// nothing else changes. The one error is want of memory for the copies of its offers.
     pub fn take(&mut self, step: &Step) -> Result<Turn, AllocError>
@@ -523,25 +535,23 @@ impl Solo {
         requires suit { suits step.now (lone_of self.old) ≡ true }
         ensures { IfOk result (λ turn. IsStepped step.now turn self.new self.old) }
     {
-        let log = self.log_offers(step)?;
-        let home = self.home_offers(step)?;
+        let offers = self.offers(step)?;
         let reply = self.serve(step);
         if is_no_memory(&reply) {
-            return Ok(self.turn(reply, Vec::new(self.alloc), Vec::new(self.alloc)));
+            return Ok(self.turn(reply, Offers::none()));
         }
         self.pass_on(step, &reply);
-        Ok(self.turn(reply, log, home))
+        Ok(self.turn(reply, offers))
     }
 
     /// A turn of this slot.
-    fn turn(&self, reply: Reply, log: Vec<LogOffer>, home: Vec<HomeOffer>) -> Turn
-        ensures { result ≡ record { slot = self.now.slot; reply = reply; log = log.items; home = home.items } }
+    fn turn(&self, reply: Reply, offers: Offers) -> Turn
+        ensures { result ≡ record { slot = self.now.slot; reply = reply; log = offers.log; home = offers.home } }
     {
         Turn {
             slot: self.slot,
             reply,
-            log,
-            home,
+            offers,
         }
     }
 }

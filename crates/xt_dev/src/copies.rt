@@ -16,7 +16,7 @@ pub(crate) fn piece_offer(alloc: Global, piece: &[u8], ok: bool) -> Option<LogOf
     requires short { length piece.now ≤ 4096 }
     ensures { IfSome result (λ offer. offer ≡ LogOffer.Piece piece.now ok) }
 {
-    let bytes = Data::of(piece.to_vec(alloc).ok()?)?;
+    let bytes = Data::of(alloc, piece.to_vec(alloc).ok()?).ok()??;
     Some(LogOffer::Piece { bytes, ok })
 }
 
@@ -25,7 +25,7 @@ pub(crate) fn content_of(alloc: Global, content: &[u8]) -> Option<Content>
     requires whole { length content.now ≡ 4096 }
     ensures { IfSome result (λ copy. copy ≡ content.now) }
 {
-    Content::of(content.to_vec(alloc).ok()?).ok()
+    Content::of(alloc, content.to_vec(alloc).ok()?).ok()?
 }
 
 /// A read that did not fail, as a record says it; None where there is no memory for it.

@@ -36,13 +36,15 @@ impl Model for Flight {
 
 /// The item lists of a mount: the commit list (`xfs_cil`: committed blocks with their marked chunks), the checkpoint in flight
 /// (`xfs_cil_ctx`), and the active list (`xfs_ail`: landed blocks that are not home yet, with the number of their checkpoint).
-/// A block with no chunks is cancelled. Each list has room for 128 blocks. Only `new` takes memory.
+/// A block with no chunks is cancelled. Each list has room for 128 blocks. Only `new` and `next_list` take memory.
 #[derive(Debug, Drop)]
 pub struct Items {
     open_number: u64,
     cil: NumberMap<Chunks>,
     flight: Option<Flight>,
     ail: NumberMap<u64>,
+    /// The list of a flight that has landed, for a later one.
+    spare: Option<NumberMap<Chunks>>,
 }
 
 impl Model for Items {
@@ -65,6 +67,7 @@ impl Items {
             cil,
             flight: None,
             ail,
+            spare: None,
         })
     }
 
@@ -119,6 +122,15 @@ impl Items {
         ensures { result ≡ is_listed (with_landed [] self.now) block }
     {
         self.is_committed(block) || self.is_in_flight(block) || self.ail.contains(block)
+    }
+
+    /// Whether a block is on a list, for blocks that are asked in rising order: `near` is where to look first on the active
+    /// list, which may be wrong, and then where to look first for the next block.
+    #[inline(always)]
+    pub fn is_listed_near(&self, near: &mut usize, block: u64) -> bool
+        ensures { result ≡ is_listed (with_landed [] self.now) block }
+    {
+        self.ail.contains_near(near, block) || self.is_committed(block) || self.is_in_flight(block)
     }
 
     /// Whether a checkpoint is in flight.
@@ -211,6 +223,20 @@ impl Items {
         }
     }
 
+    /// An empty list for the next `fly`: that of a flight which has landed, or a new one. The one error is want of memory.
+    pub fn next_list(&mut self, alloc: Global) -> Result<NumberMap<Chunks>, AllocError>
+        ensures list { IfOk result (λ list. list ≡ []) }
+        ensures lists { self.new ≡ self.old }
+    {
+        match self.spare.take() {
+            Some(mut list) => {
+                list.clear();
+                Ok(list)
+            }
+            None => NumberMap::new(alloc),
+        }
+    }
+
     /// The committed items become the flight, with these pieces; `next`, an empty list, takes their place under the next number.
     /// It takes no memory.
     pub fn fly(&mut self, next: NumberMap<Chunks>, pieces: Vec<Bytes>)
@@ -240,6 +266,7 @@ impl Items {
     {
         if let Some(flight) = self.flight.take() {
             activate(&mut self.ail, flight.number, flight.items.entries());
+            self.spare = Some(flight.items);
         }
     }
 

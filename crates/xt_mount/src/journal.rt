@@ -3,7 +3,7 @@
 ghost use Rattle.std.specs.Prelude.{◌≡◌, ◌+◌, ◌*◌, ◌≤◌, ◌<◌, ◌||◌, [], Some, None, false, true, is_none, is_some, length, nat_le, nat_lt, not, ◌==◌, IfOk, IfSome, OnOk, OnErr, option_copied};
 ghost use Rattle.xt_base.specs.Calls.{edited, invalidated, legs_after, new_trans, without_hold};
 ghost use Rattle.xt_base.specs.Jobs.{fits_plan, flight_pieces, gone};
-ghost use Rattle.xt_base.specs.Legs.{with_marks};
+ghost use Rattle.xt_base.specs.Legs.{clean_leg, with_marks};
 ghost use Rattle.xt_base.specs.Maps.{at, has, is_in, with_member};
 ghost use Rattle.xt_base.specs.Sound.{AllBelow, IsRising};
 ghost use Rattle.xt_base.specs.Space.{charge, cost, flight_items, granted, is_listed};
@@ -38,6 +38,8 @@ pub struct Journal {
     transactions: NumberMap<OpenTrans>,
     items: Items,
     space: LogSpace,
+    /// The leg of a transaction that ended, for a later one.
+    spare: Option<TransRec>,
 }
 
 impl Model for Journal {
@@ -60,6 +62,7 @@ impl Drop for Journal {
             mut transactions,
             items: _items,
             mut space,
+            spare: _spare,
         } = self;
         give_all_back(&mut transactions, &mut space);
         transactions.destroy_empty();
@@ -77,6 +80,19 @@ fn give_all_back(transactions: &mut NumberMap<OpenTrans>, space: &mut LogSpace)
     }
 }
 
+/// A leg that did nothing: the spare one, or a new one. The one error is want of memory.
+fn clean_leg_of(spare: &mut Option<TransRec>, alloc: Global) -> Result<TransRec, AllocError>
+    ensures { IfOk result (λ leg. leg ≡ clean_leg) }
+{
+    match spare.take() {
+        Some(mut leg) => {
+            leg.next_leg();
+            Ok(leg)
+        }
+        None => TransRec::new(alloc),
+    }
+}
+
 impl Journal {
     /// A journal of a log of so many bytes, at most 16,777,216, of which nothing is in use. The one error is want of memory.
     pub fn new(alloc: Global, log_bytes: u32) -> Result<Self, AllocError>
@@ -89,6 +105,7 @@ impl Journal {
             transactions,
             items,
             space: LogSpace::new(alloc, log_bytes),
+            spare: None,
         })
     }
 
@@ -173,6 +190,15 @@ impl Journal {
         self.items.is_listed(block)
     }
 
+    /// Whether a block is on a list, for blocks that are asked in rising order: `near` is where to look first on the active
+    /// list, and then where to look first for the next block.
+    #[inline(always)]
+    pub fn is_listed_near(&self, near: &mut usize, block: u64) -> bool
+        ensures { result ≡ is_listed self.now.items block }
+    {
+        self.items.is_listed_near(near, block)
+    }
+
     /// Whether a checkpoint is in flight.
     pub fn is_flying(&self) -> bool
         ensures { result ≡ is_some self.now.items.flight }
@@ -248,7 +274,7 @@ impl Journal {
         ensures ok { OnOk result (self.new ≡ opened_in trans (new_trans unit count perm) self.old) }
         ensures err { OnErr result (self.new ≡ self.old) }
     {
-        let leg = TransRec::new(alloc)?;
+        let leg = clean_leg_of(&mut self.spare, alloc)?;
         match self.space.grant(unit, count, perm) {
             Ok(ticket) => self
                 .transactions
@@ -326,6 +352,7 @@ impl Journal {
         };
         let (ticket, mut leg) = opened.into_parts();
         keep_changes(frames, &mut self.items, &mut leg);
+        self.spare = Some(leg);
         self.space.commit(ticket, self.items.cil_cost());
     }
 
@@ -365,6 +392,7 @@ impl Journal {
         };
         let (ticket, mut leg) = opened.into_parts();
         lose_leg(frames, &mut leg);
+        self.spare = Some(leg);
         self.space.give_back(ticket);
     }
 
@@ -395,7 +423,7 @@ impl Journal {
         ensures ok { OnOk result (self.new ≡ flown_in pieces.items self.old) }
         ensures err { OnErr result (self.new ≡ self.old) }
     {
-        let next = NumberMap::new(alloc)?;
+        let next = self.items.next_list(alloc)?;
         self.space.fly()?;
         self.items.fly(next, pieces);
         Ok(())

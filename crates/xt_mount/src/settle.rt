@@ -23,20 +23,22 @@ impl Machine {
     }
 }
 
-/// Whether a block is locked, held or on a list.
-fn is_busy_in(locks: &Locks, journal: &Journal, block: u64) -> bool
+/// Whether a block is locked, held or on a list, for blocks that are asked in rising order, as `is_listed_near` of the journal.
+#[inline(always)]
+fn is_busy_in(locks: &Locks, journal: &Journal, near: &mut usize, block: u64) -> bool
     ensures { result ≡ is_busy_in locks.now journal.now.items block }
 {
-    locks.is_locked(Block(block)) || journal.is_listed(block)
+    journal.is_listed_near(near, block) || locks.is_locked(Block(block))
 }
 
 /// Committed contents of blocks that are no longer busy go; those that are kept, to the idle list.
 fn settle_contents(frames: &mut Frames, locks: &Locks, journal: &Journal, is_kept: bool)
     ensures { frames.new ≡ settled_contents (is_busy_in locks.now journal.now.items) is_kept frames.old }
 {
+    let mut near = 0;
     let mut index = 0;
     while index < frames.committed_len() {
-        if is_busy_in(locks, journal, frames.committed_at(index)) {
+        if is_busy_in(locks, journal, &mut near, frames.committed_at(index)) {
             index += 1;
         } else {
             frames.settle_at(index, is_kept);
@@ -48,9 +50,10 @@ fn settle_contents(frames: &mut Frames, locks: &Locks, journal: &Journal, is_kep
 fn settle_fresh(frames: &mut Frames, locks: &Locks, journal: &Journal)
     ensures { frames.new ≡ settled_fresh (is_busy_in locks.now journal.now.items) frames.old }
 {
+    let mut near = 0;
     let mut index = 0;
     while index < frames.fresh_len() {
-        if is_busy_in(locks, journal, frames.fresh_at(index)) {
+        if is_busy_in(locks, journal, &mut near, frames.fresh_at(index)) {
             index += 1;
         } else {
             frames.drop_fresh_at(index);

@@ -1,6 +1,6 @@
 //! A buffer of fixed room that text is put into.
 
-ghost use Rattle.std.specs.Prelude.{◌≡◌, ◌≢◌, ◌↔◌, Some, None, [], IfOk, IsTrue};
+ghost use Rattle.std.specs.Prelude.{◌≡◌, ◌≢◌, ◌↔◌, ◌∷◌, Some, None, [], IfOk, IsTrue};
 ghost use Rattle.xt_text.specs.Buffer.{put};
 
 use std::alloc::{AllocError, Global};
@@ -53,6 +53,20 @@ impl Text {
         }
         if more.len() <= TEXT_BYTES - self.bytes.len() {
             self.bytes.extend_from_slice(more).unwrap();
+        } else {
+            self.full = true;
+        }
+    }
+
+    /// Puts a byte behind what it holds, or is full where that does not fit.
+    pub fn push(&mut self, byte: u8)
+        ensures { self.new ≡ put self.old (byte ∷ []) }
+    {
+        if self.full {
+            return;
+        }
+        if self.bytes.len() < TEXT_BYTES {
+            self.bytes.push(byte).unwrap();
         } else {
             self.full = true;
         }

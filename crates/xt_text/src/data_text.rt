@@ -160,7 +160,7 @@ pub(crate) fn read_data(alloc: Global, text: &[u8]) -> Result<Data, BadLine>
     ensures valid { IfOk result IsData }
 {
     let bytes = read_bytes(alloc, text)?;
-    Ok(Data::of(bytes).unwrap())
+    Ok(Data::of(alloc, bytes)?.unwrap())
 }
 
 /// Reads the content of a block from its text, loosely; a text of more or fewer bytes is a bad spelling.
@@ -172,7 +172,7 @@ pub(crate) fn read_content(alloc: Global, text: &[u8]) -> Result<Content, BadLin
     if bytes.len() != BLOCK_BYTES {
         return Err(BadLine::Spelling);
     }
-    Ok(Content::of(bytes).unwrap())
+    Ok(Content::of(alloc, bytes)?.unwrap())
 }
 
 /// Two lists of bytes that are spelled alike are one list.
@@ -217,7 +217,7 @@ fn put_run(out: &mut Text, run: Run)
         }
     } else {
         put_hex(out, run.byte);
-        out.put(b"*");
+        out.push(b'*');
         put_number(out, run.count as u64);
     }
 }
@@ -240,9 +240,21 @@ fn count_front(bytes: &[u8], byte: u8) -> usize
     bytes.iter().take_while(|x| **x == byte).count()
 }
 
-/// How many bytes equal to one stand at the front: whole blocks of them first, since these are compared at once.
-#[tactic(auto, using(crate::proofs::RunLemmas::block_more))]
+/// How many bytes equal to one stand at the front: where the last byte of a block is equal to it too, whole blocks first,
+/// since these are compared at once.
 fn count_equal(bytes: &[u8], byte: u8) -> usize
+    ensures value { result ≡ prefix_len (λ x. x == byte) bytes.now }
+{
+    if bytes.len() >= BLOCK && bytes[BLOCK - 1] == byte {
+        count_blocks(bytes, byte)
+    } else {
+        count_front(bytes, byte)
+    }
+}
+
+/// The same by whole blocks first.
+#[tactic(auto, using(crate::proofs::RunLemmas::block_more))]
+fn count_blocks(bytes: &[u8], byte: u8) -> usize
     ensures value { result ≡ prefix_len (λ x. x == byte) bytes.now }
 {
     let block = [byte; BLOCK];
@@ -285,7 +297,7 @@ pub(crate) fn put_data(out: &mut Text, bytes: &[u8])
     while !rest.is_empty() {
         let run = first_run(rest);
         if !(is_short(last) && is_short(run)) {
-            out.put(b".");
+            out.push(b'.');
         }
         put_run(out, run);
         rest = &rest[run.count..];

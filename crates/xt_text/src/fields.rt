@@ -16,7 +16,7 @@ use xt_base::names::{CkptNo, JobKind, JobName, TransNo};
 pub(crate) fn then_word(out: &mut Text, word: &[u8])
     ensures { out.new ≡ put out.old (32 ∷ word.now) }
 {
-    out.put(b" ");
+    out.push(b' ');
     out.put(word);
 }
 
@@ -26,7 +26,7 @@ pub(crate) fn then_number(out: &mut Text, number: u64)
     ensures text { out.new ≡ put out.old (32 ∷ decimal number) }
     ensures short { length (decimal number) ≤ 20 }
 {
-    out.put(b" ");
+    out.push(b' ');
     put_number(out, number);
 }
 
@@ -55,7 +55,7 @@ pub(crate) fn then_data(out: &mut Text, bytes: &[u8])
     ensures text { out.new ≡ put out.old (32 ∷ spelling bytes.now) }
     ensures short { length bytes.now ≤ 4096 → length (spelling bytes.now) ≤ 8192 }
 {
-    out.put(b" ");
+    out.push(b' ');
     put_data(out, bytes);
 }
 
@@ -87,10 +87,10 @@ pub(crate) fn then_name(out: &mut Text, name: JobName)
     ensures { out.new ≡ put out.old (32 ∷ name_text name) }
 {
     then_number(out, name.slot.index() as u64);
-    out.put(b".");
+    out.push(b'.');
     put_number(out, name.life.0 as u64);
-    out.put(b".");
+    out.push(b'.');
     put_kind(out, name.kind);
-    out.put(b".");
+    out.push(b'.');
     put_number(out, name.serial);
 }

@@ -7,6 +7,7 @@ ghost use Rattle.xt_text.specs.Reading.{Gives, below, number_of, number_on};
 
 use crate::bad_line::BadLine;
 use crate::buffer::Text;
+use itoa::Buffer;
 
 /// A number with one more digit; a number over the greatest u64 is a bad spelling.
 pub(crate) fn number_on(number: u64, digit: u8) -> Result<u64, BadLine>
@@ -44,14 +45,24 @@ pub(crate) fn below(word: &[u8], limit: u64) -> Result<u64, BadLine>
     }
 }
 
-/// Puts a number in decimal.
-#[tactic(auto, using(crate::proofs::BufferLemmas::put_put, std::proofs::lemmas::Fmt::decimal_digit, std::proofs::lemmas::Fmt::decimal_step, crate::proofs::Lengths::decimal_fits))]
+/// Puts a number in decimal: a digit, as most numbers of a line are, at once.
+#[inline(always)]
+#[tactic(auto, using(crate::proofs::Lengths::decimal_fits, std::proofs::lemmas::Fmt::decimal_digit))]
 pub(crate) fn put_number(out: &mut Text, number: u64)
     ensures text { out.new ≡ put out.old (decimal number) }
     ensures short { length (decimal number) ≤ 20 }
 {
-    if number >= 10 {
-        put_number(out, number / 10);
+    if number < 10 {
+        out.push(b'0' + number as u8);
+    } else {
+        put_digits(out, number);
     }
-    out.put(&[b'0' + (number % 10) as u8]);
+}
+
+/// Puts a number in decimal.
+fn put_digits(out: &mut Text, number: u64)
+    ensures { out.new ≡ put out.old (decimal number) }
+{
+    let mut buffer = Buffer::new();
+    out.put(buffer.format(number).as_bytes());
 }

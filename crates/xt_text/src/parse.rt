@@ -9,21 +9,21 @@ use crate::bad_line::BadLine;
 use crate::buffer::Text;
 use crate::print_step::print_step;
 use crate::read_line::step_of;
-use std::alloc::{AllocError, Global};
+use std::alloc::Global;
 use xt_base::steps::Step;
 
 /// The most bytes of a line, without its newline.
 pub const LINE_BYTES: usize = 8400;
 
-/// Whether a line is that of a step. The one error is want of memory.
+/// Whether a line is that of a step, which is printed to tell.
 #[tactic(auto, using(crate::proofs::ParseLemmas::line_is_printed, crate::proofs::ParseLemmas::printed_is_line))]
-fn is_line_of(alloc: Global, line: &[u8], step: &Step) -> Result<bool, AllocError>
+fn is_line_of(line: &[u8], step: &Step, text: &mut Text) -> bool
     requires { length line.now ≤ 8400 }
-    ensures { IfOk result (λ same. IsTrue same ↔ (line.now ≡ line_of step.now)) }
+    ensures { IsTrue result ↔ (line.now ≡ line_of step.now) }
 {
-    let mut text = Text::new(alloc)?;
-    print_step(step, &mut text);
-    Ok(text.holds(line))
+    text.clear();
+    print_step(step, text);
+    text.holds(line)
 }
 
 /// The step that a line spells, without its newline. A line that is not the one spelling of a step is a bad line, and
@@ -33,11 +33,21 @@ pub fn parse_line(alloc: Global, line: &[u8]) -> Result<Step, BadLine>
     ensures found { IfOk result (λ step. line.now ≡ line_of step) }
     ensures only { (step : AnyStep) → IsStep step → line.now ≡ line_of step → Gives result (Some step) }
 {
+    let mut text = Text::new(alloc)?;
+    parse_line_in(alloc, line, &mut text)
+}
+
+/// `parse_line` in a buffer that serves line after line: whatever it holds, it is written over.
+pub fn parse_line_in(alloc: Global, line: &[u8], text: &mut Text) -> Result<Step, BadLine>
+    ensures valid { IfOk result IsStep }
+    ensures found { IfOk result (λ step. line.now ≡ line_of step) }
+    ensures only { (step : AnyStep) → IsStep step → line.now ≡ line_of step → Gives result (Some step) }
+{
     if line.len() > LINE_BYTES {
         return Err(BadLine::Spelling);
     }
     let step = step_of(alloc, line)?;
-    if is_line_of(alloc, line, &step)? {
+    if is_line_of(line, &step, text) {
         Ok(step)
     } else {
         Err(BadLine::Spelling)

@@ -63,7 +63,7 @@ fn put_ckpt(out: &mut Text, number: CkptNo)
     ensures text { out.new ≡ put out.old (ckpt_text number) }
     ensures short { length (ckpt_text number) ≤ 21 }
 {
-    out.put(b"c");
+    out.push(b'c');
     put_number(out, number.0);
 }
 
@@ -120,7 +120,7 @@ pub fn print_reply(reply: &Reply, out: &mut Text)
         Reply::OkayHeld(held) => put_with_held(out, b"ok", held),
         Reply::Life(life) => put_with_number(out, b"life", life.0 as u64),
         Reply::Trans(trans) => {
-            out.put(b"t");
+            out.push(b't');
             put_number(out, trans.0);
         }
         Reply::Committed { number, held } => put_committed(out, *number, held),
@@ -156,7 +156,7 @@ pub fn print_slot_reply(slot: Slot, reply: &Reply, out: &mut Text)
     ensures short { length (slot_reply_text slot reply.now) ≤ 8400 }
 {
     put_number(out, slot.index() as u64);
-    out.put(b" ");
+    out.push(b' ');
     print_reply(reply, out);
 }
 

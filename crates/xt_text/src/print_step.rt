@@ -134,9 +134,9 @@ fn put_call(out: &mut Text, slot: Slot, life: Life, request: &Request, answer: &
     ensures { out.new ≡ put out.old ((decimal slot · decimal life) ␣ (request_text request.now ++ answer_text answer.now)) }
 {
     put_number(out, slot.index() as u64);
-    out.put(b".");
+    out.push(b'.');
     put_number(out, life.0 as u64);
-    out.put(b" ");
+    out.push(b' ');
     put_request(out, request);
     put_answer(out, answer);
 }

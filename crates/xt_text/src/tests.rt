@@ -509,12 +509,12 @@ fn replies_are_printed(rt: HostRuntime) -> Result<(), Fail> {
 fn held_blocks_are_printed(rt: HostRuntime) -> Result<(), Fail> {
     let mut out = Text::new(rt.alloc())?;
     let none = Vec::new(rt.alloc());
-    assert!(rt; HeldBlocks::of(none).is_none());
-    let five = HeldBlocks::of(vec![in rt.alloc(); Block(5); 1]?).ok_or("one block")?;
+    assert!(rt; HeldBlocks::of(rt.alloc(), none)?.is_none());
+    let five = HeldBlocks::of(rt.alloc(), vec![in rt.alloc(); Block(5); 1]?)?.ok_or("one block")?;
     says(&rt, &mut out, &Reply::OkayHeld(five), "ok held 5");
     let mut blocks = vec![in rt.alloc(); Block(0); 1]?;
     blocks.push(Block(1099511627775))?;
-    let two = HeldBlocks::of(blocks).ok_or("two blocks")?;
+    let two = HeldBlocks::of(rt.alloc(), blocks)?.ok_or("two blocks")?;
     says(
         &rt,
         &mut out,
@@ -524,7 +524,7 @@ fn held_blocks_are_printed(rt: HostRuntime) -> Result<(), Fail> {
         },
         "c0 held 0 1099511627775",
     );
-    let seven = HeldBlocks::of(vec![in rt.alloc(); Block(7); 1]?).ok_or("one block")?;
+    let seven = HeldBlocks::of(rt.alloc(), vec![in rt.alloc(); Block(7); 1]?)?.ok_or("one block")?;
     says(&rt, &mut out, &Reply::Aborted(seven), "EIO held 7");
     Ok(())
 }
@@ -569,7 +569,7 @@ fn names_of_refusals_and_reasons_are_printed(rt: HostRuntime) -> Result<(), Fail
 fn offers_are_printed(rt: HostRuntime) -> Result<(), Fail> {
     let mut out = Text::new(rt.alloc())?;
     let slot = Slot::new(15).ok_or("a slot")?;
-    let bytes = Data::of(vec![in rt.alloc(); 0xaa; 32]?).ok_or("few bytes")?;
+    let bytes = Data::of(rt.alloc(), vec![in rt.alloc(); 0xaa; 32]?)?.ok_or("few bytes")?;
     print_log_offer(slot, &LogOffer::Piece { bytes, ok: true }, &mut out);
     out.put(b"\n");
     print_log_offer(slot, &LogOffer::Sync { ok: false }, &mut out);

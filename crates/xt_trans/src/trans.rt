@@ -208,7 +208,7 @@ impl TransRec {
         ensures { IfOk result (λ blocks. blocks ≡ held_of self.now.holds) }
     {
         let blocks = held_blocks(alloc, self.items.entries())?;
-        Ok(HeldBlocks::of(blocks))
+        HeldBlocks::of(alloc, blocks)
     }
 
     /// A block has these bytes in the leg, and these chunks are marked and charged too. One that was invalidated is so no more.

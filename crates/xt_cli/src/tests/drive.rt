@@ -96,9 +96,9 @@ fn read(alloc: Global, home: &mut dyn HomeDevice, block: Block) -> Result<Answer
     if home.read(block, &mut bytes).is_err() {
         return Ok(Answer::Failed);
     }
-    match Content::of(bytes.as_slice().to_vec(alloc)?) {
-        Ok(content) => Ok(Answer::Content(content)),
-        Err(_) => Err(Fail::from("the length of a block")),
+    match Content::of(alloc, bytes.as_slice().to_vec(alloc)?)? {
+        Some(content) => Ok(Answer::Content(content)),
+        None => Err(Fail::from("the length of a block")),
     }
 }
 

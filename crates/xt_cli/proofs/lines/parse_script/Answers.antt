@@ -10,4 +10,4 @@ returns-in-Err-Spelling-clause-bad c = subst (λ n. IsBadScript c.args.script.no
     (bad_here c.args.script.now c.loop-rest.steps.items c.loop-rest.rest.now c.first_line.result.0.now c.first_line.result.1.now c.loop-rest.invariant c.first_line.ensures.cut
     (λ none. true≢false (sym (c.is_empty.ensures ∙ ap (λ r. length r == 0) none) ∙ c.loop-rest-test.true))
     c.first_line.ensures.line
-    (bad_line c.first_line.result.0.now c.parse_line.result c.parse_line.ensures.only (c.in-Err-Spelling.is ∙ ap Err c.in-Err-Spelling.field-0-is)))
+    (bad_line c.first_line.result.0.now c.parse_line_in.result c.parse_line_in.ensures.only (c.in-Err-Spelling.is ∙ ap Err c.in-Err-Spelling.field-0-is)))

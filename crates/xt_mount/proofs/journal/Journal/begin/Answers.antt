@@ -7,11 +7,11 @@ use Rattle.xt_resv.specs.Ledgers.{Grant, Ledger}
 use Rattle.xt_mount.proofs.JournalLemmas.{grant_is, granted_more}
 use Rattle.xt_mount.proofs.journal.Journal.begin.Goals as goal
 
-pub invariant_of-self : goal.invariant_of-self
-invariant_of-self c =
+pub invariant_of-self-in-Ok : goal.invariant_of-self-in-Ok
+invariant_of-self-in-Ok c =
     let rises = subst (λ (x : Pages). IsRising x.transactions) (sym c.self.view_is) c.requires.rising in
     let absent = ap (λ (x : Pages). is_in c.args.trans x.transactions) c.self.view_is ∙ c.requires.free in
-    let more = granted_more c.args.trans c.new-in-Ok.result c.self.inside.transactions _ rises absent c.put_new.ensures in
+    let more = granted_more c.args.trans c.new.result c.self.inside.transactions _ rises absent c.put_new.ensures in
     let changed = c.in-Ok.ensures.ok in
     let given = grant_is _ c.in-Ok.ticket _ c.in-Ok.ensures.result in
-    (omega (arith, more, ap (λ (g : Grant). g.unit * g.legs) given, ap (λ (l : Ledger). l.granted) changed, c.self.invariant.0, ap (λ (x : Transaction). x.unit * x.legs) c.new-in-Ok.ensures), ap (λ (l : Ledger). l.cil) changed ∙ c.self.invariant.1, ap (λ (l : Ledger). l.flight) changed ∙ c.self.invariant.2)
+    (omega (arith, more, ap (λ (g : Grant). g.unit * g.legs) given, ap (λ (l : Ledger). l.granted) changed, c.self.invariant.0, ap (λ (x : Transaction). x.unit * x.legs) c.new.ensures), ap (λ (l : Ledger). l.cil) changed ∙ c.self.invariant.1, ap (λ (l : Ledger). l.flight) changed ∙ c.self.invariant.2)

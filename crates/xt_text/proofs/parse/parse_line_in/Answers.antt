@@ -2,7 +2,7 @@ use Rattle.std.proofs.Common.{sym, ◌∙◌}
 use Rattle.std.proofs.lemmas.Bool.{both_ways}
 use Rattle.std.proofs.lemmas.Result.{err_from_is_err_and}
 use Rattle.xt_text.proofs.ParseLemmas.{error_gives, line_gives, line_not_long, other_line}
-use Rattle.xt_text.proofs.parse.parse_line.Goals as goal
+use Rattle.xt_text.proofs.parse.parse_line_in.Goals as goal
 
 pub returns-then-line-gt-LINE_BYTES-clause-only : goal.returns-then-line-gt-LINE_BYTES-clause-only
 returns-then-line-gt-LINE_BYTES-clause-only c = λ step is e. absurd (line_not_long _ step is e c.if-line-gt-LINE_BYTES.true)
@@ -13,9 +13,9 @@ returns-in_err-step-clause-only c =
     let p = err_from_is_err_and c.from_residual.result c.from_residual.ensures.1 in
     rw (p.1, p.2) (error_gives _ step _ is e c.in_err-step.ensures.value)
 
-pub returns-then-branch-clause-only : goal.returns-then-branch-clause-only
-returns-then-branch-clause-only c = λ step is e. sym (line_gives _ step is e) ∙ c.in_ok-step.ensures.value
+pub returns-then-is_line_of-clause-only : goal.returns-then-is_line_of-clause-only
+returns-then-is_line_of-clause-only c = λ step is e. sym (line_gives _ step is e) ∙ c.in_ok-step.ensures.value
 
-pub returns-else-branch-clause-only : goal.returns-else-branch-clause-only
-returns-else-branch-clause-only c =
-    λ step is e. absurd (both_ways _ c.if-branch.false (c.in_ok-is_line_of.ensures.1 (other_line _ step _ is e c.in_ok-step.ensures.value)))
+pub returns-else-is_line_of-clause-only : goal.returns-else-is_line_of-clause-only
+returns-else-is_line_of-clause-only c =
+    λ step is e. absurd (both_ways _ c.if-is_line_of.false (c.is_line_of.ensures.1 (other_line _ step _ is e c.in_ok-step.ensures.value)))
