@@ -50,8 +50,23 @@ impl Content {
     pub fn copy(&self, alloc: Global) -> Result<Self, AllocError>
         ensures { IfOk result (λ content. content ≡ self.now) }
     {
-        let bytes = Box::new(alloc, self.bytes.to_vec(alloc)?)?;
+        let mut bytes = Vec::with_capacity(alloc, BLOCK_BYTES)?;
+        bytes.extend_from_slice(&self.bytes)?;
+        let bytes = Box::new(alloc, bytes)?;
         Ok(Content { bytes })
+    }
+
+    /// A copy, in the place of a content that nobody needs any more, if there is one. The one error is want of memory.
+    pub fn copy_over(&self, alloc: Global, spare: Option<Content>) -> Result<Self, AllocError>
+        ensures { IfOk result (λ content. content ≡ self.now) }
+    {
+        match spare {
+            Some(mut content) => {
+                content.bytes.copy_from_slice(&self.bytes);
+                Ok(content)
+            }
+            None => self.copy(alloc),
+        }
     }
 
     /// Its bytes.

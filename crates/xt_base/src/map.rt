@@ -132,6 +132,25 @@ impl<V> NumberMap<V> {
         }
     }
 
+    /// Its keys rise: for a proof, at run time nothing.
+    fn keys_rise(&self)
+        ensures { IsRising self.now }
+    {
+        let _entries = self.entries();
+    }
+
+    /// Puts a value at a key, and hands back the one that stood there. A new key needs room. It takes no memory.
+    pub fn exchange(&mut self, key: u64, value: V) -> Option<V>
+        requires { is_in key self.old ≡ false → length self.old < 128 }
+        ensures value { result ≡ at key self.old }
+        ensures map { self.new ≡ with_entry key value self.old }
+    {
+        self.keys_rise();
+        let before = self.remove(key);
+        self.put_new(key, value);
+        before
+    }
+
     /// Lets an empty map go, also one of values that can't be.
     pub fn destroy_empty(self)
         requires { self ≡ [] }

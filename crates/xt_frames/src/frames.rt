@@ -20,6 +20,8 @@ pub struct Frames {
     committed: NumberMap<Content>,
     fresh: FreshBlocks,
     idle: Vec<(u64, Content)>,
+    /// A content that was replaced, for a later copy.
+    spare: Option<Content>,
 }
 
 impl Model for Frames {
@@ -45,6 +47,7 @@ impl Frames {
             committed,
             fresh,
             idle,
+            spare: None,
         })
     }
 
@@ -139,7 +142,14 @@ impl Frames {
         requires { length self.old.committed < 128 }
         ensures { self.new ≡ record self.old { committed = put block content self.old.committed } }
     {
-        self.committed.put(block, content);
+        self.spare = self.committed.exchange(block, content);
+    }
+
+    /// A content that was replaced and that nobody needs any more, if there is one: a copy may take its place.
+    pub fn take_spare(&mut self) -> Option<Content>
+        ensures { self.new ≡ self.old }
+    {
+        self.spare.take()
     }
 
     /// A block is fresh no more.

@@ -18,12 +18,18 @@ use xt_base::steps::{Errno, Reply};
 use xt_trans::trans::TransRec;
 
 impl Machine {
-    /// A copy of what a leg sees of a block.
-    fn seen(&self, leg: &TransRec, block: u64) -> Result<Content, AllocError>
+    /// A copy of what a leg sees of a block, which may take the place of a spare content.
+    fn seen(
+        &self,
+        leg: &TransRec,
+        block: u64,
+        spare: Option<Content>,
+    ) -> Result<Content, AllocError>
         ensures { IfOk result (λ content. content ≡ seen block leg.now self.now.frames) }
     {
         leg.seen(
             self.alloc,
+            spare,
             block,
             self.frames.is_fresh(block),
             self.frames.content(block),
@@ -40,7 +46,7 @@ impl Machine {
         if !self.is_own(trans, block) {
             return Ok(Reply::Refused(Errno::Invalid));
         }
-        let content = self.seen(opened.leg(), block)?;
+        let content = self.seen(opened.leg(), block, None)?;
         Ok(Reply::Data(content))
     }
 
@@ -105,13 +111,14 @@ impl Machine {
         ensures ok { IfOk result (λ reply. gives reply (state_of self.new) ≡ with_trans (at trans self.old.journal.transactions) (state_of self.old) (log_step trans block first bytes.now (state_of self.old))) }
         ensures err { OnErr result (state_of self.new ≡ state_of self.old) }
     {
+        let spare = self.frames.take_spare();
         let Some(opened) = self.journal.get(trans) else {
             return Ok(Reply::Refused(Errno::Invalid));
         };
         if let Some(errno) = self.log_refusal(opened, trans, block, first, bytes) {
             return Ok(Reply::Refused(errno));
         }
-        let mut content = self.seen(opened.leg(), block)?;
+        let mut content = self.seen(opened.leg(), block, spare)?;
         content.write(first as usize, bytes.bytes());
         let marked = Chunks::mark(first, bytes.bytes().len() as u32);
         self.keep_edit(trans, block, content, marked);

@@ -18,7 +18,7 @@ fn memory_refused(rt: HostRuntime) {
     };
     leg.hold(7);
     leg.log(7, edit, Chunks::mark(0, 1));
-    let is_seen = leg.seen(alloc, 7, false, None).is_ok();
+    let is_seen = leg.seen(alloc, None, 7, false, None).is_ok();
     let is_told = leg.held(alloc).is_ok();
     assert!(rt; is_seen || is_told);
     assert!(rt; leg.is_held(7) && leg.is_changed(7));

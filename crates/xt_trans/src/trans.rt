@@ -121,10 +121,12 @@ impl TransRec {
     }
 
     /// A copy of what the leg sees of a block, which is fresh or not and has this committed content, if any: its edit, else zeros
-    /// where it is fresh or stale, else the committed content. The one error is want of memory.
+    /// where it is fresh or stale, else the committed content. The copy may take the place of a spare content. The one error is
+    /// want of memory.
     pub fn seen(
         &self,
         alloc: Global,
+        spare: Option<Content>,
         block: u64,
         is_fresh: bool,
         committed: Option<&Content>,
@@ -132,13 +134,13 @@ impl TransRec {
         ensures { IfOk result (λ content. content ≡ seen_with block self.now is_fresh (unwrap_or (option_copied committed.entry) zeros)) }
     {
         if let Some(edit) = self.edit(block) {
-            return edit.copy(alloc);
+            return edit.copy_over(alloc, spare);
         }
         if is_fresh || self.is_stale(block) {
             return Content::zeros(alloc);
         }
         match committed {
-            Some(content) => content.copy(alloc),
+            Some(content) => content.copy_over(alloc, spare),
             None => Content::zeros(alloc),
         }
     }
