@@ -126,7 +126,7 @@ pub alike_at : (t b : ℕ) (s u : State) (request : Request) (given other : Answ
     → (alone_with dropped request given s).reply ≡ (alone_with left request other u).reply
 alike_at t b s u (Request.View v c) given other dropped left like named =
     let here = like_at t b v c s u like named in trans_alike v c s u here (view v c s) (view v c u) (view_alike v c s u here)
-alike_at t b s u (Request.Log v c first bytes) given other dropped left like named =
+alike_at t b s u (Request.Log first v c bytes) given other dropped left like named =
     let here = like_at t b v c s u like named in trans_alike v c s u here (log v c first bytes s) (log v c first bytes u) (log_alike v c s u here first bytes)
 alike_at t b s u (Request.Hold v c) given other dropped left like named =
     let here = like_at t b v c s u like named in trans_alike v c s u here (hold v c s) (hold v c u) (hold_alike v c s u here)

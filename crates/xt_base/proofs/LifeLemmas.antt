@@ -4,7 +4,7 @@ use Rattle.std.proofs.lemmas.Bool.{and_parts, cases_Bool, eqb-true, false_from_n
 use Rattle.std.specs.Prelude.{if◌then◌else◌, is_some, nat_lt, not, ◌&&◌, ◌-◌, ◌==◌, ◌||◌}
 use Rattle.xt_base.proofs.NameLemmas.{AreAlike, alike}
 use Rattle.xt_base.specs.Alone.{Turn, alone, call, called, goes_on, is_okay, mount, mount_refusals, mounted_new, on_mount, shown, step_with, turn, unless_refused, with_mount}
-use Rattle.xt_base.specs.Calls.{Outcome, alloc, alloc_refusals, alone_with, answered, asks_ckpt, asks_flush, brought, cancel, closed, commit, commit_number, first_of, force, force_to, force_to_refusals, get, get_refusals, gives, held_of, hold, inval, inval_refusals, io_of, is_absent, is_flight, is_no_room, is_unmount, join, join_refusals, legs_after, locked, log, log_refusals, push, read, read_refusals, release, released, roll, shut_down, shut_if, unhold, unless, unmount, unowned, view, waits_for, with_leg, with_legs, with_owner, with_trans, without_hold}
+use Rattle.xt_base.specs.Calls.{Outcome, alloc, alloc_refusals, alone_with, answered, asks_ckpt, asks_flush, brought, cancel, closed, commit, commit_number, committed_of, first_of, force, force_to, force_to_refusals, get, get_refusals, gives, held_of, hold, inval, inval_refusals, io_of, is_absent, is_flight, is_no_room, is_unmount, join, join_refusals, legs_after, locked, log, log_refusals, push, read, read_refusals, release, released, roll, shut_down, shut_if, unhold, unless, unmount, unowned, view, waits_for, with_leg, with_legs, with_owner, with_trans, without_hold}
 use Rattle.xt_base.specs.Jobs.{begin, end, end_of, end_offers, flight_pieces, flush, flush_of, flush_offers, flush_plan, is_owed, is_owed_as, posted}
 use Rattle.xt_base.specs.Legs.{aborted, ended, is_dirty, own_count}
 use Rattle.xt_base.specs.Maps.{at, is_in}
@@ -27,7 +27,7 @@ use Rattle.xt_base.specs.declared.steps.LogOffer.{LogOffer}
 use Rattle.xt_base.specs.declared.steps.Reason.{Reason}
 use Rattle.xt_base.specs.declared.steps.Reason.TheVariants.{CorruptIncore}
 use Rattle.xt_base.specs.declared.steps.Owner.TheVariants.{Trans}
-use Rattle.xt_base.specs.declared.steps.Reply.TheVariants.{Committed, Done, Free, Kept, Okay, Refused, Wait}
+use Rattle.xt_base.specs.declared.steps.Reply.TheVariants.{Done, Free, Kept, Okay, Refused, Wait}
 use Rattle.xt_base.specs.declared.steps.Request.{Request}
 use Rattle.xt_base.specs.declared.steps.Step.{Step}
 use Rattle.xt_base.specs.declared.steps.Step.TheVariants.{Begin, Call, End, Flush, Mount, Peek, Post, Show, Take}
@@ -126,7 +126,7 @@ module _ (s : State) where
 
   same_roll : (dropped : Dropped) (t : ℕ) (trans : Transaction) → IsSameLife s (roll dropped t s trans).state
   same_roll dropped t trans =
-      let went = gives (Committed (commit_number trans.leg s) (held_of trans.leg.holds)) (settled dropped (with_legs t (legs_after trans.legs) trans (ended t trans.leg s))) in
+      let went = gives (committed_of (commit_number trans.leg s) (held_of trans.leg.holds)) (settled dropped (with_legs t (legs_after trans.legs) trans (ended t trans.leg s))) in
       let full = gives (Refused Again) (asks_flush (asks_ckpt s)) in
       let shut = gives (io_of (held_of trans.leg.holds)) (settled dropped (with_legs t 0 trans (aborted t trans.leg s))) in
       let live = if is_no_room t trans s then full else went in
@@ -167,7 +167,7 @@ module _ (s : State) where
   same_call dropped (Request.Get t b) answer = same_with (at t s.transactions) _ (λ trans. same_get t b)
   same_call dropped (Request.Read t b) answer = same_with (at t s.transactions) _ (same_read t b answer)
   same_call dropped (Request.View t b) answer = same_with (at t s.transactions) _ (same_view t b)
-  same_call dropped (Request.Log t b first bytes) answer = same_with (at t s.transactions) _ (same_log t b first bytes)
+  same_call dropped (Request.Log first t b bytes) answer = same_with (at t s.transactions) _ (same_log t b first bytes)
   same_call dropped (Request.Hold t b) answer = same_with (at t s.transactions) _ (same_hold t b)
   same_call dropped (Request.Unhold t b) answer = same_with (at t s.transactions) _ (same_unhold t b)
   same_call dropped (Request.Relse t b) answer = same_with (at t s.transactions) _ (λ trans. same_released dropped t b trans (own_count t (at b s.owners)))

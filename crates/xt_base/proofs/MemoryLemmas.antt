@@ -4,7 +4,7 @@ use Rattle.std.specs.List.{list_all}
 use Rattle.std.specs.Prelude.{if◌then◌else◌, is_some, nat_lt, not, ◌&&◌, ◌*◌, ◌+◌, ◌-◌, ◌==◌, ◌||◌}
 use Rattle.std.proofs.lemmas.Bool.{and_parts, not-true}
 use Rattle.xt_base.specs.Alone.{Turn, alone, call, called, goes_on, mount_refusals, mounted_new, on_mount, turn, unless_refused, with_mount}
-use Rattle.xt_base.specs.Calls.{Outcome, alloc, alloc_refusals, allocated, alone_with, answered, asks_ckpt, asks_flush, closed, commit, commit_number, first_of, force, force_to, force_to_refusals, get, get_refusals, gives, held_of, hold, inval, inval_refusals, io_of, is_absent, is_flight, is_held, is_kept, is_no_room, is_own, join, join_refusals, legs_after, locked, log, log_refusals, logged_leg, invalidated, not_fresh, okay_of, push, read, read_refusals, release, released, roll, seen, unhold, unless, unmount, unowned, view, waits_for, with_leg, with_legs, with_owner, with_trans, without_hold}
+use Rattle.xt_base.specs.Calls.{Outcome, alloc, alloc_refusals, allocated, alone_with, answered, asks_ckpt, asks_flush, closed, commit, commit_number, committed_of, first_of, force, force_to, force_to_refusals, get, get_refusals, gives, held_of, hold, inval, inval_refusals, io_of, is_absent, is_flight, is_held, is_kept, is_no_room, is_own, join, join_refusals, legs_after, locked, log, log_refusals, logged_leg, invalidated, not_fresh, okay_of, push, read, read_refusals, release, released, roll, seen, unhold, unless, unmount, unowned, view, waits_for, with_leg, with_legs, with_owner, with_trans, without_hold}
 use Rattle.xt_base.specs.Isolation.{is_memory, is_no_memory}
 use Rattle.xt_base.specs.Jobs.{begin, begun, end, end_of, end_offers, failed, finished, flush, flush_of, flush_offers, flush_plan, flushed, is_ok, landed, next_pieces, posted, unflushed}
 use Rattle.xt_base.specs.Legs.{aborted, ended, is_dirty, is_stale, own_count}
@@ -21,7 +21,7 @@ use Rattle.xt_base.specs.declared.steps.HomeOffer.{HomeOffer}
 use Rattle.xt_base.specs.declared.steps.LogAnswers.{LogAnswers}
 use Rattle.xt_base.specs.declared.steps.LogOffer.{LogOffer}
 use Rattle.xt_base.specs.declared.steps.Owner.TheVariants.{Trans}
-use Rattle.xt_base.specs.declared.steps.Reply.TheVariants.{Committed, Done, Failed, Free, Kept, Landed, Nothing, Okay, Refused, Wait}
+use Rattle.xt_base.specs.declared.steps.Reply.TheVariants.{Done, Failed, Free, Kept, Landed, Nothing, Okay, Refused, Wait}
 use Rattle.xt_base.specs.declared.steps.Request.{Request}
 use Rattle.xt_base.specs.declared.steps.Step.{Step}
 use Rattle.xt_base.specs.declared.steps.Step.TheVariants.{Begin, Call, End, Flush, Mount, Peek, Post, Show, Take}
@@ -51,6 +51,10 @@ io_no_want (b ∷ bs) = refl
 okay_no_want : (held : List ℕ) → is_no_memory (okay_of (held_of held)) ≡ false
 okay_no_want [] = refl
 okay_no_want (b ∷ bs) = refl
+
+committed_no_want : (number : ℕ) (held : List ℕ) → is_no_memory (committed_of number (held_of held)) ≡ false
+committed_no_want number [] = refl
+committed_no_want number (b ∷ bs) = refl
 
 waits_no_want : (o : Option Flight) → is_no_memory (waits_for o) ≡ false
 waits_no_want None = refl
@@ -115,18 +119,18 @@ module _ (s : State) where
 
   commit_no_want : (dropped : Dropped) (t : ℕ) (trans : Transaction) → IsNoWant (commit dropped t s trans)
   commit_no_want dropped t trans =
-      let went = gives (Committed (commit_number trans.leg s) (held_of trans.leg.holds)) (settled dropped (closed t (ended t trans.leg s))) in
+      let went = gives (committed_of (commit_number trans.leg s) (held_of trans.leg.holds)) (settled dropped (closed t (ended t trans.leg s))) in
       let lost = gives (io_of (held_of trans.leg.holds)) (settled dropped (closed t (aborted t trans.leg s))) in
-      either (is_dirty trans.leg && is_some s.shut) lost went (io_no_want trans.leg.holds) refl
+      either (is_dirty trans.leg && is_some s.shut) lost went (io_no_want trans.leg.holds) (committed_no_want (commit_number trans.leg s) trans.leg.holds)
 
   roll_no_want : (dropped : Dropped) (t : ℕ) (trans : Transaction) → IsNoWant (roll dropped t s trans)
   roll_no_want dropped t trans =
-      let went = gives (Committed (commit_number trans.leg s) (held_of trans.leg.holds)) (settled dropped (with_legs t (legs_after trans.legs) trans (ended t trans.leg s))) in
+      let went = gives (committed_of (commit_number trans.leg s) (held_of trans.leg.holds)) (settled dropped (with_legs t (legs_after trans.legs) trans (ended t trans.leg s))) in
       let full = gives (Refused Again) (asks_flush (asks_ckpt s)) in
       let shut = gives (io_of (held_of trans.leg.holds)) (settled dropped (with_legs t 0 trans (aborted t trans.leg s))) in
       let live = if is_no_room t trans s then full else went in
       either (not trans.perm) (gives (Refused Invalid) s) (if is_some s.shut then shut else live) refl
-      (either (is_some s.shut) shut live (io_no_want trans.leg.holds) (either (is_no_room t trans s) full went refl refl))
+      (either (is_some s.shut) shut live (io_no_want trans.leg.holds) (either (is_no_room t trans s) full went refl (committed_no_want (commit_number trans.leg s) trans.leg.holds)))
 
   force_no_want : IsNoWant (force s)
   force_no_want =
@@ -154,7 +158,7 @@ module _ (s : State) where
   call_no_want dropped (Request.Get t b) answer = with_no_want (at t s.transactions) _ (λ trans. get_no_want t b)
   call_no_want dropped (Request.Read t b) answer = with_no_want (at t s.transactions) _ (read_no_want t b answer)
   call_no_want dropped (Request.View t b) answer = with_no_want (at t s.transactions) _ (view_no_want t b)
-  call_no_want dropped (Request.Log t b first bytes) answer = with_no_want (at t s.transactions) _ (log_no_want t b first bytes)
+  call_no_want dropped (Request.Log first t b bytes) answer = with_no_want (at t s.transactions) _ (log_no_want t b first bytes)
   call_no_want dropped (Request.Hold t b) answer = with_no_want (at t s.transactions) _ (hold_no_want t b)
   call_no_want dropped (Request.Unhold t b) answer = with_no_want (at t s.transactions) _ (unhold_no_want t b)
   call_no_want dropped (Request.Relse t b) answer = with_no_want (at t s.transactions) _ (λ trans. released_no_want dropped t b trans (own_count t (at b s.owners)))

@@ -6,7 +6,7 @@ use Rattle.std.specs.Prelude.{IfSome, filter_map, if◌then◌else◌, is_some, 
 use Rattle.xt_base.proofs.LegLemmas.{own_itself, own_one}
 use Rattle.xt_base.proofs.RisingLemmas.{each_at, each_filter, each_map, each_put, each_without}
 use Rattle.xt_base.proofs.StillLemmas.{fact_either, fact_if, fact_unless, fact_with_trans}
-use Rattle.xt_base.specs.Calls.{Outcome, alloc, alloc_refusals, allocated, alone_with, answered, asks_ckpt, asks_flush, brought, cancel, closed, commit, commit_number, first_of, force, force_to, force_to_refusals, get, get_refusals, gives, held_of, hold, inval, inval_refusals, invalidated, io_of, is_absent, is_flight, is_held, is_kept, is_no_room, is_own, join, join_refusals, legs_after, locked, log, log_refusals, logged_leg, not_fresh, read, read_refusals, released, relse, roll, seen, shut_down, unhold, unowned, view, waits_for, with_leg, with_legs, with_owner, with_trans, without_hold}
+use Rattle.xt_base.specs.Calls.{Outcome, alloc, alloc_refusals, allocated, alone_with, answered, asks_ckpt, asks_flush, brought, cancel, closed, commit, commit_number, committed_of, first_of, force, force_to, force_to_refusals, get, get_refusals, gives, held_of, hold, inval, inval_refusals, invalidated, io_of, is_absent, is_flight, is_held, is_kept, is_no_room, is_own, join, join_refusals, legs_after, locked, log, log_refusals, logged_leg, not_fresh, read, read_refusals, released, relse, roll, seen, shut_down, unhold, unowned, view, waits_for, with_leg, with_legs, with_owner, with_trans, without_hold}
 use Rattle.xt_base.specs.Jobs.{begin, begun, end, end_of, failed, finished, flush, flush_plan, flushed, is_ok, landed, next_pieces, unflushed, waits_on}
 use Rattle.xt_base.specs.Laws.{AreGiven}
 use Rattle.xt_base.specs.Legs.{aborted, ended, is_dirty, is_stale, own_count, owned_by, owner_aborted, owner_after}
@@ -24,7 +24,7 @@ use Rattle.xt_base.specs.declared.steps.Owner.{Owner}
 use Rattle.xt_base.specs.declared.steps.Owner.TheVariants.{Held, Stale, Trans}
 use Rattle.xt_base.specs.declared.steps.Reason.TheVariants.{CorruptIncore, MetaIoError}
 use Rattle.xt_base.specs.declared.steps.Reply.{Reply}
-use Rattle.xt_base.specs.declared.steps.Reply.TheVariants.{Committed, Done, Failed, Free, Kept, Landed, Nothing, Okay, Refused, Wait}
+use Rattle.xt_base.specs.declared.steps.Reply.TheVariants.{Done, Failed, Free, Kept, Landed, Nothing, Okay, Refused, Wait}
 use Rattle.xt_base.specs.declared.steps.Request.{Request}
 
 -- a transaction that has a block has a number up to the last
@@ -110,7 +110,7 @@ module _ (s : State) (h : IsSound s) (g : AreGiven s) where
   roll_given : (dropped : Dropped) (u : ℕ) (trans : Transaction) → AreGiven (roll dropped u s trans).state
   roll_given dropped u trans =
       let up : Outcome = gives (io_of (held_of trans.leg.holds)) (settled dropped (with_legs u 0 trans (aborted u trans.leg s))) in
-      let on : Outcome = gives (Committed (commit_number trans.leg s) (held_of trans.leg.holds)) (settled dropped (with_legs u (legs_after trans.legs) trans (ended u trans.leg s))) in
+      let on : Outcome = gives (committed_of (commit_number trans.leg s) (held_of trans.leg.holds)) (settled dropped (with_legs u (legs_after trans.legs) trans (ended u trans.leg s))) in
       let wait : Outcome = gives (Refused Again) (asks_flush (asks_ckpt s)) in
       fact_either AreGiven (not trans.perm) (gives (Refused Invalid) s) (if is_some s.shut then up else (if is_no_room u trans s then wait else on)) (λ refused. g)
       (λ may.
@@ -158,7 +158,7 @@ module _ (s : State) (h : IsSound s) (g : AreGiven s) where
       fact_either AreGiven (is_absent u b s) (answered u b trans.leg s answer) here (λ absent. answered_given u b trans.leg answer below) (λ resident. locked_given u b (own_count u (at b s.owners)) below)))
   given_call (Request.View u b) answer dropped =
       with_open u (view u b s) (λ trans below. fact_either AreGiven (is_own s u b) (gives (Reply.Data (seen b trans.leg s.frames)) s) (gives (Refused Invalid) s) (λ own. g) (λ other. g))
-  given_call (Request.Log u b first bytes) answer dropped =
+  given_call (Request.Log first u b bytes) answer dropped =
       with_open u (log u b first bytes s)
       (λ trans below. fact_unless AreGiven (first_of (log_refusals u b first bytes trans s)) s (gives Okay (not_fresh b (with_leg u trans (logged_leg b first bytes s.frames trans.leg) s))) g (λ passes. g))
   given_call (Request.Hold u b) answer dropped =
@@ -182,7 +182,7 @@ module _ (s : State) (h : IsSound s) (g : AreGiven s) where
       with_open u (commit dropped u s)
       (λ trans below.
       fact_either AreGiven (is_dirty trans.leg && is_some s.shut) (gives (io_of (held_of trans.leg.holds)) (settled dropped (closed u (aborted u trans.leg s))))
-      (gives (Committed (commit_number trans.leg s) (held_of trans.leg.holds)) (settled dropped (closed u (ended u trans.leg s)))) (λ up. up_given u trans.leg) (λ on. ended_given u trans.leg))
+      (gives (committed_of (commit_number trans.leg s) (held_of trans.leg.holds)) (settled dropped (closed u (ended u trans.leg s)))) (λ up. up_given u trans.leg) (λ on. ended_given u trans.leg))
   given_call (Request.Roll u) answer dropped = with_open u (roll dropped u s) (λ trans below. roll_given dropped u trans)
   given_call (Request.Cancel u) answer dropped =
       with_open u (cancel dropped u s)

@@ -1,6 +1,6 @@
 -- Scripts computed over the definitions: what each step of the mount alone says, and that the list is orderly.
 -- Made by tools/row-theorems from the files of rows/.
-use Rattle.std.proofs.Common.{◌≡◌, ℕ, List, [], ◌∷◌, ◌++◌, Some, None, true, false, refl}
+use Rattle.std.proofs.Common.{◌≡◌, ℕ, List, [], ◌∷◌, ◌++◌, Some, true, false, refl}
 use Rattle.std.specs.Prelude.{replicate}
 use Rattle.xt_base.specs.Alone.{Said, alone_run}
 use Rattle.xt_base.specs.Chunks.{chunks_where}
@@ -36,8 +36,8 @@ list01_steps =
     ∷ Step.Call 4 1 (Request.Commit 1) Answer.None
     ∷ Step.Call 4 1 (Request.Alloc 832 3 true) Answer.None
     ∷ Step.Call 4 1 (Request.Alloc 688 1 false) Answer.None
-    ∷ Step.Call 4 1 (Request.Log 3 8589934592 2058 ((0 ∷ []))) Answer.None
-    ∷ Step.Call 4 1 (Request.Log 2 69 2047 ((170 ∷ 170 ∷ []))) Answer.None
+    ∷ Step.Call 4 1 (Request.Log 2058 3 8589934592 ((0 ∷ []))) Answer.None
+    ∷ Step.Call 4 1 (Request.Log 2047 2 69 ((170 ∷ 170 ∷ []))) Answer.None
     ∷ Step.Call 4 1 (Request.Read 3 1099511627775) (Answer.Content ((121 ∷ []) ++ replicate 4095 1))
     ∷ Step.Call 4 1 (Request.Commit 3) Answer.None
     ∷ Step.Call 4 1 Request.Force Answer.None
@@ -47,18 +47,18 @@ list01_steps =
     ∷ Step.Call 4 1 (Request.Alloc 8256 1 false) Answer.None
     ∷ Step.Call 4 1 (Request.Commit 5) Answer.None
     ∷ Step.Call 4 1 (Request.Get 5 230) Answer.None
-    ∷ Step.Call 4 1 (Request.Log 5 230 0 (replicate 4096 6)) Answer.None
+    ∷ Step.Call 4 1 (Request.Log 0 5 230 (replicate 4096 6)) Answer.None
     ∷ Step.Call 4 1 (Request.Get 5 8589934592) Answer.None
-    ∷ Step.Call 4 1 (Request.Log 5 8589934592 0 (replicate 4096 12)) Answer.None
+    ∷ Step.Call 4 1 (Request.Log 0 5 8589934592 (replicate 4096 12)) Answer.None
     ∷ Step.Call 4 1 (Request.Commit 5) Answer.None
     ∷ Step.Call 4 1 (Request.Read 2 28) (Answer.Content ((14 ∷ []) ++ replicate 4095 0))
-    ∷ Step.Call 4 1 (Request.Log 2 28 3327 ((170 ∷ 170 ∷ 170 ∷ 0 ∷ []) ++ replicate 4 17 ++ (255 ∷ []) ++ replicate 5 0 ++ (255 ∷ 255 ∷ 17 ∷ 17 ∷ 17 ∷ []) ++ replicate 4 170 ++ replicate 4 34 ++ replicate 742 255)) Answer.None
+    ∷ Step.Call 4 1 (Request.Log 3327 2 28 ((170 ∷ 170 ∷ 170 ∷ 0 ∷ []) ++ replicate 4 17 ++ (255 ∷ []) ++ replicate 5 0 ++ (255 ∷ 255 ∷ 17 ∷ 17 ∷ 17 ∷ []) ++ replicate 4 170 ++ replicate 4 34 ++ replicate 742 255)) Answer.None
     ∷ Step.Call 4 1 (Request.Alloc 192 1 true) Answer.None
-    ∷ Step.Call 4 1 (Request.Log 2 28 1536 ((123 ∷ 222 ∷ []))) Answer.None
-    ∷ Step.Call 4 1 (Request.Log 2 28 357 (replicate 300 170)) Answer.None
+    ∷ Step.Call 4 1 (Request.Log 1536 2 28 ((123 ∷ 222 ∷ []))) Answer.None
+    ∷ Step.Call 4 1 (Request.Log 357 2 28 (replicate 300 170)) Answer.None
     ∷ Step.Call 4 1 (Request.Inval 2 28) Answer.None
     ∷ Step.Call 4 1 (Request.Read 2 1099511627775) Answer.None
-    ∷ Step.Call 4 1 (Request.Log 2 106 1408 ((34 ∷ 34 ∷ 0 ∷ 170 ∷ 170 ∷ 0 ∷ 0 ∷ []) ++ replicate 121 34)) Answer.None
+    ∷ Step.Call 4 1 (Request.Log 1408 2 106 ((34 ∷ 34 ∷ 0 ∷ 170 ∷ 170 ∷ 0 ∷ 0 ∷ []) ++ replicate 121 34)) Answer.None
     ∷ Step.Call 4 1 (Request.Alloc 63681 1 false) Answer.None
     ∷ Step.Post (name 4 1 JobKind.Flush 1)
     ∷ Step.Call 4 1 (Request.Commit 2) Answer.None
@@ -70,11 +70,11 @@ list01_steps =
     ∷ Step.Call 4 1 (Request.Alloc 5000 1 false) Answer.None
     ∷ Step.Flush 5 (name 4 1 JobKind.Flush 1) (record { count = 0; writes = (false ∷ false ∷ false ∷ false ∷ false ∷ false ∷ false ∷ false ∷ []); sync = false })
     ∷ Step.Call 4 1 (Request.Get 8 186) Answer.None
-    ∷ Step.Call 4 1 (Request.Log 8 186 1721 ((138 ∷ []))) Answer.None
+    ∷ Step.Call 4 1 (Request.Log 1721 8 186 ((138 ∷ []))) Answer.None
     ∷ Step.Call 4 1 (Request.ForceTo 1) Answer.None
     ∷ Step.Post (name 4 1 JobKind.Ckpt 2)
     ∷ Step.Call 4 1 (Request.ForceTo 2) Answer.None
-    ∷ Step.Call 4 1 (Request.Log 8 1099511627775 3181 ((0 ∷ 0 ∷ []) ++ replicate 4 34 ++ (255 ∷ 170 ∷ []) ++ replicate 292 0)) Answer.None
+    ∷ Step.Call 4 1 (Request.Log 3181 8 1099511627775 ((0 ∷ 0 ∷ []) ++ replicate 4 34 ++ (255 ∷ 170 ∷ []) ++ replicate 292 0)) Answer.None
     ∷ Step.Call 4 1 (Request.Read 7 28) Answer.None
     ∷ Step.Call 4 1 (Request.Inval 7 28) Answer.None
     ∷ Step.Call 4 1 (Request.Get 7 28) Answer.None
@@ -84,7 +84,7 @@ list01_steps =
     ∷ Step.Take 7 (name 4 1 JobKind.Ckpt 2)
     ∷ Step.Call 4 1 (Request.Get 8 28) Answer.None
     ∷ Step.Begin 7 (name 4 1 JobKind.Ckpt 2)
-    ∷ Step.Call 4 1 (Request.Log 8 186 2971 ((255 ∷ []))) Answer.None
+    ∷ Step.Call 4 1 (Request.Log 2971 8 186 ((255 ∷ []))) Answer.None
     ∷ Step.Call 4 1 (Request.Hold 8 186) Answer.None
     ∷ Step.Call 4 1 (Request.Cancel 8) Answer.None
     ∷ Step.Call 4 1 (Request.Alloc 65489 1 false) Answer.None
@@ -106,15 +106,15 @@ list01_steps =
     ∷ Step.Call 4 1 (Request.Alloc 5000 1 false) Answer.None
     ∷ Step.Call 4 1 (Request.Get 10 1099511627775) Answer.None
     ∷ Step.Call 4 1 (Request.Hold 10 1099511627775) Answer.None
-    ∷ Step.Call 4 1 (Request.Log 10 1099511627775 1424 ((170 ∷ 170 ∷ []))) Answer.None
-    ∷ Step.Call 4 1 (Request.Log 10 106 1854 ((0 ∷ []))) Answer.None
+    ∷ Step.Call 4 1 (Request.Log 1424 10 1099511627775 ((170 ∷ 170 ∷ []))) Answer.None
+    ∷ Step.Call 4 1 (Request.Log 1854 10 106 ((0 ∷ []))) Answer.None
     ∷ Step.Call 4 1 (Request.Commit 10) Answer.None
     ∷ Step.Call 4 1 (Request.Get 11 1099511627775) Answer.None
     ∷ Step.Call 4 1 (Request.Read 11 28) (Answer.Content (replicate 4096 119))
     ∷ Step.Call 4 1 (Request.Join 11 1099511627775) Answer.None
     ∷ Step.Call 4 1 (Request.View 11 1099511627775) Answer.None
     ∷ Step.Call 4 1 (Request.Hold 11 1099511627775) Answer.None
-    ∷ Step.Call 4 1 (Request.Log 11 1099511627775 2176 (replicate 129 17)) Answer.None
+    ∷ Step.Call 4 1 (Request.Log 2176 11 1099511627775 (replicate 129 17)) Answer.None
     ∷ Step.Call 4 1 (Request.Release 186) Answer.None
     ∷ Step.Call 4 1 (Request.Roll 11) Answer.None
     ∷ Step.Call 4 1 (Request.Release 1099511627775) Answer.None
@@ -137,19 +137,19 @@ list01_said =
     told 4 (Reply.Life 1)
     ∷ told 4 (Reply.Refused Errno.Invalid)
     ∷ told 4 (Reply.Trans 1)
-    ∷ told 4 (Reply.Committed 0 None)
+    ∷ told 4 (Reply.Committed 0)
     ∷ told 4 (Reply.Trans 2)
     ∷ told 4 (Reply.Trans 3)
     ∷ told 4 (Reply.Refused Errno.Invalid)
     ∷ told 4 (Reply.Refused Errno.Invalid)
     ∷ told 4 Reply.Okay
-    ∷ told 4 (Reply.Committed 0 None)
+    ∷ told 4 (Reply.Committed 0)
     ∷ told 4 Reply.Done
     ∷ told 4 (Reply.Trans 4)
-    ∷ told 4 (Reply.Committed 0 None)
-    ∷ told 4 (Reply.Committed 0 None)
+    ∷ told 4 (Reply.Committed 0)
+    ∷ told 4 (Reply.Committed 0)
     ∷ told 4 (Reply.Trans 5)
-    ∷ told 4 (Reply.Committed 0 None)
+    ∷ told 4 (Reply.Committed 0)
     ∷ told 4 (Reply.Refused Errno.Invalid)
     ∷ told 4 (Reply.Refused Errno.Invalid)
     ∷ told 4 (Reply.Refused Errno.Invalid)
@@ -165,10 +165,10 @@ list01_said =
     ∷ told 4 (Reply.Refused Errno.Invalid)
     ∷ told 4 (Reply.Refused Errno.Again)
     ∷ told 4 Reply.Okay
-    ∷ told 4 (Reply.Committed 1 None)
+    ∷ told 4 (Reply.Committed 1)
     ∷ told 4 Reply.Okay
     ∷ told 4 (Reply.Refused Errno.Invalid)
-    ∷ told 4 (Reply.Committed 0 None)
+    ∷ told 4 (Reply.Committed 0)
     ∷ told 4 (Reply.Trans 7)
     ∷ told 4 Reply.Okay
     ∷ told 4 (Reply.Trans 8)
@@ -184,7 +184,7 @@ list01_said =
     ∷ told 4 (Reply.Refused Errno.Again)
     ∷ told 4 (Reply.Refused Errno.Invalid)
     ∷ told 4 (Reply.Refused Errno.Invalid)
-    ∷ told 4 (Reply.Committed 0 None)
+    ∷ told 4 (Reply.Committed 0)
     ∷ told 4 Reply.Okay
     ∷ told 4 (Reply.Refused Errno.Again)
     ∷ told 4 (Reply.Begun 1 1)
@@ -204,7 +204,7 @@ list01_said =
     ∷ told 4 Reply.Okay
     ∷ told 4 (Reply.Refused Errno.Invalid)
     ∷ told 4 (Reply.Refused Errno.Invalid)
-    ∷ told 4 (Reply.Committed 2 None)
+    ∷ told 4 (Reply.Committed 2)
     ∷ told 4 (Reply.Refused Errno.Invalid)
     ∷ told 4 (Reply.Trans 10)
     ∷ told 4 (Reply.Trans 11)
@@ -212,7 +212,7 @@ list01_said =
     ∷ told 4 Reply.Okay
     ∷ told 4 Reply.Okay
     ∷ told 4 (Reply.Refused Errno.Invalid)
-    ∷ told 4 (Reply.Committed 2 (Some (1099511627775 ∷ [])))
+    ∷ told 4 (Reply.CommittedHeld 2 (1099511627775 ∷ []))
     ∷ told 4 (Reply.Refused Errno.Again)
     ∷ told 4 Reply.Okay
     ∷ told 4 Reply.Okay
@@ -258,36 +258,36 @@ list02_steps =
     ∷ Step.Call 12 1 (Request.ForceTo 1) Answer.None
     ∷ Step.Call 12 1 (Request.Alloc 2192 1 false) Answer.None
     ∷ Step.Call 12 1 (Request.Read 4 162) (Answer.Content (replicate 4096 85))
-    ∷ Step.Call 12 1 (Request.Log 4 162 45 ((0 ∷ 0 ∷ 0 ∷ []))) Answer.None
+    ∷ Step.Call 12 1 (Request.Log 45 4 162 ((0 ∷ 0 ∷ 0 ∷ []))) Answer.None
     ∷ Step.Call 12 1 (Request.Read 4 50) (Answer.Content (replicate 4096 68))
-    ∷ Step.Call 12 1 (Request.Log 4 50 99 ((170 ∷ 170 ∷ 170 ∷ []))) Answer.None
+    ∷ Step.Call 12 1 (Request.Log 99 4 50 ((170 ∷ 170 ∷ 170 ∷ []))) Answer.None
     ∷ Step.Call 12 1 (Request.Read 4 176) (Answer.Content (replicate 4096 51))
-    ∷ Step.Call 12 1 (Request.Log 4 176 33 ((170 ∷ 170 ∷ 170 ∷ []))) Answer.None
+    ∷ Step.Call 12 1 (Request.Log 33 4 176 ((170 ∷ 170 ∷ 170 ∷ []))) Answer.None
     ∷ Step.Call 12 1 (Request.Read 4 187) (Answer.Content (replicate 4096 0))
-    ∷ Step.Call 12 1 (Request.Log 4 187 40 ((134 ∷ 110 ∷ 51 ∷ []))) Answer.None
+    ∷ Step.Call 12 1 (Request.Log 40 4 187 ((134 ∷ 110 ∷ 51 ∷ []))) Answer.None
     ∷ Step.Call 12 1 (Request.Read 4 85) (Answer.Content (replicate 4096 68))
-    ∷ Step.Call 12 1 (Request.Log 4 85 63 ((133 ∷ 205 ∷ 114 ∷ []))) Answer.None
+    ∷ Step.Call 12 1 (Request.Log 63 4 85 ((133 ∷ 205 ∷ 114 ∷ []))) Answer.None
     ∷ Step.Call 12 1 (Request.Read 4 55) (Answer.Content ((17 ∷ 34 ∷ []) ++ replicate 4094 1))
-    ∷ Step.Call 12 1 (Request.Log 4 55 17 ((0 ∷ 0 ∷ 0 ∷ []))) Answer.None
+    ∷ Step.Call 12 1 (Request.Log 17 4 55 ((0 ∷ 0 ∷ 0 ∷ []))) Answer.None
     ∷ Step.Call 12 1 (Request.Read 4 307) (Answer.Content (replicate 4096 102))
-    ∷ Step.Call 12 1 (Request.Log 4 307 89 ((127 ∷ 99 ∷ 42 ∷ []))) Answer.None
+    ∷ Step.Call 12 1 (Request.Log 89 4 307 ((127 ∷ 99 ∷ 42 ∷ []))) Answer.None
     ∷ Step.Call 12 1 (Request.Read 4 332) (Answer.Content (replicate 4096 0))
-    ∷ Step.Call 12 1 (Request.Log 4 332 79 ((216 ∷ 136 ∷ 225 ∷ []))) Answer.None
+    ∷ Step.Call 12 1 (Request.Log 79 4 332 ((216 ∷ 136 ∷ 225 ∷ []))) Answer.None
     ∷ Step.Call 12 1 (Request.Read 4 356) (Answer.Content (replicate 4096 51))
-    ∷ Step.Call 12 1 (Request.Log 4 356 32 ((192 ∷ 233 ∷ 56 ∷ []))) Answer.None
+    ∷ Step.Call 12 1 (Request.Log 32 4 356 ((192 ∷ 233 ∷ 56 ∷ []))) Answer.None
     ∷ Step.Call 12 1 (Request.Read 4 336) (Answer.Content ((187 ∷ 63 ∷ []) ++ replicate 4094 1))
-    ∷ Step.Call 12 1 (Request.Log 4 336 16 ((34 ∷ 34 ∷ 34 ∷ []))) Answer.None
+    ∷ Step.Call 12 1 (Request.Log 16 4 336 ((34 ∷ 34 ∷ 34 ∷ []))) Answer.None
     ∷ Step.Call 12 1 (Request.Read 4 135) (Answer.Content ((34 ∷ 255 ∷ []) ++ replicate 4094 1))
-    ∷ Step.Call 12 1 (Request.Log 4 135 45 ((34 ∷ 34 ∷ 34 ∷ []))) Answer.None
+    ∷ Step.Call 12 1 (Request.Log 45 4 135 ((34 ∷ 34 ∷ 34 ∷ []))) Answer.None
     ∷ Step.Call 12 1 (Request.Read 4 341) (Answer.Content ((70 ∷ []) ++ replicate 4095 238))
-    ∷ Step.Call 12 1 (Request.Log 4 341 69 ((34 ∷ 34 ∷ 34 ∷ []))) Answer.None
+    ∷ Step.Call 12 1 (Request.Log 69 4 341 ((34 ∷ 34 ∷ 34 ∷ []))) Answer.None
     ∷ Step.Call 12 1 (Request.Commit 4) Answer.None
     ∷ Step.Call 12 1 Request.Force Answer.None
     ∷ Step.Post (name 12 1 JobKind.Ckpt 1)
     ∷ Step.Call 12 1 Request.Push Answer.None
     ∷ Step.Call 12 1 (Request.Alloc 12289 8 true) Answer.None
     ∷ Step.Call 12 1 (Request.Alloc 479 1 false) Answer.None
-    ∷ Step.Call 12 1 (Request.Log 3 207 1664 ((255 ∷ 255 ∷ 255 ∷ 17 ∷ 17 ∷ 0 ∷ 0 ∷ 0 ∷ 17 ∷ 17 ∷ 0 ∷ 0 ∷ 0 ∷ 17 ∷ 17 ∷ 17 ∷ []) ++ replicate 2416 0)) Answer.None
+    ∷ Step.Call 12 1 (Request.Log 1664 3 207 ((255 ∷ 255 ∷ 255 ∷ 17 ∷ 17 ∷ 0 ∷ 0 ∷ 0 ∷ 17 ∷ 17 ∷ 0 ∷ 0 ∷ 0 ∷ 17 ∷ 17 ∷ 17 ∷ []) ++ replicate 2416 0)) Answer.None
     ∷ Step.Call 12 1 (Request.Hold 3 207) Answer.None
     ∷ Step.Post (name 12 1 JobKind.Flush 2)
     ∷ Step.Take 2 (name 12 1 JobKind.Ckpt 1)
@@ -304,7 +304,7 @@ list02_steps =
     ∷ Step.Flush 7 (name 12 1 JobKind.Flush 2) (record { count = 8; writes = (false ∷ true ∷ true ∷ true ∷ false ∷ false ∷ false ∷ true ∷ []); sync = false })
     ∷ Step.Call 12 1 (Request.Alloc 5000 1 true) Answer.None
     ∷ Step.Call 12 1 (Request.Read 2 135) Answer.None
-    ∷ Step.Call 12 1 (Request.Log 2 135 1964 (replicate 300 0)) Answer.None
+    ∷ Step.Call 12 1 (Request.Log 1964 2 135 (replicate 300 0)) Answer.None
     ∷ Step.Call 12 1 (Request.Hold 2 135) Answer.None
     ∷ Step.Call 12 1 (Request.View 3 176) Answer.None
     ∷ Step.Call 12 1 (Request.Read 2 55) Answer.None
@@ -320,16 +320,16 @@ list02_steps =
     ∷ Step.Show 12
     ∷ Step.Call 12 1 (Request.Alloc 352 1 false) Answer.None
     ∷ Step.Call 12 1 (Request.Commit 3) Answer.None
-    ∷ Step.Call 12 1 (Request.Log 8 162 2047 ((181 ∷ []))) Answer.None
-    ∷ Step.Call 12 1 (Request.Log 7 213 768 ((197 ∷ []))) Answer.None
+    ∷ Step.Call 12 1 (Request.Log 2047 8 162 ((181 ∷ []))) Answer.None
+    ∷ Step.Call 12 1 (Request.Log 768 7 213 ((197 ∷ []))) Answer.None
     ∷ Step.Call 12 1 (Request.Alloc 5000 8 true) Answer.None
     ∷ Step.Call 12 1 (Request.View 7 213) Answer.None
-    ∷ Step.Call 12 1 (Request.Log 1 120 3072 ((34 ∷ 34 ∷ []))) Answer.None
+    ∷ Step.Call 12 1 (Request.Log 3072 1 120 ((34 ∷ 34 ∷ []))) Answer.None
     ∷ Step.Call 12 1 (Request.Read 1 182) (Answer.Content ((90 ∷ 182 ∷ []) ++ replicate 4094 0))
     ∷ Step.Call 12 1 (Request.Hold 7 213) Answer.None
-    ∷ Step.Call 12 1 (Request.Log 7 213 1217 (replicate 4 170 ++ replicate 125 0)) Answer.None
+    ∷ Step.Call 12 1 (Request.Log 1217 7 213 (replicate 4 170 ++ replicate 125 0)) Answer.None
     ∷ Step.Call 12 1 (Request.Get 1 182) Answer.None
-    ∷ Step.Call 12 1 (Request.Log 1 182 2828 ((51 ∷ 232 ∷ []))) Answer.None
+    ∷ Step.Call 12 1 (Request.Log 2828 1 182 ((51 ∷ 232 ∷ []))) Answer.None
     ∷ Step.Call 12 1 (Request.Hold 1 182) Answer.None
     ∷ Step.Call 12 1 (Request.Inval 1 182) Answer.None
     ∷ Step.Call 12 1 (Request.Get 1 182) Answer.None
@@ -342,8 +342,8 @@ list02_steps =
     ∷ Step.Call 12 1 (Request.Alloc 5000 1 true) Answer.None
     ∷ Step.Post (name 12 1 JobKind.Flush 3)
     ∷ Step.Call 12 1 (Request.Commit 7) Answer.None
-    ∷ Step.Call 12 1 (Request.Log 9 8 512 (replicate 129 17)) Answer.None
-    ∷ Step.Call 12 1 (Request.Log 9 8 2431 ((0 ∷ []) ++ replicate 4 170 ++ replicate 7 255 ++ (17 ∷ 17 ∷ 17 ∷ []) ++ replicate 5 34 ++ replicate 5 17 ++ replicate 4 34 ++ replicate 5 17 ++ (34 ∷ 34 ∷ 34 ∷ []) ++ replicate 4 0 ++ replicate 5 34 ++ (170 ∷ 255 ∷ 0 ∷ 0 ∷ 0 ∷ []) ++ replicate 1614 17)) Answer.None
+    ∷ Step.Call 12 1 (Request.Log 512 9 8 (replicate 129 17)) Answer.None
+    ∷ Step.Call 12 1 (Request.Log 2431 9 8 ((0 ∷ []) ++ replicate 4 170 ++ replicate 7 255 ++ (17 ∷ 17 ∷ 17 ∷ []) ++ replicate 5 34 ++ replicate 5 17 ++ replicate 4 34 ++ replicate 5 17 ++ (34 ∷ 34 ∷ 34 ∷ []) ++ replicate 4 0 ++ replicate 5 34 ++ (170 ∷ 255 ∷ 0 ∷ 0 ∷ 0 ∷ []) ++ replicate 1614 17)) Answer.None
     ∷ Step.Show 12
     ∷ Step.Take 1 (name 12 1 JobKind.Flush 3)
     ∷ Step.Flush 1 (name 12 1 JobKind.Flush 3) (record { count = 8; writes = (true ∷ true ∷ true ∷ true ∷ false ∷ true ∷ true ∷ true ∷ []); sync = true })
@@ -385,7 +385,7 @@ list02_said =
     ∷ told 12 Reply.Okay
     ∷ told 12 Reply.Okay
     ∷ told 12 Reply.Okay
-    ∷ told 12 (Reply.Committed 1 None)
+    ∷ told 12 (Reply.Committed 1)
     ∷ told 12 (Reply.Wait 1)
     ∷ told 12 Reply.Okay
     ∷ told 12 Reply.Okay
@@ -416,14 +416,14 @@ list02_said =
     ∷ told 12 Reply.Okay
     ∷ told 12 Reply.Okay
     ∷ told 12 (Reply.Data (replicate 4096 0))
-    ∷ told 12 (Reply.Committed 2 (Some (135 ∷ [])))
+    ∷ told 12 (Reply.CommittedHeld 2 (135 ∷ []))
     ∷ told 12 (Reply.Refused Errno.Again)
     ∷ told 12 Reply.Okay
     ∷ told 12 Reply.Okay
     ∷ told 12 Reply.Okay
     ∷ told 12 Reply.Okay
     ∷ told 12 (Reply.Trans 8)
-    ∷ told 12 (Reply.Committed 2 (Some (207 ∷ [])))
+    ∷ told 12 (Reply.CommittedHeld 2 (207 ∷ []))
     ∷ told 12 (Reply.Refused Errno.Invalid)
     ∷ told 12 Reply.Okay
     ∷ told 12 (Reply.Trans 9)
@@ -439,13 +439,13 @@ list02_said =
     ∷ told 12 Reply.Okay
     ∷ told 12 Reply.Kept
     ∷ told 12 (Reply.Data (replicate 4096 0))
-    ∷ told 12 (Reply.Committed 2 (Some (120 ∷ [])))
+    ∷ told 12 (Reply.CommittedHeld 2 (120 ∷ []))
     ∷ told 12 (Reply.Refused Errno.Again)
     ∷ told 12 Reply.Okay
     ∷ told 12 Reply.Okay
     ∷ told 12 (Reply.Trans 10)
     ∷ told 12 Reply.Okay
-    ∷ told 12 (Reply.Committed 2 (Some (213 ∷ [])))
+    ∷ told 12 (Reply.CommittedHeld 2 (213 ∷ []))
     ∷ told 12 Reply.Okay
     ∷ told 12 Reply.Okay
     ∷ told 12 Reply.Okay
@@ -480,21 +480,21 @@ list03_steps =
     ∷ Step.Call 11 1 (Request.Release 120) Answer.None
     ∷ Step.Call 11 1 (Request.Alloc 180 1 true) Answer.None
     ∷ Step.Call 11 1 (Request.Get 4 230) Answer.None
-    ∷ Step.Call 11 1 (Request.Log 4 230 0 (replicate 4096 68)) Answer.None
+    ∷ Step.Call 11 1 (Request.Log 0 4 230 (replicate 4096 68)) Answer.None
     ∷ Step.Call 11 1 (Request.Roll 4) Answer.None
     ∷ Step.Call 11 1 (Request.Read 4 128) (Answer.Content (replicate 4096 85))
-    ∷ Step.Call 11 1 (Request.Log 4 128 3623 (replicate 127 0)) Answer.None
+    ∷ Step.Call 11 1 (Request.Log 3623 4 128 (replicate 127 0)) Answer.None
     ∷ Step.Call 11 1 (Request.Roll 4) Answer.None
     ∷ Step.Call 11 1 (Request.Read 4 248) (Answer.Content ((170 ∷ []) ++ replicate 4095 238))
     ∷ Step.Call 11 1 (Request.Relse 1 202) Answer.None
-    ∷ Step.Call 11 1 (Request.Log 4 248 3327 ((34 ∷ []))) Answer.None
+    ∷ Step.Call 11 1 (Request.Log 3327 4 248 ((34 ∷ []))) Answer.None
     ∷ Step.Call 11 1 (Request.Roll 4) Answer.None
     ∷ Step.Call 11 1 (Request.Get 4 202) Answer.None
-    ∷ Step.Call 11 1 (Request.Log 4 202 895 (replicate 127 255)) Answer.None
+    ∷ Step.Call 11 1 (Request.Log 895 4 202 (replicate 127 255)) Answer.None
     ∷ Step.Call 11 1 (Request.View 4 202) Answer.None
     ∷ Step.Call 11 1 (Request.Roll 4) Answer.None
     ∷ Step.Call 11 1 (Request.Read 4 250) (Answer.Content (replicate 5 255 ++ replicate 295 34 ++ replicate 3796 0))
-    ∷ Step.Call 11 1 (Request.Log 4 250 2559 ((253 ∷ 214 ∷ 108 ∷ 221 ∷ []))) Answer.None
+    ∷ Step.Call 11 1 (Request.Log 2559 4 250 ((253 ∷ 214 ∷ 108 ∷ 221 ∷ []))) Answer.None
     ∷ Step.Call 11 1 (Request.Inval 4 250) Answer.None
     ∷ Step.Call 11 1 (Request.Hold 4 250) Answer.None
     ∷ Step.Call 11 1 (Request.Roll 4) Answer.None
@@ -502,24 +502,24 @@ list03_steps =
     ∷ Step.Call 11 1 (Request.Inval 3 128) Answer.None
     ∷ Step.Call 11 1 (Request.Commit 4) Answer.None
     ∷ Step.Call 11 1 (Request.Alloc 2000 2 true) Answer.None
-    ∷ Step.Call 11 1 (Request.Log 3 128 0 ((132 ∷ 25 ∷ []) ++ replicate 4094 238)) Answer.None
+    ∷ Step.Call 11 1 (Request.Log 0 3 128 ((132 ∷ 25 ∷ []) ++ replicate 4094 238)) Answer.None
     ∷ Step.Call 11 1 (Request.Read 5 230) (Answer.Content ((19 ∷ 95 ∷ 8 ∷ 171 ∷ 229 ∷ []) ++ replicate 4091 238))
     ∷ Step.Call 11 1 (Request.Hold 5 230) Answer.None
-    ∷ Step.Call 11 1 (Request.Log 3 128 1919 ((130 ∷ 71 ∷ []))) Answer.None
+    ∷ Step.Call 11 1 (Request.Log 1919 3 128 ((130 ∷ 71 ∷ []))) Answer.None
     ∷ Step.Call 11 1 (Request.Commit 3) Answer.None
     ∷ Step.Call 11 1 (Request.Alloc 8256 1 false) Answer.None
     ∷ Step.Call 11 1 (Request.Get 6 18) Answer.None
-    ∷ Step.Call 11 1 (Request.Log 6 18 0 (replicate 4096 139)) Answer.None
+    ∷ Step.Call 11 1 (Request.Log 0 6 18 (replicate 4096 139)) Answer.None
     ∷ Step.Call 11 1 (Request.Get 6 128) Answer.None
-    ∷ Step.Call 11 1 (Request.Log 6 128 0 (replicate 4096 221)) Answer.None
+    ∷ Step.Call 11 1 (Request.Log 0 6 128 (replicate 4096 221)) Answer.None
     ∷ Step.Call 11 1 (Request.Commit 6) Answer.None
     ∷ Step.Post (name 11 1 JobKind.Ckpt 1)
-    ∷ Step.Call 11 1 (Request.Log 5 230 3178 (replicate 17 0 ++ replicate 110 17)) Answer.None
+    ∷ Step.Call 11 1 (Request.Log 3178 5 230 (replicate 17 0 ++ replicate 110 17)) Answer.None
     ∷ Step.Call 11 1 (Request.Inval 5 230) Answer.None
     ∷ Step.Call 11 1 (Request.Alloc 600 1 false) Answer.None
     ∷ Step.Call 11 1 (Request.Read 7 242) (Answer.Content (replicate 4096 119))
     ∷ Step.Take 0 (name 11 1 JobKind.Ckpt 1)
-    ∷ Step.Call 11 1 (Request.Log 7 242 0 (replicate 4096 90)) Answer.None
+    ∷ Step.Call 11 1 (Request.Log 0 7 242 (replicate 4096 90)) Answer.None
     ∷ Step.Call 11 1 (Request.Commit 7) Answer.None
     ∷ Step.Call 11 1 Request.Force Answer.None
     ∷ Step.Call 11 1 Request.Push Answer.None
@@ -543,15 +543,15 @@ list03_steps =
     ∷ Step.Take 6 (name 11 1 JobKind.Flush 3)
     ∷ Step.Call 11 1 (Request.Unhold 8 248) Answer.None
     ∷ Step.Call 11 1 (Request.Alloc 600 1 false) Answer.None
-    ∷ Step.Call 11 1 (Request.Log 11 128 0 (replicate 4096 102)) Answer.None
+    ∷ Step.Call 11 1 (Request.Log 0 11 128 (replicate 4096 102)) Answer.None
     ∷ Step.Call 11 1 (Request.Read 11 128) Answer.None
     ∷ Step.Flush 6 (name 11 1 JobKind.Flush 3) (record { count = 0; writes = (false ∷ false ∷ false ∷ false ∷ false ∷ false ∷ false ∷ false ∷ []); sync = false })
-    ∷ Step.Call 11 1 (Request.Log 11 128 0 (replicate 4096 90)) Answer.None
+    ∷ Step.Call 11 1 (Request.Log 0 11 128 (replicate 4096 90)) Answer.None
     ∷ Step.Call 11 1 (Request.Commit 11) Answer.None
     ∷ Step.Call 11 1 Request.Force Answer.None
     ∷ Step.Call 11 1 Request.Push Answer.None
     ∷ Step.Call 11 1 (Request.Read 10 88) (Answer.Content (replicate 4096 119))
-    ∷ Step.Call 11 1 (Request.Log 10 88 3963 (replicate 133 34)) Answer.None
+    ∷ Step.Call 11 1 (Request.Log 3963 10 88 (replicate 133 34)) Answer.None
     ∷ Step.Post (name 11 1 JobKind.Flush 4)
     ∷ Step.Take 5 (name 11 1 JobKind.Flush 4)
     ∷ Step.Call 11 1 Request.Unmount Answer.None
@@ -577,7 +577,7 @@ list03_said =
     ∷ told 11 (Reply.Data (replicate 4096 0))
     ∷ told 11 Reply.Okay
     ∷ told 11 Reply.Kept
-    ∷ told 11 (Reply.Committed 1 None)
+    ∷ told 11 (Reply.Committed 1)
     ∷ told 11 Reply.Okay
     ∷ told 11 (Reply.Refused Errno.Again)
     ∷ told 11 (Reply.Trans 3)
@@ -585,38 +585,38 @@ list03_said =
     ∷ told 11 (Reply.Trans 4)
     ∷ told 11 Reply.Okay
     ∷ told 11 (Reply.Refused Errno.NoSpace)
-    ∷ told 11 (Reply.Committed 0 None)
+    ∷ told 11 (Reply.Committed 0)
     ∷ told 11 Reply.Okay
     ∷ told 11 (Reply.Refused Errno.NoSpace)
-    ∷ told 11 (Reply.Committed 0 None)
+    ∷ told 11 (Reply.Committed 0)
     ∷ told 11 Reply.Okay
     ∷ told 11 Reply.Free
     ∷ told 11 Reply.Okay
-    ∷ told 11 (Reply.Committed 1 None)
+    ∷ told 11 (Reply.Committed 1)
     ∷ told 11 Reply.Okay
     ∷ told 11 (Reply.Refused Errno.NoSpace)
     ∷ told 11 (Reply.Data (replicate 4096 102))
-    ∷ told 11 (Reply.Committed 0 None)
+    ∷ told 11 (Reply.Committed 0)
     ∷ told 11 Reply.Okay
     ∷ told 11 (Reply.Refused Errno.NoSpace)
     ∷ told 11 Reply.Okay
     ∷ told 11 (Reply.Refused Errno.Invalid)
-    ∷ told 11 (Reply.Committed 1 None)
+    ∷ told 11 (Reply.Committed 1)
     ∷ told 11 Reply.Okay
     ∷ told 11 Reply.Okay
-    ∷ told 11 (Reply.Committed 0 None)
+    ∷ told 11 (Reply.Committed 0)
     ∷ told 11 (Reply.Trans 5)
     ∷ told 11 Reply.Okay
     ∷ told 11 Reply.Okay
     ∷ told 11 Reply.Okay
     ∷ told 11 Reply.Okay
-    ∷ told 11 (Reply.Committed 1 None)
+    ∷ told 11 (Reply.Committed 1)
     ∷ told 11 (Reply.Trans 6)
     ∷ told 11 Reply.Okay
     ∷ told 11 Reply.Okay
     ∷ told 11 Reply.Okay
     ∷ told 11 Reply.Okay
-    ∷ told 11 (Reply.Committed 1 None)
+    ∷ told 11 (Reply.Committed 1)
     ∷ told 11 Reply.Okay
     ∷ told 11 Reply.Okay
     ∷ told 11 Reply.Okay
@@ -624,7 +624,7 @@ list03_said =
     ∷ told 11 Reply.Okay
     ∷ told 11 Reply.Okay
     ∷ told 11 (Reply.Refused Errno.NoSpace)
-    ∷ told 11 (Reply.Committed 0 None)
+    ∷ told 11 (Reply.Committed 0)
     ∷ told 11 (Reply.Wait 1)
     ∷ told 11 Reply.Okay
     ∷ told 11 Reply.Okay
@@ -632,9 +632,9 @@ list03_said =
     ∷ told 11 (Reply.Refused Errno.Invalid)
     ∷ told 11 Reply.Okay
     ∷ told 11 (Reply.Trans 8)
-    ∷ told 11 (Reply.Committed 1 None)
+    ∷ told 11 (Reply.Committed 1)
     ∷ told 11 (Reply.Refused Errno.Again)
-    ∷ told 11 (Reply.Committed 0 None)
+    ∷ told 11 (Reply.Committed 0)
     ∷ told 11 (Reply.Trans 9)
     ∷ told 11 Reply.Nothing
     ∷ told 11 (Reply.Refused Errno.Invalid)
@@ -651,7 +651,7 @@ list03_said =
     ∷ told 11 Reply.Okay
     ∷ told 11 Reply.Nothing
     ∷ told 11 (Reply.Refused Errno.NoSpace)
-    ∷ told 11 (Reply.Committed 0 None)
+    ∷ told 11 (Reply.Committed 0)
     ∷ told 11 (Reply.Wait 1)
     ∷ told 11 Reply.Okay
     ∷ told 11 Reply.Okay
@@ -660,7 +660,7 @@ list03_said =
     ∷ told 11 Reply.Okay
     ∷ told 11 (Reply.Refused Errno.Busy)
     ∷ told 11 (Reply.Wait 1)
-    ∷ told 11 (Reply.Committed 2 None)
+    ∷ told 11 (Reply.Committed 2)
     ∷ told 11 Reply.Okay
     ∷ told 11 Reply.Okay
     ∷ told 11 (Reply.Wait 2)

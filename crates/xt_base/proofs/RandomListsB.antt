@@ -1,6 +1,6 @@
 -- Scripts computed over the definitions: what each step of the mount alone says, and that the list is orderly.
 -- Made by tools/row-theorems from the files of rows/.
-use Rattle.std.proofs.Common.{◌≡◌, ℕ, List, [], ◌∷◌, ◌++◌, Some, None, true, false, refl}
+use Rattle.std.proofs.Common.{◌≡◌, ℕ, List, [], ◌∷◌, ◌++◌, Some, true, false, refl}
 use Rattle.std.specs.Prelude.{replicate}
 use Rattle.xt_base.specs.Alone.{Said, alone_run}
 use Rattle.xt_base.specs.Chunks.{chunks_where}
@@ -57,18 +57,18 @@ list04_steps =
     ∷ Step.Call 8 1 (Request.Relse 5 211) Answer.None
     ∷ Step.Call 8 1 (Request.Unhold 5 211) Answer.None
     ∷ Step.Call 8 1 (Request.Get 5 211) Answer.None
-    ∷ Step.Call 8 1 (Request.Log 5 211 0 ((1 ∷ 2 ∷ []))) Answer.None
-    ∷ Step.Call 8 1 (Request.Log 5 211 0 (replicate 4096 205)) Answer.None
+    ∷ Step.Call 8 1 (Request.Log 0 5 211 ((1 ∷ 2 ∷ []))) Answer.None
+    ∷ Step.Call 8 1 (Request.Log 0 5 211 (replicate 4096 205)) Answer.None
     ∷ Step.Call 8 1 (Request.View 5 211) Answer.None
     ∷ Step.Call 8 1 (Request.Commit 5) Answer.None
     ∷ Step.Call 8 1 (Request.Get 1 211) Answer.None
     ∷ Step.Call 8 1 (Request.Alloc 9000 1 false) Answer.None
-    ∷ Step.Call 8 1 (Request.Log 6 170 0 (replicate 4096 187)) Answer.None
+    ∷ Step.Call 8 1 (Request.Log 0 6 170 (replicate 4096 187)) Answer.None
     ∷ Step.Call 8 1 (Request.Read 2 184) (Answer.Content (replicate 4096 0))
-    ∷ Step.Call 8 1 (Request.Log 6 170 4095 ((161 ∷ []))) Answer.None
+    ∷ Step.Call 8 1 (Request.Log 4095 6 170 ((161 ∷ []))) Answer.None
     ∷ Step.Call 8 1 (Request.Join 6 134) Answer.None
     ∷ Step.Call 8 1 (Request.Relse 6 170) Answer.None
-    ∷ Step.Call 8 1 (Request.Log 1 204 0 (replicate 4096 1)) Answer.None
+    ∷ Step.Call 8 1 (Request.Log 0 1 204 (replicate 4096 1)) Answer.None
     ∷ Step.Call 8 1 Request.Shutdown Answer.None
     ∷ Step.Show 8
     ∷ Step.Call 8 1 (Request.Read 2 128) Answer.None
@@ -84,7 +84,7 @@ list04_steps =
     ∷ Step.Peek 8
     ∷ Step.Show 8
     ∷ Step.Call 8 1 (Request.Hold 6 250) Answer.None
-    ∷ Step.Call 8 1 (Request.Log 6 250 1630 ((17 ∷ 17 ∷ []))) Answer.None
+    ∷ Step.Call 8 1 (Request.Log 1630 6 250 ((17 ∷ 17 ∷ []))) Answer.None
     ∷ Step.Call 8 1 (Request.Commit 6) Answer.None
     ∷ Step.Show 8
     ∷ Step.Show 8
@@ -95,7 +95,7 @@ list04_steps =
     ∷ Step.Call 8 1 (Request.Commit 7) Answer.None
     ∷ Step.Call 8 1 (Request.View 2 250) Answer.None
     ∷ Step.Call 8 1 (Request.Commit 2) Answer.None
-    ∷ Step.Call 8 1 (Request.Log 2 250 383 ((0 ∷ 0 ∷ []))) Answer.None
+    ∷ Step.Call 8 1 (Request.Log 383 2 250 ((0 ∷ 0 ∷ []))) Answer.None
     ∷ Step.Call 8 1 (Request.Commit 2) Answer.None
     ∷ Step.Call 8 1 Request.Unmount Answer.None
     ∷ Step.Mount 8 98304 1024
@@ -109,7 +109,7 @@ list04_steps =
     ∷ Step.Call 8 2 (Request.Commit 2) Answer.None
     ∷ Step.Call 8 2 (Request.Alloc 600 1 false) Answer.None
     ∷ Step.Call 8 2 (Request.Read 4 208) (Answer.Content (replicate 4096 119))
-    ∷ Step.Call 8 2 (Request.Log 4 208 0 ((90 ∷ []))) Answer.None
+    ∷ Step.Call 8 2 (Request.Log 0 4 208 ((90 ∷ []))) Answer.None
     ∷ Step.Call 8 2 (Request.Read 4 62) (Answer.Content (replicate 4096 51))
     ∷ Step.Call 8 2 (Request.Commit 4) Answer.None
     ∷ Step.Call 8 2 Request.Force Answer.None
@@ -117,7 +117,7 @@ list04_steps =
     ∷ Step.Call 8 2 (Request.Roll 3) Answer.None
     ∷ Step.Call 8 2 (Request.Alloc 600 1 false) Answer.None
     ∷ Step.Call 8 2 (Request.Read 5 280) (Answer.Content (replicate 4096 51))
-    ∷ Step.Call 8 2 (Request.Log 5 280 0 ((90 ∷ []))) Answer.None
+    ∷ Step.Call 8 2 (Request.Log 0 5 280 ((90 ∷ []))) Answer.None
     ∷ Step.Call 8 2 (Request.Commit 5) Answer.None
     ∷ Step.Call 8 2 Request.Force Answer.None
     ∷ Step.Call 8 2 Request.Push Answer.None
@@ -143,7 +143,7 @@ list04_said =
     ∷ told 8 Reply.Okay
     ∷ told 8 (Reply.Trans 3)
     ∷ told 8 (Reply.Trans 4)
-    ∷ told 8 (Reply.Committed 0 None)
+    ∷ told 8 (Reply.Committed 0)
     ∷ told 8 (Reply.Refused Errno.Invalid)
     ∷ told 8 Reply.Okay
     ∷ told 8 (Reply.Trans 5)
@@ -164,7 +164,7 @@ list04_said =
     ∷ told 8 (Reply.Refused Errno.Invalid)
     ∷ told 8 (Reply.Refused Errno.NoSpace)
     ∷ told 8 (Reply.Data (replicate 4096 0))
-    ∷ told 8 (Reply.Committed 1 None)
+    ∷ told 8 (Reply.Committed 1)
     ∷ told 8 (Reply.Refused Errno.Again)
     ∷ told 8 (Reply.Trans 7)
     ∷ told 8 (Reply.Refused Errno.NoSpace)
@@ -196,9 +196,9 @@ list04_said =
     ∷ told 8 (Reply.Refused Errno.Io)
     ∷ told 8 Reply.Okay
     ∷ told 8 (Reply.Refused Errno.Invalid)
-    ∷ told 8 (Reply.Committed 0 None)
+    ∷ told 8 (Reply.Committed 0)
     ∷ told 8 (Reply.Refused Errno.Invalid)
-    ∷ told 8 (Reply.Committed 0 None)
+    ∷ told 8 (Reply.Committed 0)
     ∷ told 8 (Reply.Refused Errno.Invalid)
     ∷ told 8 (Reply.Refused Errno.Invalid)
     ∷ told 8 Reply.Okay
@@ -207,27 +207,27 @@ list04_said =
     ∷ told 8 (Reply.Refused Errno.Invalid)
     ∷ told 8 (Reply.Refused Errno.Invalid)
     ∷ told 8 (Reply.Trans 1)
-    ∷ told 8 (Reply.Committed 0 None)
+    ∷ told 8 (Reply.Committed 0)
     ∷ told 8 (Reply.Trans 2)
     ∷ told 8 (Reply.Trans 3)
-    ∷ told 8 (Reply.Committed 0 None)
+    ∷ told 8 (Reply.Committed 0)
     ∷ told 8 (Reply.Trans 4)
     ∷ told 8 Reply.Okay
     ∷ told 8 Reply.Okay
     ∷ told 8 Reply.Okay
-    ∷ told 8 (Reply.Committed 1 None)
+    ∷ told 8 (Reply.Committed 1)
     ∷ told 8 (Reply.Wait 1)
     ∷ told 8 Reply.Okay
-    ∷ told 8 (Reply.Committed 0 None)
+    ∷ told 8 (Reply.Committed 0)
     ∷ told 8 (Reply.Trans 5)
     ∷ told 8 Reply.Okay
     ∷ told 8 Reply.Okay
-    ∷ told 8 (Reply.Committed 1 None)
+    ∷ told 8 (Reply.Committed 1)
     ∷ told 8 (Reply.Wait 1)
     ∷ told 8 Reply.Okay
     ∷ told 8 Reply.Okay
     ∷ told 8 Reply.Okay
-    ∷ told 8 (Reply.Committed 0 None)
+    ∷ told 8 (Reply.Committed 0)
     ∷ told 8 (Reply.Trans 6)
     ∷ told 8 Reply.Okay
     ∷ told 8 (Reply.Trans 7)
@@ -262,29 +262,29 @@ list05_steps =
     ∷ Step.Call 14 1 (Request.Get 3 235) Answer.None
     ∷ Step.Call 14 1 Request.Force Answer.None
     ∷ Step.Call 14 1 (Request.Get 3 265) Answer.None
-    ∷ Step.Call 14 1 (Request.Log 3 265 27 ((34 ∷ 255 ∷ []))) Answer.None
+    ∷ Step.Call 14 1 (Request.Log 27 3 265 ((34 ∷ 255 ∷ []))) Answer.None
     ∷ Step.Call 14 1 (Request.Commit 3) Answer.None
     ∷ Step.Call 14 1 (Request.Get 1 265) Answer.None
-    ∷ Step.Call 14 1 (Request.Log 1 265 512 (replicate 5 255 ++ (0 ∷ 0 ∷ []) ++ replicate 293 34)) Answer.None
+    ∷ Step.Call 14 1 (Request.Log 512 1 265 (replicate 5 255 ++ (0 ∷ 0 ∷ []) ++ replicate 293 34)) Answer.None
     ∷ Step.Call 14 1 (Request.Inval 1 265) Answer.None
     ∷ Step.Call 14 1 (Request.Commit 1) Answer.None
     ∷ Step.Call 14 1 (Request.Get 1 265) Answer.None
-    ∷ Step.Call 14 1 (Request.Log 1 265 972 ((17 ∷ 17 ∷ 17 ∷ []) ++ replicate 125 34)) Answer.None
+    ∷ Step.Call 14 1 (Request.Log 972 1 265 ((17 ∷ 17 ∷ 17 ∷ []) ++ replicate 125 34)) Answer.None
     ∷ Step.Call 14 1 (Request.Commit 1) Answer.None
     ∷ Step.Call 14 1 (Request.Alloc 2000 2 true) Answer.None
     ∷ Step.Call 14 1 (Request.Alloc 4272 1 false) Answer.None
     ∷ Step.Show 14
     ∷ Step.Call 14 1 (Request.Read 5 125) Answer.None
-    ∷ Step.Call 14 1 (Request.Log 5 125 1536 (replicate 4 17)) Answer.None
+    ∷ Step.Call 14 1 (Request.Log 1536 5 125 (replicate 4 17)) Answer.None
     ∷ Step.Call 14 1 (Request.Commit 4) Answer.None
     ∷ Step.Call 14 1 (Request.Read 5 74) (Answer.Content ((154 ∷ 81 ∷ 245 ∷ 238 ∷ 205 ∷ []) ++ replicate 4091 0))
     ∷ Step.Call 14 1 (Request.Commit 5) Answer.None
     ∷ Step.Call 14 1 (Request.Alloc 8384 1 true) Answer.None
     ∷ Step.Call 14 1 (Request.Alloc 8256 1 false) Answer.None
     ∷ Step.Call 14 1 (Request.Get 7 292) Answer.None
-    ∷ Step.Call 14 1 (Request.Log 7 292 0 (replicate 4096 68)) Answer.None
+    ∷ Step.Call 14 1 (Request.Log 0 7 292 (replicate 4096 68)) Answer.None
     ∷ Step.Call 14 1 (Request.Get 7 13) Answer.None
-    ∷ Step.Call 14 1 (Request.Log 7 13 0 (replicate 4096 55)) Answer.None
+    ∷ Step.Call 14 1 (Request.Log 0 7 13 (replicate 4096 55)) Answer.None
     ∷ Step.Call 14 1 (Request.Commit 7) Answer.None
     ∷ Step.Call 14 1 (Request.Join 6 74) Answer.None
     ∷ Step.Call 14 1 (Request.Commit 6) Answer.None
@@ -296,10 +296,10 @@ list05_steps =
     ∷ Step.Call 14 1 (Request.Read 8 74) Answer.None
     ∷ Step.Call 14 1 (Request.Hold 8 74) Answer.None
     ∷ Step.Call 14 1 (Request.ForceTo 0) Answer.None
-    ∷ Step.Call 14 1 (Request.Log 8 74 2816 (replicate 4 17 ++ (170 ∷ 170 ∷ 170 ∷ 255 ∷ 255 ∷ 255 ∷ []) ++ replicate 6 0 ++ replicate 5 17 ++ (34 ∷ 34 ∷ 34 ∷ 255 ∷ 255 ∷ 255 ∷ []) ++ replicate 4 34 ++ replicate 5 17 ++ replicate 5 34 ++ (170 ∷ 170 ∷ 170 ∷ []) ++ replicate 4 34 ++ (255 ∷ 255 ∷ 255 ∷ 34 ∷ []) ++ replicate 248 0)) Answer.None
-    ∷ Step.Call 14 1 (Request.Log 8 74 1279 (replicate 7 0 ++ replicate 4 34 ++ replicate 4 255 ++ (170 ∷ 170 ∷ []) ++ replicate 15 34 ++ replicate 2785 0)) Answer.None
+    ∷ Step.Call 14 1 (Request.Log 2816 8 74 (replicate 4 17 ++ (170 ∷ 170 ∷ 170 ∷ 255 ∷ 255 ∷ 255 ∷ []) ++ replicate 6 0 ++ replicate 5 17 ++ (34 ∷ 34 ∷ 34 ∷ 255 ∷ 255 ∷ 255 ∷ []) ++ replicate 4 34 ++ replicate 5 17 ++ replicate 5 34 ++ (170 ∷ 170 ∷ 170 ∷ []) ++ replicate 4 34 ++ (255 ∷ 255 ∷ 255 ∷ 34 ∷ []) ++ replicate 248 0)) Answer.None
+    ∷ Step.Call 14 1 (Request.Log 1279 8 74 (replicate 7 0 ++ replicate 4 34 ++ replicate 4 255 ++ (170 ∷ 170 ∷ []) ++ replicate 15 34 ++ replicate 2785 0)) Answer.None
     ∷ Step.Call 14 1 (Request.Get 9 125) Answer.None
-    ∷ Step.Call 14 1 (Request.Log 9 125 2792 ((33 ∷ 0 ∷ []))) Answer.None
+    ∷ Step.Call 14 1 (Request.Log 2792 9 125 ((33 ∷ 0 ∷ []))) Answer.None
     ∷ Step.Call 14 1 (Request.Inval 9 125) Answer.None
     ∷ Step.Call 14 1 (Request.Unhold 9 125) Answer.None
     ∷ Step.Call 14 1 (Request.Inval 9 125) Answer.None
@@ -315,20 +315,20 @@ list05_steps =
     ∷ Step.Call 14 1 (Request.Alloc 20592 1 false) Answer.None
     ∷ Step.End 2 (name 14 1 JobKind.Ckpt 1) (record { taken = 3; sync = Some true })
     ∷ Step.Call 14 1 (Request.Get 11 126) Answer.None
-    ∷ Step.Call 14 1 (Request.Log 11 126 0 (replicate 4096 95)) Answer.None
+    ∷ Step.Call 14 1 (Request.Log 0 11 126 (replicate 4096 95)) Answer.None
     ∷ Step.Call 14 1 (Request.Get 11 1099511627775) Answer.None
-    ∷ Step.Call 14 1 (Request.Log 11 1099511627775 0 (replicate 4096 144)) Answer.None
+    ∷ Step.Call 14 1 (Request.Log 0 11 1099511627775 (replicate 4096 144)) Answer.None
     ∷ Step.Call 14 1 (Request.Get 11 172) Answer.None
     ∷ Step.Call 14 1 Request.Push Answer.None
     ∷ Step.Post (name 14 1 JobKind.Flush 2)
     ∷ Step.Take 3 (name 14 1 JobKind.Flush 2)
     ∷ Step.Flush 3 (name 14 1 JobKind.Flush 2) (record { count = 2; writes = (true ∷ true ∷ false ∷ false ∷ false ∷ false ∷ false ∷ false ∷ []); sync = true })
-    ∷ Step.Call 14 1 (Request.Log 11 172 0 (replicate 4096 102)) Answer.None
+    ∷ Step.Call 14 1 (Request.Log 0 11 172 (replicate 4096 102)) Answer.None
     ∷ Step.Call 14 1 (Request.Get 11 292) Answer.None
-    ∷ Step.Call 14 1 (Request.Log 11 292 0 (replicate 4096 44)) Answer.None
-    ∷ Step.Call 14 1 (Request.Log 11 126 877 ((89 ∷ []))) Answer.None
+    ∷ Step.Call 14 1 (Request.Log 0 11 292 (replicate 4096 44)) Answer.None
+    ∷ Step.Call 14 1 (Request.Log 877 11 126 ((89 ∷ []))) Answer.None
     ∷ Step.Call 14 1 (Request.Get 11 13) Answer.None
-    ∷ Step.Call 14 1 (Request.Log 11 13 0 (replicate 4096 233)) Answer.None
+    ∷ Step.Call 14 1 (Request.Log 0 11 13 (replicate 4096 233)) Answer.None
     ∷ Step.Call 14 1 (Request.Commit 11) Answer.None
     ∷ Step.Call 14 1 (Request.Alloc 4294967295 4294967295 true) Answer.None
     ∷ Step.Call 14 1 (Request.Alloc 12496 2 true) Answer.None
@@ -340,7 +340,7 @@ list05_steps =
     ∷ Step.Begin 7 (name 14 1 JobKind.Ckpt 3)
     ∷ Step.End 7 (name 14 1 JobKind.Ckpt 3) (record { taken = 6; sync = Some false })
     ∷ Step.Show 14
-    ∷ Step.Call 14 1 (Request.Log 12 8589934592 0 (replicate 4096 187)) Answer.None
+    ∷ Step.Call 14 1 (Request.Log 0 12 8589934592 (replicate 4096 187)) Answer.None
     ∷ Step.Call 14 1 (Request.Relse 12 8589934592) Answer.None
     ∷ Step.Call 14 1 (Request.Relse 12 8589934592) Answer.None
     ∷ Step.Peek 14
@@ -359,7 +359,7 @@ list05_said =
     ∷ told 14 (Reply.Trans 2)
     ∷ told 14 Reply.Free
     ∷ told 14 Reply.Okay
-    ∷ told 14 (Reply.Committed 0 None)
+    ∷ told 14 (Reply.Committed 0)
     ∷ told 14 (Reply.Trans 3)
     ∷ told 14 Reply.Free
     ∷ told 14 (Reply.Refused Errno.Io)
@@ -367,11 +367,11 @@ list05_said =
     ∷ told 14 Reply.Done
     ∷ told 14 Reply.Okay
     ∷ told 14 Reply.Okay
-    ∷ told 14 (Reply.Committed 1 None)
+    ∷ told 14 (Reply.Committed 1)
     ∷ told 14 Reply.Okay
     ∷ told 14 Reply.Okay
     ∷ told 14 Reply.Okay
-    ∷ told 14 (Reply.Committed 1 None)
+    ∷ told 14 (Reply.Committed 1)
     ∷ told 14 (Reply.Refused Errno.Invalid)
     ∷ told 14 (Reply.Refused Errno.Invalid)
     ∷ told 14 (Reply.Refused Errno.Invalid)
@@ -380,18 +380,18 @@ list05_said =
     ∷ told 14 Reply.Okay
     ∷ told 14 Reply.Okay
     ∷ told 14 Reply.Okay
-    ∷ told 14 (Reply.Committed 0 None)
+    ∷ told 14 (Reply.Committed 0)
     ∷ told 14 Reply.Okay
-    ∷ told 14 (Reply.Committed 1 None)
+    ∷ told 14 (Reply.Committed 1)
     ∷ told 14 (Reply.Trans 6)
     ∷ told 14 (Reply.Trans 7)
     ∷ told 14 Reply.Okay
     ∷ told 14 Reply.Okay
     ∷ told 14 Reply.Okay
     ∷ told 14 Reply.Okay
-    ∷ told 14 (Reply.Committed 1 None)
+    ∷ told 14 (Reply.Committed 1)
     ∷ told 14 (Reply.Refused Errno.Invalid)
-    ∷ told 14 (Reply.Committed 0 None)
+    ∷ told 14 (Reply.Committed 0)
     ∷ told 14 (Reply.Trans 8)
     ∷ told 14 Reply.Okay
     ∷ told 14 (Reply.Trans 9)
@@ -408,11 +408,11 @@ list05_said =
     ∷ told 14 (Reply.Refused Errno.Invalid)
     ∷ told 14 Reply.Okay
     ∷ told 14 (Reply.Refused Errno.Invalid)
-    ∷ told 14 (Reply.Committed 1 None)
+    ∷ told 14 (Reply.Committed 1)
     ∷ told 14 (Reply.Refused Errno.Again)
     ∷ told 14 (Reply.Refused Errno.Again)
     ∷ told 14 (Reply.Trans 10)
-    ∷ told 14 (Reply.Committed 1 (Some (74 ∷ [])))
+    ∷ told 14 (Reply.CommittedHeld 1 (74 ∷ []))
     ∷ told 14 Reply.Okay
     ∷ told 14 Reply.Okay
     ∷ told 14 (Reply.Begun 1 3)
@@ -433,7 +433,7 @@ list05_said =
     ∷ told 14 Reply.Okay
     ∷ told 14 Reply.Okay
     ∷ told 14 Reply.Okay
-    ∷ told 14 (Reply.Committed 2 None)
+    ∷ told 14 (Reply.Committed 2)
     ∷ told 14 (Reply.Refused Errno.Invalid)
     ∷ told 14 (Reply.Refused Errno.Again)
     ∷ told 14 Reply.Okay
@@ -469,25 +469,25 @@ list06_steps =
     ∷ Step.Call 15 1 (Request.Alloc 191 2 true) Answer.None
     ∷ Step.Call 15 1 (Request.Read 1 18) (Answer.Content (replicate 4096 85))
     ∷ Step.Call 15 1 (Request.Alloc 5000 1 true) Answer.None
-    ∷ Step.Call 15 1 (Request.Log 1 89 255 ((135 ∷ 105 ∷ []))) Answer.None
-    ∷ Step.Call 15 1 (Request.Log 1 18 1407 ((255 ∷ []) ++ replicate 2688 170)) Answer.None
+    ∷ Step.Call 15 1 (Request.Log 255 1 89 ((135 ∷ 105 ∷ []))) Answer.None
+    ∷ Step.Call 15 1 (Request.Log 1407 1 18 ((255 ∷ []) ++ replicate 2688 170)) Answer.None
     ∷ Step.Call 15 1 (Request.Read 1 92) (Answer.Content (replicate 4096 68))
     ∷ Step.Call 15 1 Request.Force Answer.None
     ∷ Step.Call 15 1 (Request.Get 2 79) Answer.None
-    ∷ Step.Call 15 1 (Request.Log 2 79 0 (replicate 4096 170)) Answer.None
+    ∷ Step.Call 15 1 (Request.Log 0 2 79 (replicate 4096 170)) Answer.None
     ∷ Step.Call 15 1 (Request.Commit 2) Answer.None
     ∷ Step.Call 15 1 (Request.Get 1 79) Answer.None
-    ∷ Step.Call 15 1 (Request.Log 1 79 0 (replicate 4096 1)) Answer.None
+    ∷ Step.Call 15 1 (Request.Log 0 1 79 (replicate 4096 1)) Answer.None
     ∷ Step.Call 15 1 (Request.Commit 1) Answer.None
     ∷ Step.Call 15 1 (Request.Get 2 79) Answer.None
-    ∷ Step.Call 15 1 (Request.Log 2 79 1100 (replicate 4 255)) Answer.None
+    ∷ Step.Call 15 1 (Request.Log 1100 2 79 (replicate 4 255)) Answer.None
     ∷ Step.Call 15 1 (Request.Alloc 176 1 true) Answer.None
     ∷ Step.Call 15 1 (Request.Inval 2 79) Answer.None
     ∷ Step.Call 15 1 (Request.Commit 2) Answer.None
     ∷ Step.Call 15 1 (Request.Get 3 92) Answer.None
-    ∷ Step.Call 15 1 (Request.Log 3 92 746 ((0 ∷ 0 ∷ 0 ∷ 255 ∷ 17 ∷ 17 ∷ 17 ∷ 255 ∷ 255 ∷ 255 ∷ []) ++ replicate 6 0 ++ replicate 9 170 ++ (0 ∷ 0 ∷ 0 ∷ 170 ∷ 17 ∷ 17 ∷ []) ++ replicate 4 255 ++ replicate 265 0)) Answer.None
+    ∷ Step.Call 15 1 (Request.Log 746 3 92 ((0 ∷ 0 ∷ 0 ∷ 255 ∷ 17 ∷ 17 ∷ 17 ∷ 255 ∷ 255 ∷ 255 ∷ []) ++ replicate 6 0 ++ replicate 9 170 ++ (0 ∷ 0 ∷ 0 ∷ 170 ∷ 17 ∷ 17 ∷ []) ++ replicate 4 255 ++ replicate 265 0)) Answer.None
     ∷ Step.Call 15 1 (Request.Hold 3 92) Answer.None
-    ∷ Step.Call 15 1 (Request.Log 3 92 3072 ((0 ∷ []))) Answer.None
+    ∷ Step.Call 15 1 (Request.Log 3072 3 92 ((0 ∷ []))) Answer.None
     ∷ Step.Call 15 1 (Request.Alloc 1 1 false) Answer.None
     ∷ Step.Call 15 1 (Request.Read 4 53) (Answer.Content (replicate 4096 51))
     ∷ Step.Call 15 1 (Request.Read 4 60) (Answer.Content (replicate 4096 102))
@@ -579,10 +579,10 @@ list06_said =
     ∷ told 15 Reply.Done
     ∷ told 15 Reply.Okay
     ∷ told 15 Reply.Okay
-    ∷ told 15 (Reply.Committed 1 None)
+    ∷ told 15 (Reply.Committed 1)
     ∷ told 15 Reply.Okay
     ∷ told 15 (Reply.Refused Errno.NoSpace)
-    ∷ told 15 (Reply.Committed 0 None)
+    ∷ told 15 (Reply.Committed 0)
     ∷ told 15 (Reply.Refused Errno.Invalid)
     ∷ told 15 (Reply.Refused Errno.Invalid)
     ∷ told 15 (Reply.Trans 3)
@@ -620,7 +620,7 @@ list06_said =
     ∷ told 15 Reply.Okay
     ∷ told 15 Reply.Okay
     ∷ told 15 Reply.Okay
-    ∷ told 15 (Reply.Committed 0 None)
+    ∷ told 15 (Reply.Committed 0)
     ∷ told 15 (Reply.Trans 7)
     ∷ told 15 Reply.Okay
     ∷ told 15 Reply.Free
@@ -628,14 +628,14 @@ list06_said =
     ∷ told 15 Reply.Okay
     ∷ told 15 Reply.Okay
     ∷ told 15 Reply.Okay
-    ∷ told 15 (Reply.Committed 0 None)
+    ∷ told 15 (Reply.Committed 0)
     ∷ told 15 (Reply.Trans 8)
     ∷ told 15 Reply.Okay
     ∷ told 15 Reply.Okay
     ∷ told 15 (Reply.Refused Errno.Io)
     ∷ told 15 (Reply.Refused Errno.Io)
     ∷ told 15 Reply.Okay
-    ∷ told 15 (Reply.Committed 0 None)
+    ∷ told 15 (Reply.Committed 0)
     ∷ told 15 (Reply.Trans 9)
     ∷ told 15 Reply.Okay
     ∷ told 15 Reply.Okay
@@ -662,7 +662,7 @@ list06_said =
     ∷ told 15 Reply.Okay
     ∷ told 15 Reply.Okay
     ∷ told 15 Reply.Okay
-    ∷ told 15 (Reply.Committed 0 None)
+    ∷ told 15 (Reply.Committed 0)
     ∷ told 15 (Reply.Trans 11)
     ∷ told 15 Reply.Okay
     ∷ told 15 Reply.Okay

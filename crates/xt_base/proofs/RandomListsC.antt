@@ -35,7 +35,7 @@ list07_steps =
     ∷ Step.Call 15 1 (Request.Alloc 2000 1 false) Answer.None
     ∷ Step.Call 15 1 (Request.Get 1 8589934592) Answer.None
     ∷ Step.Call 15 1 (Request.Alloc 12368 2 true) Answer.None
-    ∷ Step.Call 15 1 (Request.Log 1 8589934592 128 ((17 ∷ []) ++ replicate 4 255 ++ replicate 122 170)) Answer.None
+    ∷ Step.Call 15 1 (Request.Log 128 1 8589934592 ((17 ∷ []) ++ replicate 4 255 ++ replicate 122 170)) Answer.None
     ∷ Step.Call 15 1 (Request.Get 1 188) Answer.None
     ∷ Step.Call 15 1 (Request.Hold 1 188) Answer.None
     ∷ Step.Call 15 1 (Request.Cancel 1) Answer.None
@@ -50,7 +50,7 @@ list07_steps =
     ∷ Step.Call 15 1 (Request.Alloc 9000 1 false) Answer.None
     ∷ Step.Call 15 1 (Request.Roll 3) Answer.None
     ∷ Step.Call 15 1 (Request.Read 4 188) (Answer.Content ((142 ∷ 100 ∷ 233 ∷ 76 ∷ 13 ∷ []) ++ replicate 4091 1))
-    ∷ Step.Call 15 1 (Request.Log 4 188 0 ((255 ∷ 255 ∷ []))) Answer.None
+    ∷ Step.Call 15 1 (Request.Log 0 4 188 ((255 ∷ 255 ∷ []))) Answer.None
     ∷ Step.Call 15 1 Request.Shutdown Answer.None
     ∷ Step.Show 15
     ∷ Step.Call 15 1 (Request.Alloc 5000 1 false) Answer.None
@@ -107,7 +107,7 @@ list07_steps =
     ∷ Step.Call 15 2 (Request.Read 7 58) Answer.None
     ∷ Step.Call 15 2 (Request.Relse 1 58) Answer.None
     ∷ Step.Call 15 2 (Request.Read 7 37) (Answer.Content (replicate 130 34 ++ replicate 3966 0))
-    ∷ Step.Call 15 2 (Request.Log 1 58 1024 ((173 ∷ []))) Answer.None
+    ∷ Step.Call 15 2 (Request.Log 1024 1 58 ((173 ∷ []))) Answer.None
     ∷ Step.Call 15 2 (Request.Read 7 51) (Answer.Content (replicate 4096 85))
     ∷ Step.Call 15 2 (Request.Read 7 47) (Answer.Content (replicate 4096 102))
     ∷ Step.Call 15 2 (Request.Read 7 10) (Answer.Content ((255 ∷ []) ++ replicate 4095 238))
@@ -145,14 +145,14 @@ list07_said =
     ∷ told 15 (Reply.OkayHeld (188 ∷ []))
     ∷ told 15 (Reply.Refused Errno.Again)
     ∷ told 15 Reply.Okay
-    ∷ told 15 (Reply.Committed 0 None)
+    ∷ told 15 (Reply.Committed 0)
     ∷ told 15 (Reply.Refused Errno.Invalid)
     ∷ told 15 (Reply.Trans 3)
     ∷ told 15 (Reply.Trans 4)
     ∷ told 15 (Reply.Refused Errno.Invalid)
     ∷ told 15 (Reply.Refused Errno.Invalid)
     ∷ told 15 (Reply.Trans 5)
-    ∷ told 15 (Reply.Committed 0 None)
+    ∷ told 15 (Reply.Committed 0)
     ∷ told 15 Reply.Okay
     ∷ told 15 Reply.Okay
     ∷ told 15 Reply.Okay
@@ -170,7 +170,7 @@ list07_said =
     ∷ told 15 (Reply.Seen 1 (Some Reason.ForceUmount))
     ∷ told 15 Reply.Okay
     ∷ told 15 (Reply.Refused Errno.Io)
-    ∷ told 15 (Reply.Committed 0 None)
+    ∷ told 15 (Reply.Committed 0)
     ∷ told 15 (Reply.Refused Errno.Io)
     ∷ told 15 (Reply.Refused Errno.Io)
     ∷ told 15 Reply.Okay
@@ -195,7 +195,7 @@ list07_said =
     ∷ told 15 Reply.Okay
     ∷ told 15 Reply.Okay
     ∷ told 15 Reply.Okay
-    ∷ told 15 (Reply.Committed 0 None)
+    ∷ told 15 (Reply.Committed 0)
     ∷ told 15 (Reply.Trans 6)
     ∷ told 15 Reply.Okay
     ∷ told 15 Reply.Okay
@@ -231,7 +231,7 @@ list07_said =
     ∷ told 15 Reply.Okay
     ∷ told 15 Reply.Okay
     ∷ told 15 Reply.Okay
-    ∷ told 15 (Reply.Committed 0 None)
+    ∷ told 15 (Reply.Committed 0)
     ∷ told 15 (Reply.Trans 9)
     ∷ told 15 Reply.Okay
     ∷ told 15 Reply.Okay
@@ -258,7 +258,7 @@ list08_steps =
     ∷ Step.Call 0 1 (Request.Alloc 5000 1 false) Answer.None
     ∷ Step.Call 0 1 (Request.Inval 1 51) Answer.None
     ∷ Step.Call 0 1 (Request.Relse 1 51) Answer.None
-    ∷ Step.Call 0 1 (Request.Log 1 51 0 (replicate 4096 1)) Answer.None
+    ∷ Step.Call 0 1 (Request.Log 0 1 51 (replicate 4096 1)) Answer.None
     ∷ Step.Call 0 1 (Request.Read 1 1099511627775) (Answer.Content ((140 ∷ 3 ∷ []) ++ replicate 4094 238))
     ∷ Step.Call 0 1 (Request.Commit 1) Answer.None
     ∷ Step.Call 0 1 Request.Force Answer.None
@@ -266,7 +266,7 @@ list08_steps =
     ∷ Step.Call 0 1 (Request.Roll 2) Answer.None
     ∷ Step.Call 0 1 (Request.Commit 3) Answer.None
     ∷ Step.Call 0 1 (Request.Read 2 8589934592) Answer.None
-    ∷ Step.Call 0 1 (Request.Log 2 8589934592 1726 (replicate 127 255)) Answer.None
+    ∷ Step.Call 0 1 (Request.Log 1726 2 8589934592 (replicate 127 255)) Answer.None
     ∷ Step.Call 0 1 (Request.Inval 2 8589934592) Answer.None
     ∷ Step.Call 0 1 (Request.View 2 8589934592) Answer.None
     ∷ Step.Call 0 1 (Request.Unhold 2 8589934592) Answer.None
@@ -282,10 +282,10 @@ list08_steps =
     ∷ Step.Call 0 1 (Request.Alloc 2192 1 false) Answer.None
     ∷ Step.Peek 0
     ∷ Step.Call 0 1 (Request.Read 3 153) Answer.None
-    ∷ Step.Call 0 1 (Request.Log 3 153 16 ((182 ∷ 47 ∷ 129 ∷ []))) Answer.None
+    ∷ Step.Call 0 1 (Request.Log 16 3 153 ((182 ∷ 47 ∷ 129 ∷ []))) Answer.None
     ∷ Step.Call 0 1 (Request.Read 3 336) Answer.None
     ∷ Step.Call 0 1 (Request.Cancel 2) Answer.None
-    ∷ Step.Call 0 1 (Request.Log 3 336 77 ((170 ∷ 170 ∷ 170 ∷ []))) Answer.None
+    ∷ Step.Call 0 1 (Request.Log 77 3 336 ((170 ∷ 170 ∷ 170 ∷ []))) Answer.None
     ∷ Step.Call 0 1 (Request.Alloc 21845 1 false) Answer.None
     ∷ Step.Call 0 1 Request.Unmount Answer.None
     ∷ Step.Mount 0 66000 1099511627776
@@ -294,7 +294,7 @@ list08_steps =
     ∷ Step.Call 0 2 (Request.Alloc 304 1 true) Answer.None
     ∷ Step.Call 0 2 (Request.Read 2 1099511627775) (Answer.Content (replicate 4096 51))
     ∷ Step.Call 0 2 (Request.Alloc 65552 1 false) Answer.None
-    ∷ Step.Call 0 2 (Request.Log 2 1099511627775 0 ((119 ∷ []))) Answer.None
+    ∷ Step.Call 0 2 (Request.Log 0 2 1099511627775 ((119 ∷ []))) Answer.None
     ∷ Step.Call 0 2 (Request.Roll 2) Answer.None
     ∷ Step.Call 0 2 (Request.View 2 1099511627775) Answer.None
     ∷ Step.Post (name 0 2 JobKind.Flush 1)
@@ -304,18 +304,18 @@ list08_steps =
     ∷ Step.Call 0 2 (Request.Commit 2) Answer.None
     ∷ Step.Call 0 2 (Request.Read 3 8589934592) (Answer.Content (replicate 4 34 ++ replicate 4 170 ++ replicate 4 0 ++ (170 ∷ 170 ∷ 170 ∷ []) ++ replicate 285 255 ++ replicate 3796 238))
     ∷ Step.Call 0 2 (Request.Inval 3 8589934592) Answer.None
-    ∷ Step.Call 0 2 (Request.Log 3 8589934592 1407 (replicate 127 0)) Answer.None
+    ∷ Step.Call 0 2 (Request.Log 1407 3 8589934592 (replicate 127 0)) Answer.None
     ∷ Step.Call 0 2 (Request.Hold 3 8589934592) Answer.None
     ∷ Step.Call 0 2 (Request.Alloc 1000 1 false) Answer.None
     ∷ Step.Call 0 2 (Request.Alloc 432 3 true) Answer.None
     ∷ Step.Call 0 2 (Request.Alloc 9000 1 false) Answer.None
     ∷ Step.Call 0 2 (Request.Alloc 208 1 true) Answer.None
     ∷ Step.Post (name 0 2 JobKind.Flush 2)
-    ∷ Step.Call 0 2 (Request.Log 3 8589934592 0 (replicate 4096 170)) Answer.None
-    ∷ Step.Call 0 2 (Request.Log 3 8589934592 639 (replicate 128 17)) Answer.None
+    ∷ Step.Call 0 2 (Request.Log 0 3 8589934592 (replicate 4096 170)) Answer.None
+    ∷ Step.Call 0 2 (Request.Log 639 3 8589934592 (replicate 128 17)) Answer.None
     ∷ Step.Call 0 2 (Request.Read 4 8589934592) Answer.None
-    ∷ Step.Call 0 2 (Request.Log 3 8589934592 1663 ((0 ∷ []))) Answer.None
-    ∷ Step.Call 0 2 (Request.Log 3 8589934592 0 (replicate 4096 170)) Answer.None
+    ∷ Step.Call 0 2 (Request.Log 1663 3 8589934592 ((0 ∷ []))) Answer.None
+    ∷ Step.Call 0 2 (Request.Log 0 3 8589934592 (replicate 4096 170)) Answer.None
     ∷ Step.Call 0 2 (Request.Relse 3 8589934592) Answer.None
     ∷ Step.Call 0 2 (Request.Roll 3) Answer.None
     ∷ Step.Call 0 2 (Request.Commit 3) Answer.None
@@ -333,21 +333,21 @@ list08_steps =
     ∷ Step.Call 0 2 (Request.Alloc 2192 1 false) Answer.None
     ∷ Step.Call 0 2 (Request.Read 8 11) (Answer.Content (replicate 4 17 ++ (0 ∷ []) ++ replicate 4091 238))
     ∷ Step.Call 0 2 Request.Push Answer.None
-    ∷ Step.Call 0 2 (Request.Log 8 11 47 ((170 ∷ 170 ∷ 170 ∷ []))) Answer.None
+    ∷ Step.Call 0 2 (Request.Log 47 8 11 ((170 ∷ 170 ∷ 170 ∷ []))) Answer.None
     ∷ Step.Call 0 2 (Request.Read 8 90) (Answer.Content (replicate 4096 119))
-    ∷ Step.Call 0 2 (Request.Log 8 90 83 ((62 ∷ 77 ∷ 174 ∷ []))) Answer.None
-    ∷ Step.Call 0 2 (Request.Log 8 11 953 ((136 ∷ []))) Answer.None
+    ∷ Step.Call 0 2 (Request.Log 83 8 90 ((62 ∷ 77 ∷ 174 ∷ []))) Answer.None
+    ∷ Step.Call 0 2 (Request.Log 953 8 11 ((136 ∷ []))) Answer.None
     ∷ Step.Call 0 2 (Request.Read 8 122) (Answer.Content ((0 ∷ []) ++ replicate 4095 238))
-    ∷ Step.Call 0 2 (Request.Log 8 122 52 ((36 ∷ 76 ∷ 200 ∷ []))) Answer.None
+    ∷ Step.Call 0 2 (Request.Log 52 8 122 ((36 ∷ 76 ∷ 200 ∷ []))) Answer.None
     ∷ Step.Call 0 2 (Request.Read 8 284) (Answer.Content (replicate 4096 85))
-    ∷ Step.Call 0 2 (Request.Log 8 284 93 ((34 ∷ 0 ∷ 0 ∷ []))) Answer.None
+    ∷ Step.Call 0 2 (Request.Log 93 8 284 ((34 ∷ 0 ∷ 0 ∷ []))) Answer.None
     ∷ Step.Call 0 2 (Request.Read 8 126) (Answer.Content ((135 ∷ []) ++ replicate 4095 238))
     ∷ Step.Call 0 2 (Request.Inval 6 8589934592) Answer.None
-    ∷ Step.Call 0 2 (Request.Log 8 126 46 ((208 ∷ 231 ∷ 5 ∷ []))) Answer.None
+    ∷ Step.Call 0 2 (Request.Log 46 8 126 ((208 ∷ 231 ∷ 5 ∷ []))) Answer.None
     ∷ Step.Call 0 2 (Request.Read 8 179) (Answer.Content (replicate 4 34 ++ (17 ∷ []) ++ replicate 4091 0))
-    ∷ Step.Call 0 2 (Request.Log 8 179 35 ((246 ∷ 219 ∷ 230 ∷ []))) Answer.None
+    ∷ Step.Call 0 2 (Request.Log 35 8 179 ((246 ∷ 219 ∷ 230 ∷ []))) Answer.None
     ∷ Step.Call 0 2 (Request.Read 8 393) (Answer.Content ((255 ∷ []) ++ replicate 129 0 ++ replicate 3966 1))
-    ∷ Step.Call 0 2 (Request.Log 8 393 40 ((231 ∷ 79 ∷ 193 ∷ []))) Answer.None
+    ∷ Step.Call 0 2 (Request.Log 40 8 393 ((231 ∷ 79 ∷ 193 ∷ []))) Answer.None
     ∷ []
 
 abbrev list08_said : List Said
@@ -358,24 +358,24 @@ list08_said =
     ∷ told 0 (Reply.Trans 2)
     ∷ told 0 Reply.Okay
     ∷ told 0 Reply.Okay
-    ∷ told 0 (Reply.Committed 0 None)
+    ∷ told 0 (Reply.Committed 0)
     ∷ told 0 (Reply.Trans 3)
     ∷ told 0 Reply.Okay
     ∷ told 0 Reply.Kept
     ∷ told 0 (Reply.Refused Errno.NoSpace)
     ∷ told 0 Reply.Okay
-    ∷ told 0 (Reply.Committed 1 None)
+    ∷ told 0 (Reply.Committed 1)
     ∷ told 0 (Reply.Wait 1)
     ∷ told 0 Reply.Okay
-    ∷ told 0 (Reply.Committed 0 None)
-    ∷ told 0 (Reply.Committed 0 None)
+    ∷ told 0 (Reply.Committed 0)
+    ∷ told 0 (Reply.Committed 0)
     ∷ told 0 Reply.Okay
     ∷ told 0 Reply.Okay
     ∷ told 0 Reply.Okay
     ∷ told 0 (Reply.Data (replicate 4096 0))
     ∷ told 0 (Reply.Refused Errno.Invalid)
     ∷ told 0 Reply.Okay
-    ∷ told 0 (Reply.Committed 1 None)
+    ∷ told 0 (Reply.Committed 1)
     ∷ told 0 Reply.Okay
     ∷ told 0 (Reply.Refused Errno.Again)
     ∷ told 0 (Reply.Begun 1 1)
@@ -394,7 +394,7 @@ list08_said =
     ∷ told 0 Reply.Okay
     ∷ told 0 (Reply.Life 2)
     ∷ told 0 (Reply.Trans 1)
-    ∷ told 0 (Reply.Committed 0 None)
+    ∷ told 0 (Reply.Committed 0)
     ∷ told 0 (Reply.Trans 2)
     ∷ told 0 Reply.Okay
     ∷ told 0 (Reply.Trans 3)
@@ -405,7 +405,7 @@ list08_said =
     ∷ told 0 Reply.Okay
     ∷ told 0 Reply.Nothing
     ∷ told 0 (Reply.Trans 4)
-    ∷ told 0 (Reply.Committed 1 None)
+    ∷ told 0 (Reply.Committed 1)
     ∷ told 0 Reply.Okay
     ∷ told 0 Reply.Okay
     ∷ told 0 (Reply.Refused Errno.Invalid)
@@ -422,10 +422,10 @@ list08_said =
     ∷ told 0 Reply.Okay
     ∷ told 0 Reply.Kept
     ∷ told 0 (Reply.Refused Errno.Invalid)
-    ∷ told 0 (Reply.Committed 1 None)
+    ∷ told 0 (Reply.Committed 1)
     ∷ told 0 Reply.Okay
     ∷ told 0 Reply.Okay
-    ∷ told 0 (Reply.Committed 0 None)
+    ∷ told 0 (Reply.Committed 0)
     ∷ told 0 (Reply.Trans 6)
     ∷ told 0 Reply.Okay
     ∷ told 0 Reply.Okay
@@ -468,9 +468,9 @@ list09_steps =
     Step.Mount 3 1048576 1024
     ∷ Step.Call 3 1 (Request.Alloc 432 1 true) Answer.None
     ∷ Step.Call 3 1 (Request.Read 1 159) (Answer.Content (replicate 4096 85))
-    ∷ Step.Call 3 1 (Request.Log 1 159 416 ((17 ∷ 17 ∷ 0 ∷ 0 ∷ 0 ∷ []) ++ replicate 5 255 ++ replicate 4 170 ++ replicate 114 34)) Answer.None
+    ∷ Step.Call 3 1 (Request.Log 416 1 159 ((17 ∷ 17 ∷ 0 ∷ 0 ∷ 0 ∷ []) ++ replicate 5 255 ++ replicate 4 170 ++ replicate 114 34)) Answer.None
     ∷ Step.Call 3 1 (Request.Alloc 1088 1 false) Answer.None
-    ∷ Step.Call 3 1 (Request.Log 1 159 1536 ((126 ∷ []))) Answer.None
+    ∷ Step.Call 3 1 (Request.Log 1536 1 159 ((126 ∷ []))) Answer.None
     ∷ Step.Call 3 1 (Request.Relse 1 159) Answer.None
     ∷ Step.Call 3 1 (Request.Get 1 0) Answer.None
     ∷ Step.Call 3 1 (Request.Get 1 1) Answer.None
@@ -539,30 +539,30 @@ list09_steps =
     ∷ Step.Call 3 2 Request.Force Answer.None
     ∷ Step.Call 3 2 Request.Force Answer.None
     ∷ Step.Call 3 2 (Request.Read 2 148) (Answer.Content (replicate 4096 119))
-    ∷ Step.Call 3 2 (Request.Log 2 148 1425 ((34 ∷ 34 ∷ []))) Answer.None
+    ∷ Step.Call 3 2 (Request.Log 1425 2 148 ((34 ∷ 34 ∷ []))) Answer.None
     ∷ Step.Call 3 2 (Request.Get 3 120) Answer.None
     ∷ Step.Call 3 2 (Request.Alloc 2000 2 true) Answer.None
     ∷ Step.Call 3 2 (Request.Commit 3) Answer.None
     ∷ Step.Call 3 2 (Request.Alloc 2000 1 false) Answer.None
     ∷ Step.Call 3 2 (Request.Alloc 2192 1 false) Answer.None
     ∷ Step.Call 3 2 (Request.Read 6 274) (Answer.Content ((17 ∷ []) ++ replicate 4095 0))
-    ∷ Step.Call 3 2 (Request.Log 6 274 90 ((113 ∷ 74 ∷ 173 ∷ []))) Answer.None
+    ∷ Step.Call 3 2 (Request.Log 90 6 274 ((113 ∷ 74 ∷ 173 ∷ []))) Answer.None
     ∷ Step.Call 3 2 (Request.Read 6 93) (Answer.Content (replicate 300 255 ++ replicate 3796 1))
-    ∷ Step.Call 3 2 (Request.Log 6 93 87 ((0 ∷ 0 ∷ 0 ∷ []))) Answer.None
+    ∷ Step.Call 3 2 (Request.Log 87 6 93 ((0 ∷ 0 ∷ 0 ∷ []))) Answer.None
     ∷ Step.Call 3 2 (Request.Read 6 129) (Answer.Content (replicate 4096 102))
-    ∷ Step.Call 3 2 (Request.Log 6 129 77 ((219 ∷ 87 ∷ 157 ∷ []))) Answer.None
+    ∷ Step.Call 3 2 (Request.Log 77 6 129 ((219 ∷ 87 ∷ 157 ∷ []))) Answer.None
     ∷ Step.Call 3 2 (Request.Read 6 2) (Answer.Content (replicate 4096 0))
-    ∷ Step.Call 3 2 (Request.Log 6 2 39 ((7 ∷ 9 ∷ 31 ∷ []))) Answer.None
+    ∷ Step.Call 3 2 (Request.Log 39 6 2 ((7 ∷ 9 ∷ 31 ∷ []))) Answer.None
     ∷ Step.Call 3 2 (Request.Read 6 120) (Answer.Content (replicate 4096 119))
-    ∷ Step.Call 3 2 (Request.Log 2 148 2048 ((0 ∷ []) ++ replicate 4 17 ++ replicate 124 0)) Answer.None
-    ∷ Step.Call 3 2 (Request.Log 6 120 79 ((170 ∷ 170 ∷ 170 ∷ []))) Answer.None
+    ∷ Step.Call 3 2 (Request.Log 2048 2 148 ((0 ∷ []) ++ replicate 4 17 ++ replicate 124 0)) Answer.None
+    ∷ Step.Call 3 2 (Request.Log 79 6 120 ((170 ∷ 170 ∷ 170 ∷ []))) Answer.None
     ∷ Step.Call 3 2 (Request.Read 6 259) (Answer.Content (replicate 4096 51))
-    ∷ Step.Call 3 2 (Request.Log 6 259 64 ((0 ∷ 0 ∷ 0 ∷ []))) Answer.None
+    ∷ Step.Call 3 2 (Request.Log 64 6 259 ((0 ∷ 0 ∷ 0 ∷ []))) Answer.None
     ∷ Step.Call 3 2 (Request.Read 6 10) (Answer.Content (replicate 4096 85))
     ∷ Step.Call 3 2 (Request.Join 2 250) Answer.None
-    ∷ Step.Call 3 2 (Request.Log 6 10 89 ((113 ∷ 182 ∷ 131 ∷ []))) Answer.None
+    ∷ Step.Call 3 2 (Request.Log 89 6 10 ((113 ∷ 182 ∷ 131 ∷ []))) Answer.None
     ∷ Step.Call 3 2 (Request.Read 6 121) (Answer.Content ((41 ∷ 150 ∷ []) ++ replicate 4094 1))
-    ∷ Step.Call 3 2 (Request.Log 6 121 56 ((17 ∷ 17 ∷ 17 ∷ []))) Answer.None
+    ∷ Step.Call 3 2 (Request.Log 56 6 121 ((17 ∷ 17 ∷ 17 ∷ []))) Answer.None
     ∷ Step.Call 3 2 (Request.Hold 2 148) Answer.None
     ∷ Step.Call 3 2 (Request.Read 5 250) Answer.None
     ∷ []
@@ -628,7 +628,7 @@ list09_said =
     ∷ told 3 (Reply.Refused Errno.Io)
     ∷ told 3 (Reply.Refused Errno.Io)
     ∷ told 3 (Reply.Refused Errno.Io)
-    ∷ told 3 (Reply.Committed 0 None)
+    ∷ told 3 (Reply.Committed 0)
     ∷ told 3 (Reply.Refused Errno.Io)
     ∷ told 3 (Reply.Seen 1 (Some Reason.MetaIoError))
     ∷ told 3 Reply.Okay
@@ -636,7 +636,7 @@ list09_said =
     ∷ told 3 (Reply.Refused Errno.Invalid)
     ∷ told 3 (Reply.Life 2)
     ∷ told 3 (Reply.Trans 1)
-    ∷ told 3 (Reply.Committed 0 None)
+    ∷ told 3 (Reply.Committed 0)
     ∷ told 3 (Reply.Trans 2)
     ∷ told 3 (Reply.Trans 3)
     ∷ told 3 Reply.Okay
@@ -646,7 +646,7 @@ list09_said =
     ∷ told 3 Reply.Okay
     ∷ told 3 Reply.Okay
     ∷ told 3 (Reply.Trans 4)
-    ∷ told 3 (Reply.Committed 0 None)
+    ∷ told 3 (Reply.Committed 0)
     ∷ told 3 (Reply.Trans 5)
     ∷ told 3 (Reply.Trans 6)
     ∷ told 3 Reply.Okay

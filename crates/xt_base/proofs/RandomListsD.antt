@@ -34,7 +34,7 @@ list10_steps =
     Step.Mount 5 65536 40
     ∷ Step.Call 5 1 (Request.Alloc 180 1 false) Answer.None
     ∷ Step.Call 5 1 (Request.Read 1 34) (Answer.Content (replicate 4096 85))
-    ∷ Step.Call 5 1 (Request.Log 1 34 0 ((90 ∷ []))) Answer.None
+    ∷ Step.Call 5 1 (Request.Log 0 1 34 ((90 ∷ []))) Answer.None
     ∷ Step.Call 5 1 (Request.Commit 1) Answer.None
     ∷ Step.Call 5 1 Request.Force Answer.None
     ∷ Step.Post (name 5 1 JobKind.Ckpt 1)
@@ -45,75 +45,75 @@ list10_steps =
     ∷ Step.Call 5 1 (Request.Release 22) Answer.None
     ∷ Step.Call 5 1 (Request.Read 2 0) (Answer.Content (replicate 4096 102))
     ∷ Step.Call 5 1 (Request.Alloc 816 1 false) Answer.None
-    ∷ Step.Call 5 1 (Request.Log 2 0 3455 ((17 ∷ 17 ∷ []))) Answer.None
+    ∷ Step.Call 5 1 (Request.Log 3455 2 0 ((17 ∷ 17 ∷ []))) Answer.None
     ∷ Step.Call 5 1 (Request.View 2 0) Answer.None
-    ∷ Step.Call 5 1 (Request.Log 2 26 3712 ((80 ∷ 216 ∷ 217 ∷ 100 ∷ []))) Answer.None
-    ∷ Step.Call 5 1 (Request.Log 2 0 1987 ((34 ∷ 34 ∷ []) ++ replicate 2107 0)) Answer.None
+    ∷ Step.Call 5 1 (Request.Log 3712 2 26 ((80 ∷ 216 ∷ 217 ∷ 100 ∷ []))) Answer.None
+    ∷ Step.Call 5 1 (Request.Log 1987 2 0 ((34 ∷ 34 ∷ []) ++ replicate 2107 0)) Answer.None
     ∷ Step.Call 5 1 (Request.Read 2 10) (Answer.Content ((253 ∷ []) ++ replicate 4095 0))
     ∷ Step.Show 5
     ∷ Step.Call 5 1 (Request.ForceTo 0) Answer.None
-    ∷ Step.Call 5 1 (Request.Log 2 10 3161 ((170 ∷ 170 ∷ 34 ∷ []) ++ replicate 297 0)) Answer.None
+    ∷ Step.Call 5 1 (Request.Log 3161 2 10 ((170 ∷ 170 ∷ 34 ∷ []) ++ replicate 297 0)) Answer.None
     ∷ Step.Call 5 1 (Request.Unhold 2 0) Answer.None
     ∷ Step.Mount 5 65536 1024
     ∷ Step.Call 5 1 (Request.Join 3 31) Answer.None
-    ∷ Step.Call 5 1 (Request.Log 2 0 353 ((32 ∷ []))) Answer.None
+    ∷ Step.Call 5 1 (Request.Log 353 2 0 ((32 ∷ []))) Answer.None
     ∷ Step.Call 5 1 (Request.Read 2 0) Answer.None
     ∷ Step.Take 7 (name 5 1 JobKind.Ckpt 1)
     ∷ Step.Call 5 1 (Request.Read 3 22) (Answer.Content (replicate 4096 85))
-    ∷ Step.Call 5 1 (Request.Log 3 22 3690 (replicate 4 255)) Answer.None
+    ∷ Step.Call 5 1 (Request.Log 3690 3 22 (replicate 4 255)) Answer.None
     ∷ Step.Take 2 (name 5 1 JobKind.Flush 2)
     ∷ Step.Call 5 1 (Request.Read 3 19) (Answer.Content ((206 ∷ 203 ∷ []) ++ replicate 4094 1))
-    ∷ Step.Call 5 1 (Request.Log 3 22 3455 ((0 ∷ 0 ∷ []))) Answer.None
+    ∷ Step.Call 5 1 (Request.Log 3455 3 22 ((0 ∷ 0 ∷ []))) Answer.None
     ∷ Step.Call 5 1 (Request.Alloc 20592 1 true) Answer.None
     ∷ Step.Call 5 1 (Request.Get 4 24) Answer.None
-    ∷ Step.Call 5 1 (Request.Log 4 24 0 (replicate 4096 2)) Answer.None
+    ∷ Step.Call 5 1 (Request.Log 0 4 24 (replicate 4096 2)) Answer.None
     ∷ Step.Call 5 1 (Request.Get 4 14) Answer.None
-    ∷ Step.Call 5 1 (Request.Log 4 14 0 (replicate 4096 74)) Answer.None
+    ∷ Step.Call 5 1 (Request.Log 0 4 14 (replicate 4096 74)) Answer.None
     ∷ Step.Flush 2 (name 5 1 JobKind.Flush 2) (record { count = 0; writes = (false ∷ false ∷ false ∷ false ∷ false ∷ false ∷ false ∷ false ∷ []); sync = false })
     ∷ Step.Call 5 1 (Request.Get 4 6) Answer.None
-    ∷ Step.Call 5 1 (Request.Log 4 6 0 (replicate 4096 116)) Answer.None
+    ∷ Step.Call 5 1 (Request.Log 0 4 6 (replicate 4096 116)) Answer.None
     ∷ Step.Call 5 1 (Request.Get 2 12) Answer.None
     ∷ Step.Call 5 1 (Request.ForceTo 0) Answer.None
     ∷ Step.Call 5 1 (Request.Get 4 2) Answer.None
-    ∷ Step.Call 5 1 (Request.Log 4 2 0 (replicate 4096 61)) Answer.None
+    ∷ Step.Call 5 1 (Request.Log 0 4 2 (replicate 4096 61)) Answer.None
     ∷ Step.Call 5 1 (Request.Get 4 30) Answer.None
-    ∷ Step.Call 5 1 (Request.Log 4 30 0 (replicate 4096 101)) Answer.None
+    ∷ Step.Call 5 1 (Request.Log 0 4 30 (replicate 4096 101)) Answer.None
     ∷ Step.Call 5 1 (Request.Commit 4) Answer.None
     ∷ Step.Call 5 1 (Request.Commit 3) Answer.None
-    ∷ Step.Call 5 1 (Request.Log 2 10 2048 (replicate 129 0)) Answer.None
+    ∷ Step.Call 5 1 (Request.Log 2048 2 10 (replicate 129 0)) Answer.None
     ∷ Step.Call 5 1 Request.Force Answer.None
     ∷ Step.Call 5 1 (Request.Get 2 34) Answer.None
-    ∷ Step.Call 5 1 (Request.Log 2 34 256 (replicate 128 0)) Answer.None
+    ∷ Step.Call 5 1 (Request.Log 256 2 34 (replicate 128 0)) Answer.None
     ∷ Step.Call 5 1 (Request.Commit 2) Answer.None
     ∷ Step.Call 5 1 (Request.Get 1 24) Answer.None
-    ∷ Step.Call 5 1 (Request.Log 1 24 2688 ((0 ∷ 0 ∷ 0 ∷ []) ++ replicate 5 170 ++ (0 ∷ 0 ∷ 0 ∷ 255 ∷ 170 ∷ []) ++ replicate 5 34 ++ replicate 109 170)) Answer.None
+    ∷ Step.Call 5 1 (Request.Log 2688 1 24 ((0 ∷ 0 ∷ 0 ∷ []) ++ replicate 5 170 ++ (0 ∷ 0 ∷ 0 ∷ 255 ∷ 170 ∷ []) ++ replicate 5 34 ++ replicate 109 170)) Answer.None
     ∷ Step.Call 5 1 (Request.Inval 1 24) Answer.None
     ∷ Step.Call 5 1 (Request.Commit 1) Answer.None
     ∷ Step.Call 5 1 (Request.Get 1 10) Answer.None
-    ∷ Step.Call 5 1 (Request.Log 1 10 1420 ((255 ∷ []))) Answer.None
+    ∷ Step.Call 5 1 (Request.Log 1420 1 10 ((255 ∷ []))) Answer.None
     ∷ Step.Call 5 1 (Request.Commit 1) Answer.None
     ∷ Step.Call 5 1 (Request.Alloc 351 1 false) Answer.None
     ∷ Step.Call 5 1 (Request.Read 5 21) (Answer.Content ((245 ∷ 44 ∷ []) ++ replicate 4094 1))
     ∷ Step.Call 5 1 (Request.Alloc 1000 3 true) Answer.None
     ∷ Step.Call 5 1 (Request.Read 6 22) Answer.None
-    ∷ Step.Call 5 1 (Request.Log 6 22 2303 (replicate 4 170 ++ replicate 1789 17)) Answer.None
+    ∷ Step.Call 5 1 (Request.Log 2303 6 22 (replicate 4 170 ++ replicate 1789 17)) Answer.None
     ∷ Step.Call 5 1 (Request.Roll 6) Answer.None
     ∷ Step.Call 5 1 (Request.Get 6 19) Answer.None
     ∷ Step.Call 5 1 (Request.Relse 5 21) Answer.None
-    ∷ Step.Call 5 1 (Request.Log 6 19 384 ((34 ∷ 17 ∷ 17 ∷ []) ++ replicate 4 34 ++ (17 ∷ 17 ∷ 17 ∷ 0 ∷ 34 ∷ 34 ∷ 34 ∷ []) ++ replicate 3698 0)) Answer.None
+    ∷ Step.Call 5 1 (Request.Log 384 6 19 ((34 ∷ 17 ∷ 17 ∷ []) ++ replicate 4 34 ++ (17 ∷ 17 ∷ 17 ∷ 0 ∷ 34 ∷ 34 ∷ 34 ∷ []) ++ replicate 3698 0)) Answer.None
     ∷ Step.Call 5 1 (Request.Hold 6 19) Answer.None
     ∷ Step.Call 5 1 (Request.Roll 6) Answer.None
     ∷ Step.Call 5 1 (Request.Get 6 24) Answer.None
-    ∷ Step.Call 5 1 (Request.Log 6 24 2459 ((100 ∷ 123 ∷ []))) Answer.None
+    ∷ Step.Call 5 1 (Request.Log 2459 6 24 ((100 ∷ 123 ∷ []))) Answer.None
     ∷ Step.Call 5 1 (Request.Roll 6) Answer.None
     ∷ Step.Call 5 1 (Request.Read 6 20) (Answer.Content (replicate 4096 0))
     ∷ Step.Call 5 1 (Request.Get 6 31) Answer.None
-    ∷ Step.Call 5 1 (Request.Log 6 31 0 (replicate 4096 170)) Answer.None
+    ∷ Step.Call 5 1 (Request.Log 0 6 31 (replicate 4096 170)) Answer.None
     ∷ Step.Call 5 1 (Request.Commit 6) Answer.None
     ∷ Step.Call 5 1 (Request.Hold 6 31) Answer.None
     ∷ Step.Call 5 1 (Request.Roll 6) Answer.None
     ∷ Step.Call 5 1 (Request.Get 6 33) Answer.None
-    ∷ Step.Call 5 1 (Request.Log 6 33 256 (replicate 4 17)) Answer.None
+    ∷ Step.Call 5 1 (Request.Log 256 6 33 (replicate 4 17)) Answer.None
     ∷ Step.Call 5 1 (Request.Roll 6) Answer.None
     ∷ Step.Call 5 1 Request.Force Answer.None
     ∷ Step.Call 5 1 (Request.Get 6 10) Answer.None
@@ -121,7 +121,7 @@ list10_steps =
     ∷ Step.Call 5 1 (Request.Release 19) Answer.None
     ∷ Step.Call 5 1 Request.Force Answer.None
     ∷ Step.Call 5 1 Request.Force Answer.None
-    ∷ Step.Call 5 1 (Request.Log 6 10 1920 (replicate 300 34)) Answer.None
+    ∷ Step.Call 5 1 (Request.Log 1920 6 10 (replicate 300 34)) Answer.None
     ∷ Step.Call 5 1 Request.Unmount Answer.None
     ∷ Step.Call 5 1 Request.Force Answer.None
     ∷ Step.Call 5 1 Request.Force Answer.None
@@ -139,7 +139,7 @@ list10_said =
     ∷ told 5 (Reply.Trans 1)
     ∷ told 5 Reply.Okay
     ∷ told 5 Reply.Okay
-    ∷ told 5 (Reply.Committed 1 None)
+    ∷ told 5 (Reply.Committed 1)
     ∷ told 5 (Reply.Wait 1)
     ∷ told 5 Reply.Okay
     ∷ told 5 Reply.Okay
@@ -182,13 +182,13 @@ list10_said =
     ∷ told 5 Reply.Okay
     ∷ told 5 Reply.Okay
     ∷ told 5 Reply.Okay
-    ∷ told 5 (Reply.Committed 1 None)
-    ∷ told 5 (Reply.Committed 1 None)
+    ∷ told 5 (Reply.Committed 1)
+    ∷ told 5 (Reply.Committed 1)
     ∷ told 5 Reply.Okay
     ∷ told 5 (Reply.Wait 1)
     ∷ told 5 Reply.Okay
     ∷ told 5 Reply.Okay
-    ∷ told 5 (Reply.Committed 1 None)
+    ∷ told 5 (Reply.Committed 1)
     ∷ told 5 (Reply.Refused Errno.Invalid)
     ∷ told 5 (Reply.Refused Errno.Invalid)
     ∷ told 5 (Reply.Refused Errno.Invalid)
@@ -201,19 +201,19 @@ list10_said =
     ∷ told 5 (Reply.Trans 6)
     ∷ told 5 Reply.Okay
     ∷ told 5 (Reply.Refused Errno.NoSpace)
-    ∷ told 5 (Reply.Committed 0 None)
+    ∷ told 5 (Reply.Committed 0)
     ∷ told 5 Reply.Okay
     ∷ told 5 Reply.Free
     ∷ told 5 (Reply.Refused Errno.NoSpace)
     ∷ told 5 Reply.Okay
-    ∷ told 5 (Reply.Committed 0 (Some (19 ∷ [])))
+    ∷ told 5 (Reply.CommittedHeld 0 (19 ∷ []))
     ∷ told 5 Reply.Okay
     ∷ told 5 Reply.Okay
-    ∷ told 5 (Reply.Committed 1 None)
+    ∷ told 5 (Reply.Committed 1)
     ∷ told 5 Reply.Okay
     ∷ told 5 Reply.Okay
     ∷ told 5 (Reply.Refused Errno.NoSpace)
-    ∷ told 5 (Reply.Committed 0 None)
+    ∷ told 5 (Reply.Committed 0)
     ∷ told 5 (Reply.Refused Errno.Invalid)
     ∷ told 5 (Reply.Refused Errno.Invalid)
     ∷ told 5 (Reply.Refused Errno.Invalid)
@@ -252,52 +252,52 @@ list11_steps =
     ∷ Step.Mount 8 65536 1024
     ∷ Step.Call 8 1 (Request.Alloc 600 1 false) Answer.None
     ∷ Step.Call 8 1 (Request.Read 1 140) (Answer.Content ((34 ∷ 34 ∷ 34 ∷ 17 ∷ 17 ∷ []) ++ replicate 4091 1))
-    ∷ Step.Call 8 1 (Request.Log 1 140 0 ((90 ∷ []))) Answer.None
+    ∷ Step.Call 8 1 (Request.Log 0 1 140 ((90 ∷ []))) Answer.None
     ∷ Step.Call 8 1 (Request.Commit 1) Answer.None
     ∷ Step.Call 8 1 Request.Force Answer.None
     ∷ Step.Call 8 1 Request.Push Answer.None
     ∷ Step.Post (name 8 1 JobKind.Flush 1)
     ∷ Step.Call 8 1 (Request.Alloc 32 1 false) Answer.None
     ∷ Step.Post (name 8 1 JobKind.Ckpt 2)
-    ∷ Step.Call 8 1 (Request.Log 2 144 767 ((63 ∷ []))) Answer.None
+    ∷ Step.Call 8 1 (Request.Log 767 2 144 ((63 ∷ []))) Answer.None
     ∷ Step.Call 8 1 (Request.Alloc 1000 1 false) Answer.None
     ∷ Step.Call 8 1 (Request.Alloc 559 1 false) Answer.None
     ∷ Step.Call 8 1 (Request.Read 4 144) (Answer.Content (replicate 4096 51))
-    ∷ Step.Call 8 1 (Request.Log 4 144 2110 (replicate 5 255 ++ replicate 4 17 ++ replicate 291 0)) Answer.None
+    ∷ Step.Call 8 1 (Request.Log 2110 4 144 (replicate 5 255 ++ replicate 4 17 ++ replicate 291 0)) Answer.None
     ∷ Step.Call 8 1 (Request.Hold 4 144) Answer.None
     ∷ Step.Call 8 1 (Request.Alloc 2192 1 false) Answer.None
     ∷ Step.Call 8 1 (Request.Read 5 270) (Answer.Content ((0 ∷ 0 ∷ 0 ∷ []) ++ replicate 297 17 ++ replicate 3796 1))
-    ∷ Step.Call 8 1 (Request.Log 5 270 17 ((49 ∷ 159 ∷ 191 ∷ []))) Answer.None
+    ∷ Step.Call 8 1 (Request.Log 17 5 270 ((49 ∷ 159 ∷ 191 ∷ []))) Answer.None
     ∷ Step.Call 8 1 (Request.Read 5 182) (Answer.Content ((17 ∷ []) ++ replicate 4095 238))
-    ∷ Step.Call 8 1 (Request.Log 5 182 9 ((17 ∷ 17 ∷ 17 ∷ []))) Answer.None
+    ∷ Step.Call 8 1 (Request.Log 9 5 182 ((17 ∷ 17 ∷ 17 ∷ []))) Answer.None
     ∷ Step.Call 8 1 (Request.Read 5 165) (Answer.Content (replicate 4096 85))
-    ∷ Step.Call 8 1 (Request.Log 5 165 28 ((122 ∷ 220 ∷ 96 ∷ []))) Answer.None
+    ∷ Step.Call 8 1 (Request.Log 28 5 165 ((122 ∷ 220 ∷ 96 ∷ []))) Answer.None
     ∷ Step.Call 8 1 (Request.Read 5 77) (Answer.Content ((214 ∷ []) ++ replicate 4095 0))
-    ∷ Step.Call 8 1 (Request.Log 5 77 14 ((170 ∷ 170 ∷ 170 ∷ []))) Answer.None
+    ∷ Step.Call 8 1 (Request.Log 14 5 77 ((170 ∷ 170 ∷ 170 ∷ []))) Answer.None
     ∷ Step.Call 8 1 (Request.Read 5 120) (Answer.Content (replicate 5 0 ++ replicate 125 170 ++ replicate 3966 1))
-    ∷ Step.Call 8 1 (Request.Log 5 120 74 ((82 ∷ 175 ∷ 161 ∷ []))) Answer.None
+    ∷ Step.Call 8 1 (Request.Log 74 5 120 ((82 ∷ 175 ∷ 161 ∷ []))) Answer.None
     ∷ Step.Take 5 (name 8 1 JobKind.Flush 1)
     ∷ Step.Take 1 (name 8 1 JobKind.Ckpt 2)
     ∷ Step.Call 8 1 (Request.Read 5 356) (Answer.Content (replicate 4096 119))
     ∷ Step.Call 8 1 (Request.Inval 4 144) Answer.None
-    ∷ Step.Call 8 1 (Request.Log 5 356 7 ((0 ∷ 0 ∷ 0 ∷ []))) Answer.None
+    ∷ Step.Call 8 1 (Request.Log 7 5 356 ((0 ∷ 0 ∷ 0 ∷ []))) Answer.None
     ∷ Step.Call 8 1 (Request.Read 5 49) (Answer.Content (replicate 4096 85))
     ∷ Step.Call 8 1 (Request.Commit 2) Answer.None
-    ∷ Step.Call 8 1 (Request.Log 5 49 94 ((255 ∷ 255 ∷ 0 ∷ []))) Answer.None
+    ∷ Step.Call 8 1 (Request.Log 94 5 49 ((255 ∷ 255 ∷ 0 ∷ []))) Answer.None
     ∷ Step.Flush 5 (name 8 1 JobKind.Flush 1) (record { count = 0; writes = (false ∷ false ∷ false ∷ false ∷ false ∷ false ∷ false ∷ false ∷ []); sync = false })
     ∷ Step.Begin 1 (name 8 1 JobKind.Ckpt 2)
     ∷ Step.End 1 (name 8 1 JobKind.Ckpt 2) (record { taken = 1; sync = Some true })
     ∷ Step.Call 8 1 (Request.Read 5 287) (Answer.Content ((17 ∷ []) ++ replicate 4095 238))
-    ∷ Step.Call 8 1 (Request.Log 5 287 21 ((154 ∷ 48 ∷ 115 ∷ []))) Answer.None
+    ∷ Step.Call 8 1 (Request.Log 21 5 287 ((154 ∷ 48 ∷ 115 ∷ []))) Answer.None
     ∷ Step.Call 8 1 (Request.Read 5 126) (Answer.Content (replicate 4 34 ++ (170 ∷ []) ++ replicate 4091 238))
-    ∷ Step.Call 8 1 (Request.Log 5 126 70 ((177 ∷ 123 ∷ 14 ∷ []))) Answer.None
+    ∷ Step.Call 8 1 (Request.Log 70 5 126 ((177 ∷ 123 ∷ 14 ∷ []))) Answer.None
     ∷ Step.Call 8 1 (Request.Read 5 157) (Answer.Content (replicate 4 255 ++ replicate 7 17 ++ replicate 8 0 ++ replicate 5 17 ++ replicate 7 170 ++ replicate 99 34 ++ replicate 3966 1))
-    ∷ Step.Call 8 1 (Request.Log 5 157 31 ((0 ∷ 0 ∷ 170 ∷ []))) Answer.None
+    ∷ Step.Call 8 1 (Request.Log 31 5 157 ((0 ∷ 0 ∷ 170 ∷ []))) Answer.None
     ∷ Step.Call 8 1 (Request.Read 5 306) Answer.Failed
     ∷ Step.Show 8
-    ∷ Step.Call 8 1 (Request.Log 5 306 0 ((71 ∷ 29 ∷ 71 ∷ []))) Answer.None
+    ∷ Step.Call 8 1 (Request.Log 0 5 306 ((71 ∷ 29 ∷ 71 ∷ []))) Answer.None
     ∷ Step.Call 8 1 (Request.Read 5 396) Answer.None
-    ∷ Step.Call 8 1 (Request.Log 5 396 82 ((17 ∷ 17 ∷ 17 ∷ []))) Answer.None
+    ∷ Step.Call 8 1 (Request.Log 82 5 396 ((17 ∷ 17 ∷ 17 ∷ []))) Answer.None
     ∷ Step.Call 8 1 (Request.Commit 5) Answer.None
     ∷ Step.Call 8 1 Request.Force Answer.None
     ∷ Step.Call 8 1 Request.Push Answer.None
@@ -314,13 +314,13 @@ list11_steps =
     ∷ Step.Call 8 2 (Request.Read 1 0) (Answer.Content (replicate 4096 85))
     ∷ Step.Call 8 2 Request.Force Answer.None
     ∷ Step.Call 8 2 (Request.Get 2 0) Answer.None
-    ∷ Step.Call 8 2 (Request.Log 2 0 2304 ((170 ∷ 170 ∷ []) ++ replicate 125 17)) Answer.None
+    ∷ Step.Call 8 2 (Request.Log 2304 2 0 ((170 ∷ 170 ∷ []) ++ replicate 125 17)) Answer.None
     ∷ Step.Call 8 2 (Request.Commit 2) Answer.None
     ∷ Step.Call 8 2 (Request.Get 1 0) Answer.None
-    ∷ Step.Call 8 2 (Request.Log 1 0 2432 ((4 ∷ 4 ∷ []))) Answer.None
+    ∷ Step.Call 8 2 (Request.Log 2432 1 0 ((4 ∷ 4 ∷ []))) Answer.None
     ∷ Step.Call 8 2 (Request.Commit 1) Answer.None
     ∷ Step.Call 8 2 (Request.Get 2 0) Answer.None
-    ∷ Step.Call 8 2 (Request.Log 2 0 2560 (replicate 4 34)) Answer.None
+    ∷ Step.Call 8 2 (Request.Log 2560 2 0 (replicate 4 34)) Answer.None
     ∷ Step.Call 8 2 (Request.Commit 2) Answer.None
     ∷ Step.Call 8 2 (Request.Alloc 5000 1 false) Answer.None
     ∷ Step.Call 8 2 (Request.Alloc 4144 1 true) Answer.None
@@ -338,15 +338,15 @@ list11_steps =
     ∷ Step.Begin 1 (name 8 2 JobKind.Ckpt 1)
     ∷ Step.End 1 (name 8 2 JobKind.Ckpt 1) (record { taken = 1; sync = Some true })
     ∷ Step.Call 8 2 (Request.Get 5 0) Answer.None
-    ∷ Step.Call 8 2 (Request.Log 5 0 2944 ((0 ∷ 255 ∷ []))) Answer.None
+    ∷ Step.Call 8 2 (Request.Log 2944 5 0 ((0 ∷ 255 ∷ []))) Answer.None
     ∷ Step.Call 8 2 (Request.Release 0) Answer.None
-    ∷ Step.Call 8 2 (Request.Log 5 0 1792 (replicate 129 255)) Answer.None
+    ∷ Step.Call 8 2 (Request.Log 1792 5 0 (replicate 129 255)) Answer.None
     ∷ Step.Call 8 2 (Request.Commit 5) Answer.None
     ∷ Step.Call 8 2 (Request.Get 3 0) Answer.None
-    ∷ Step.Call 8 2 (Request.Log 3 0 2175 (replicate 4 0 ++ (34 ∷ 34 ∷ 34 ∷ []) ++ replicate 120 17)) Answer.None
+    ∷ Step.Call 8 2 (Request.Log 2175 3 0 (replicate 4 0 ++ (34 ∷ 34 ∷ 34 ∷ []) ++ replicate 120 17)) Answer.None
     ∷ Step.Call 8 2 (Request.Commit 3) Answer.None
     ∷ Step.Call 8 2 (Request.Get 6 0) Answer.None
-    ∷ Step.Call 8 2 (Request.Log 6 0 597 ((159 ∷ []))) Answer.None
+    ∷ Step.Call 8 2 (Request.Log 597 6 0 ((159 ∷ []))) Answer.None
     ∷ Step.Call 8 2 (Request.Commit 6) Answer.None
     ∷ []
 
@@ -357,7 +357,7 @@ list11_said =
     ∷ told 8 (Reply.Trans 1)
     ∷ told 8 Reply.Okay
     ∷ told 8 Reply.Okay
-    ∷ told 8 (Reply.Committed 1 None)
+    ∷ told 8 (Reply.Committed 1)
     ∷ told 8 (Reply.Wait 1)
     ∷ told 8 Reply.Okay
     ∷ told 8 Reply.Okay
@@ -386,7 +386,7 @@ list11_said =
     ∷ told 8 Reply.Okay
     ∷ told 8 Reply.Okay
     ∷ told 8 Reply.Okay
-    ∷ told 8 (Reply.Committed 0 None)
+    ∷ told 8 (Reply.Committed 0)
     ∷ told 8 Reply.Okay
     ∷ told 8 Reply.Nothing
     ∷ told 8 (Reply.Begun 1 1)
@@ -407,7 +407,7 @@ list11_said =
     ∷ told 8 (Reply.Refused Errno.Io)
     ∷ told 8 (Reply.Seen 1 (Some Reason.MetaIoError))
     ∷ told 8 (Reply.Refused Errno.Io)
-    ∷ told 8 (Reply.Committed 0 None)
+    ∷ told 8 (Reply.Committed 0)
     ∷ told 8 (Reply.Refused Errno.Io)
     ∷ told 8 (Reply.Refused Errno.Invalid)
     ∷ told 8 (Reply.Refused Errno.Io)
@@ -419,10 +419,10 @@ list11_said =
     ∷ told 8 Reply.Done
     ∷ told 8 (Reply.Refused Errno.Again)
     ∷ told 8 (Reply.Refused Errno.Invalid)
-    ∷ told 8 (Reply.Committed 0 None)
+    ∷ told 8 (Reply.Committed 0)
     ∷ told 8 Reply.Okay
     ∷ told 8 Reply.Okay
-    ∷ told 8 (Reply.Committed 1 None)
+    ∷ told 8 (Reply.Committed 1)
     ∷ told 8 (Reply.Refused Errno.Invalid)
     ∷ told 8 (Reply.Refused Errno.Invalid)
     ∷ told 8 (Reply.Refused Errno.Invalid)
@@ -445,13 +445,13 @@ list11_said =
     ∷ told 8 Reply.Okay
     ∷ told 8 (Reply.Refused Errno.Invalid)
     ∷ told 8 Reply.Okay
-    ∷ told 8 (Reply.Committed 2 None)
+    ∷ told 8 (Reply.Committed 2)
     ∷ told 8 Reply.Okay
     ∷ told 8 Reply.Okay
-    ∷ told 8 (Reply.Committed 2 None)
+    ∷ told 8 (Reply.Committed 2)
     ∷ told 8 Reply.Okay
     ∷ told 8 Reply.Okay
-    ∷ told 8 (Reply.Committed 2 None)
+    ∷ told 8 (Reply.Committed 2)
     ∷ []
 
 list11 : alone_run list11_steps ≡ list11_said
@@ -469,14 +469,14 @@ list12_steps =
     ∷ Step.Call 4 1 (Request.Alloc 180 1 false) Answer.None
     ∷ Step.Call 4 1 (Request.Read 1 144) (Answer.Content (replicate 130 255 ++ replicate 3966 0))
     ∷ Step.Call 4 1 (Request.Read 1 123) (Answer.Content ((220 ∷ []) ++ replicate 4095 238))
-    ∷ Step.Call 4 1 (Request.Log 1 123 0 (replicate 4096 90)) Answer.None
+    ∷ Step.Call 4 1 (Request.Log 0 1 123 (replicate 4096 90)) Answer.None
     ∷ Step.Call 4 1 (Request.Commit 1) Answer.None
     ∷ Step.Call 4 1 Request.Force Answer.None
     ∷ Step.Call 4 1 Request.Push Answer.None
     ∷ Step.Call 4 1 (Request.Alloc 175 1 false) Answer.None
     ∷ Step.Call 4 1 (Request.Alloc 180 1 false) Answer.None
     ∷ Step.Call 4 1 (Request.Read 3 144) Answer.None
-    ∷ Step.Call 4 1 (Request.Log 3 144 0 (replicate 4096 90)) Answer.None
+    ∷ Step.Call 4 1 (Request.Log 0 3 144 (replicate 4096 90)) Answer.None
     ∷ Step.Call 4 1 (Request.Commit 3) Answer.None
     ∷ Step.Call 4 1 Request.Force Answer.None
     ∷ Step.Call 4 1 (Request.Read 2 144) Answer.None
@@ -486,14 +486,14 @@ list12_steps =
     ∷ Step.Call 4 1 (Request.Alloc 593 1 false) Answer.None
     ∷ Step.Call 4 1 Request.Force Answer.None
     ∷ Step.Call 4 1 (Request.Get 4 144) Answer.None
-    ∷ Step.Call 4 1 (Request.Log 4 144 256 ((102 ∷ []))) Answer.None
+    ∷ Step.Call 4 1 (Request.Log 256 4 144 ((102 ∷ []))) Answer.None
     ∷ Step.Call 4 1 (Request.Inval 4 144) Answer.None
     ∷ Step.Call 4 1 (Request.Commit 4) Answer.None
     ∷ Step.Call 4 1 (Request.Get 2 144) Answer.None
-    ∷ Step.Call 4 1 (Request.Log 2 144 255 (replicate 5 170 ++ replicate 123 0)) Answer.None
+    ∷ Step.Call 4 1 (Request.Log 255 2 144 (replicate 5 170 ++ replicate 123 0)) Answer.None
     ∷ Step.Call 4 1 (Request.Commit 2) Answer.None
     ∷ Step.Call 4 1 (Request.Get 6 144) Answer.None
-    ∷ Step.Call 4 1 (Request.Log 6 144 1444 ((34 ∷ 34 ∷ 34 ∷ []) ++ replicate 4 17 ++ replicate 4 170 ++ (255 ∷ []) ++ replicate 4 34 ++ (0 ∷ []) ++ replicate 111 34)) Answer.None
+    ∷ Step.Call 4 1 (Request.Log 1444 6 144 ((34 ∷ 34 ∷ 34 ∷ []) ++ replicate 4 17 ++ replicate 4 170 ++ (255 ∷ []) ++ replicate 4 34 ++ (0 ∷ []) ++ replicate 111 34)) Answer.None
     ∷ Step.Call 4 1 (Request.Commit 6) Answer.None
     ∷ Step.Call 4 1 (Request.Read 5 208) (Answer.Content (replicate 4096 0))
     ∷ Step.Call 4 1 (Request.Alloc 976 1 false) Answer.None
@@ -502,7 +502,7 @@ list12_steps =
     ∷ Step.Call 4 1 (Request.Relse 5 208) Answer.None
     ∷ Step.Call 4 1 (Request.Hold 5 208) Answer.None
     ∷ Step.Call 4 1 (Request.Alloc 559 1 true) Answer.None
-    ∷ Step.Call 4 1 (Request.Log 5 208 0 (replicate 4096 51)) Answer.None
+    ∷ Step.Call 4 1 (Request.Log 0 5 208 (replicate 4096 51)) Answer.None
     ∷ Step.Call 4 1 (Request.Alloc 2000 1 false) Answer.None
     ∷ Step.Call 4 1 (Request.Inval 5 208) Answer.None
     ∷ Step.Call 4 1 (Request.Read 7 208) Answer.None
@@ -523,18 +523,18 @@ list12_steps =
     ∷ Step.Call 4 1 (Request.Get 6 144) Answer.None
     ∷ Step.Call 4 1 (Request.Hold 6 144) Answer.None
     ∷ Step.Call 4 1 Request.Unmount Answer.None
-    ∷ Step.Call 4 1 (Request.Log 7 123 3840 ((170 ∷ 170 ∷ 170 ∷ []) ++ replicate 10 34 ++ replicate 4 255 ++ (34 ∷ 34 ∷ 34 ∷ []) ++ replicate 5 170 ++ (17 ∷ 17 ∷ 17 ∷ []) ++ replicate 6 34 ++ (17 ∷ 17 ∷ []) ++ replicate 5 34 ++ replicate 14 0 ++ (34 ∷ 34 ∷ 34 ∷ []) ++ replicate 4 0 ++ (34 ∷ 34 ∷ 34 ∷ 145 ∷ 171 ∷ 11 ∷ 210 ∷ 154 ∷ 196 ∷ 38 ∷ 50 ∷ 241 ∷ 207 ∷ 18 ∷ 229 ∷ 37 ∷ 232 ∷ 12 ∷ 233 ∷ 109 ∷ 91 ∷ 83 ∷ 49 ∷ 197 ∷ 24 ∷ 136 ∷ 135 ∷ 88 ∷ 101 ∷ 99 ∷ 193 ∷ 229 ∷ 194 ∷ 190 ∷ 4 ∷ 95 ∷ 47 ∷ 240 ∷ 138 ∷ 162 ∷ 46 ∷ 26 ∷ 50 ∷ 35 ∷ 183 ∷ 131 ∷ 25 ∷ 9 ∷ 200 ∷ 3 ∷ 34 ∷ 255 ∷ 84 ∷ 208 ∷ 248 ∷ 196 ∷ 255 ∷ 81 ∷ 147 ∷ 214 ∷ 41 ∷ 119 ∷ 42 ∷ 208 ∷ 86 ∷ 110 ∷ []))) Answer.None
+    ∷ Step.Call 4 1 (Request.Log 3840 7 123 ((170 ∷ 170 ∷ 170 ∷ []) ++ replicate 10 34 ++ replicate 4 255 ++ (34 ∷ 34 ∷ 34 ∷ []) ++ replicate 5 170 ++ (17 ∷ 17 ∷ 17 ∷ []) ++ replicate 6 34 ++ (17 ∷ 17 ∷ []) ++ replicate 5 34 ++ replicate 14 0 ++ (34 ∷ 34 ∷ 34 ∷ []) ++ replicate 4 0 ++ (34 ∷ 34 ∷ 34 ∷ 145 ∷ 171 ∷ 11 ∷ 210 ∷ 154 ∷ 196 ∷ 38 ∷ 50 ∷ 241 ∷ 207 ∷ 18 ∷ 229 ∷ 37 ∷ 232 ∷ 12 ∷ 233 ∷ 109 ∷ 91 ∷ 83 ∷ 49 ∷ 197 ∷ 24 ∷ 136 ∷ 135 ∷ 88 ∷ 101 ∷ 99 ∷ 193 ∷ 229 ∷ 194 ∷ 190 ∷ 4 ∷ 95 ∷ 47 ∷ 240 ∷ 138 ∷ 162 ∷ 46 ∷ 26 ∷ 50 ∷ 35 ∷ 183 ∷ 131 ∷ 25 ∷ 9 ∷ 200 ∷ 3 ∷ 34 ∷ 255 ∷ 84 ∷ 208 ∷ 248 ∷ 196 ∷ 255 ∷ 81 ∷ 147 ∷ 214 ∷ 41 ∷ 119 ∷ 42 ∷ 208 ∷ 86 ∷ 110 ∷ []))) Answer.None
     ∷ Step.Call 4 1 (Request.ForceTo 1) Answer.None
     ∷ Step.Call 4 1 (Request.Alloc 5000 1 true) Answer.None
     ∷ Step.Call 4 1 (Request.Release 144) Answer.None
-    ∷ Step.Call 4 1 (Request.Log 6 144 1765 (replicate 6 170 ++ replicate 4 0 ++ replicate 5 170 ++ replicate 5 17 ++ replicate 107 34)) Answer.None
+    ∷ Step.Call 4 1 (Request.Log 1765 6 144 (replicate 6 170 ++ replicate 4 0 ++ replicate 5 170 ++ replicate 5 17 ++ replicate 107 34)) Answer.None
     ∷ Step.Call 4 1 (Request.Get 8 208) Answer.None
     ∷ Step.Call 4 1 (Request.Relse 6 144) Answer.None
     ∷ Step.Call 4 1 (Request.Roll 8) Answer.None
     ∷ Step.Flush 5 (name 4 1 JobKind.Flush 1) (record { count = 0; writes = (false ∷ false ∷ false ∷ false ∷ false ∷ false ∷ false ∷ false ∷ []); sync = false })
     ∷ Step.Call 4 1 (Request.Alloc 5000 1 false) Answer.None
-    ∷ Step.Call 4 1 (Request.Log 6 144 3200 (replicate 4 255 ++ (0 ∷ []) ++ replicate 7 255 ++ replicate 12 0 ++ (170 ∷ 17 ∷ 0 ∷ []) ++ replicate 4 17 ++ replicate 4 0 ++ (170 ∷ 170 ∷ []) ++ replicate 91 255)) Answer.None
-    ∷ Step.Call 4 1 (Request.Log 12 123 3067 (replicate 127 17)) Answer.None
+    ∷ Step.Call 4 1 (Request.Log 3200 6 144 (replicate 4 255 ++ (0 ∷ []) ++ replicate 7 255 ++ replicate 12 0 ++ (170 ∷ 17 ∷ 0 ∷ []) ++ replicate 4 17 ++ replicate 4 0 ++ (170 ∷ 170 ∷ []) ++ replicate 91 255)) Answer.None
+    ∷ Step.Call 4 1 (Request.Log 3067 12 123 (replicate 127 17)) Answer.None
     ∷ Step.Call 4 1 (Request.Read 6 123) Answer.None
     ∷ Step.Call 4 1 (Request.Roll 6) Answer.None
     ∷ Step.Call 4 1 (Request.Relse 6 144) Answer.None
@@ -546,7 +546,7 @@ list12_steps =
     ∷ Step.Post (name 4 1 JobKind.Ckpt 2)
     ∷ Step.Call 4 1 (Request.Roll 7) Answer.None
     ∷ Step.Call 4 1 (Request.Get 11 123) Answer.None
-    ∷ Step.Call 4 1 (Request.Log 11 123 3455 (replicate 641 0)) Answer.None
+    ∷ Step.Call 4 1 (Request.Log 3455 11 123 (replicate 641 0)) Answer.None
     ∷ Step.Call 4 1 (Request.Read 7 208) Answer.None
     ∷ Step.Call 4 1 (Request.Commit 11) Answer.None
     ∷ Step.Call 4 1 (Request.Alloc 1105 1 false) Answer.None
@@ -560,7 +560,7 @@ list12_steps =
     ∷ Step.Call 4 1 (Request.Get 14 208) Answer.None
     ∷ Step.Call 4 1 (Request.Join 14 208) Answer.None
     ∷ Step.Call 4 1 (Request.View 14 208) Answer.None
-    ∷ Step.Call 4 1 (Request.Log 14 208 511 ((0 ∷ 0 ∷ []))) Answer.None
+    ∷ Step.Call 4 1 (Request.Log 511 14 208 ((0 ∷ 0 ∷ []))) Answer.None
     ∷ Step.Post (name 4 1 JobKind.Flush 3)
     ∷ Step.Call 4 1 (Request.Commit 14) Answer.None
     ∷ Step.Take 2 (name 4 1 JobKind.Ckpt 2)
@@ -574,14 +574,14 @@ list12_said =
     ∷ told 4 Reply.Okay
     ∷ told 4 Reply.Okay
     ∷ told 4 (Reply.Refused Errno.NoSpace)
-    ∷ told 4 (Reply.Committed 0 None)
+    ∷ told 4 (Reply.Committed 0)
     ∷ told 4 Reply.Done
     ∷ told 4 Reply.Okay
     ∷ told 4 (Reply.Trans 2)
     ∷ told 4 (Reply.Trans 3)
     ∷ told 4 Reply.Okay
     ∷ told 4 (Reply.Refused Errno.NoSpace)
-    ∷ told 4 (Reply.Committed 0 None)
+    ∷ told 4 (Reply.Committed 0)
     ∷ told 4 Reply.Done
     ∷ told 4 Reply.Okay
     ∷ told 4 Reply.Okay
@@ -592,10 +592,10 @@ list12_said =
     ∷ told 4 (Reply.Refused Errno.Again)
     ∷ told 4 (Reply.Refused Errno.Invalid)
     ∷ told 4 (Reply.Refused Errno.Invalid)
-    ∷ told 4 (Reply.Committed 0 None)
+    ∷ told 4 (Reply.Committed 0)
     ∷ told 4 Reply.Okay
     ∷ told 4 (Reply.Refused Errno.NoSpace)
-    ∷ told 4 (Reply.Committed 0 None)
+    ∷ told 4 (Reply.Committed 0)
     ∷ told 4 (Reply.Refused Errno.Invalid)
     ∷ told 4 (Reply.Refused Errno.Invalid)
     ∷ told 4 (Reply.Refused Errno.Invalid)
@@ -617,10 +617,10 @@ list12_said =
     ∷ told 4 (Reply.Trans 10)
     ∷ told 4 Reply.Okay
     ∷ told 4 Reply.Okay
-    ∷ told 4 (Reply.Committed 1 None)
+    ∷ told 4 (Reply.Committed 1)
     ∷ told 4 Reply.Okay
     ∷ told 4 Reply.Okay
-    ∷ told 4 (Reply.Committed 0 (Some (123 ∷ [])))
+    ∷ told 4 (Reply.CommittedHeld 0 (123 ∷ []))
     ∷ told 4 (Reply.Refused Errno.Again)
     ∷ told 4 Reply.Okay
     ∷ told 4 (Reply.Refused Errno.Invalid)
@@ -634,7 +634,7 @@ list12_said =
     ∷ told 4 Reply.Okay
     ∷ told 4 (Reply.Refused Errno.Again)
     ∷ told 4 Reply.Kept
-    ∷ told 4 (Reply.Committed 0 None)
+    ∷ told 4 (Reply.Committed 0)
     ∷ told 4 Reply.Nothing
     ∷ told 4 (Reply.Trans 12)
     ∷ told 4 Reply.Okay
@@ -646,13 +646,13 @@ list12_said =
     ∷ told 4 (Reply.Trans 13)
     ∷ told 4 (Reply.Refused Errno.Again)
     ∷ told 4 Reply.Okay
-    ∷ told 4 (Reply.Committed 1 (Some (144 ∷ [])))
+    ∷ told 4 (Reply.CommittedHeld 1 (144 ∷ []))
     ∷ told 4 Reply.Okay
     ∷ told 4 (Reply.Refused Errno.Invalid)
     ∷ told 4 Reply.Okay
     ∷ told 4 Reply.Okay
     ∷ told 4 (Reply.Refused Errno.Again)
-    ∷ told 4 (Reply.Committed 1 None)
+    ∷ told 4 (Reply.Committed 1)
     ∷ told 4 (Reply.Trans 14)
     ∷ told 4 Reply.Okay
     ∷ told 4 (Reply.Refused Errno.Again)
@@ -660,13 +660,13 @@ list12_said =
     ∷ told 4 Reply.Okay
     ∷ told 4 (Reply.Refused Errno.Again)
     ∷ told 4 (Reply.Refused Errno.Invalid)
-    ∷ told 4 (Reply.Committed 0 None)
+    ∷ told 4 (Reply.Committed 0)
     ∷ told 4 (Reply.Refused Errno.Again)
     ∷ told 4 (Reply.Refused Errno.Invalid)
     ∷ told 4 (Reply.Refused Errno.Invalid)
     ∷ told 4 (Reply.Refused Errno.Invalid)
     ∷ told 4 Reply.Okay
-    ∷ told 4 (Reply.Committed 0 None)
+    ∷ told 4 (Reply.Committed 0)
     ∷ told 4 Reply.Okay
     ∷ told 4 Reply.Okay
     ∷ []

@@ -1,6 +1,6 @@
 -- Scripts computed over the definitions: what each step of the mount alone says, and that the list is orderly.
 -- Made by tools/row-theorems from the files of rows/.
-use Rattle.std.proofs.Common.{◌≡◌, ℕ, List, [], ◌∷◌, ◌++◌, Some, None, true, false, refl}
+use Rattle.std.proofs.Common.{◌≡◌, ℕ, List, [], ◌∷◌, ◌++◌, Some, true, false, refl}
 use Rattle.std.specs.Prelude.{replicate}
 use Rattle.xt_base.specs.Alone.{Said, alone_run}
 use Rattle.xt_base.specs.Chunks.{chunks_where}
@@ -32,7 +32,7 @@ row01_steps =
     Step.Mount 0 65536 1024
     ∷ Step.Call 0 1 (Request.Alloc 5000 1 false) Answer.None
     ∷ Step.Call 0 1 (Request.Get 1 7) Answer.None
-    ∷ Step.Call 0 1 (Request.Log 1 7 0 (replicate 4096 170)) Answer.None
+    ∷ Step.Call 0 1 (Request.Log 0 1 7 (replicate 4096 170)) Answer.None
     ∷ Step.Call 0 1 (Request.Commit 1) Answer.None
     ∷ Step.Call 0 1 Request.Force Answer.None
     ∷ Step.Post (name 0 1 JobKind.Ckpt 1)
@@ -48,7 +48,7 @@ row01_said =
     ∷ told 0 (Reply.Trans 1)
     ∷ told 0 Reply.Okay
     ∷ told 0 Reply.Okay
-    ∷ told 0 (Reply.Committed 1 None)
+    ∷ told 0 (Reply.Committed 1)
     ∷ told 0 (Reply.Wait 1)
     ∷ told 0 Reply.Okay
     ∷ told 0 Reply.Okay
@@ -71,7 +71,7 @@ row02_steps =
     Step.Mount 0 65536 1024
     ∷ Step.Call 0 1 (Request.Alloc 176 1 false) Answer.None
     ∷ Step.Call 0 1 (Request.Read 1 7) (Answer.Content (replicate 4096 0))
-    ∷ Step.Call 0 1 (Request.Log 1 7 130 ((1 ∷ 2 ∷ []))) Answer.None
+    ∷ Step.Call 0 1 (Request.Log 130 1 7 ((1 ∷ 2 ∷ []))) Answer.None
     ∷ Step.Call 0 1 (Request.Commit 1) Answer.None
     ∷ Step.Call 0 1 Request.Force Answer.None
     ∷ Step.Post (name 0 1 JobKind.Ckpt 1)
@@ -86,7 +86,7 @@ row02_said =
     ∷ told 0 (Reply.Trans 1)
     ∷ told 0 Reply.Okay
     ∷ told 0 Reply.Okay
-    ∷ told 0 (Reply.Committed 1 None)
+    ∷ told 0 (Reply.Committed 1)
     ∷ told 0 (Reply.Wait 1)
     ∷ told 0 Reply.Okay
     ∷ told 0 Reply.Okay
@@ -108,11 +108,11 @@ row03_steps =
     Step.Mount 0 65536 1024
     ∷ Step.Call 0 1 (Request.Alloc 176 1 false) Answer.None
     ∷ Step.Call 0 1 (Request.Read 1 7) (Answer.Content (replicate 4096 0))
-    ∷ Step.Call 0 1 (Request.Log 1 7 0 ((17 ∷ []))) Answer.None
+    ∷ Step.Call 0 1 (Request.Log 0 1 7 ((17 ∷ []))) Answer.None
     ∷ Step.Call 0 1 (Request.Commit 1) Answer.None
     ∷ Step.Call 0 1 (Request.Alloc 176 1 false) Answer.None
     ∷ Step.Call 0 1 (Request.Get 2 7) Answer.None
-    ∷ Step.Call 0 1 (Request.Log 2 7 400 ((34 ∷ []))) Answer.None
+    ∷ Step.Call 0 1 (Request.Log 400 2 7 ((34 ∷ []))) Answer.None
     ∷ Step.Call 0 1 (Request.Commit 2) Answer.None
     ∷ Step.Call 0 1 Request.Force Answer.None
     ∷ Step.Post (name 0 1 JobKind.Ckpt 1)
@@ -127,11 +127,11 @@ row03_said =
     ∷ told 0 (Reply.Trans 1)
     ∷ told 0 Reply.Okay
     ∷ told 0 Reply.Okay
-    ∷ told 0 (Reply.Committed 1 None)
+    ∷ told 0 (Reply.Committed 1)
     ∷ told 0 (Reply.Trans 2)
     ∷ told 0 Reply.Okay
     ∷ told 0 Reply.Okay
-    ∷ told 0 (Reply.Committed 1 None)
+    ∷ told 0 (Reply.Committed 1)
     ∷ told 0 (Reply.Wait 1)
     ∷ told 0 Reply.Okay
     ∷ told 0 Reply.Okay
@@ -153,12 +153,12 @@ row04_steps =
     Step.Mount 0 65536 1024
     ∷ Step.Call 0 1 (Request.Alloc 432 1 false) Answer.None
     ∷ Step.Call 0 1 (Request.Read 1 7) (Answer.Content (replicate 4096 0))
-    ∷ Step.Call 0 1 (Request.Log 1 7 127 ((1 ∷ 2 ∷ []))) Answer.None
-    ∷ Step.Call 0 1 (Request.Log 1 7 4095 ((255 ∷ []))) Answer.None
-    ∷ Step.Call 0 1 (Request.Log 1 7 4096 ((255 ∷ []))) Answer.None
-    ∷ Step.Call 0 1 (Request.Log 1 7 0 []) Answer.None
+    ∷ Step.Call 0 1 (Request.Log 127 1 7 ((1 ∷ 2 ∷ []))) Answer.None
+    ∷ Step.Call 0 1 (Request.Log 4095 1 7 ((255 ∷ []))) Answer.None
+    ∷ Step.Call 0 1 (Request.Log 4096 1 7 ((255 ∷ []))) Answer.None
+    ∷ Step.Call 0 1 (Request.Log 0 1 7 []) Answer.None
     ∷ Step.Call 0 1 (Request.Get 1 8) Answer.None
-    ∷ Step.Call 0 1 (Request.Log 1 8 0 ((255 ∷ []))) Answer.None
+    ∷ Step.Call 0 1 (Request.Log 0 1 8 ((255 ∷ []))) Answer.None
     ∷ Step.Call 0 1 (Request.Commit 1) Answer.None
     ∷ Step.Call 0 1 Request.Force Answer.None
     ∷ Step.Post (name 0 1 JobKind.Ckpt 1)
@@ -178,7 +178,7 @@ row04_said =
     ∷ told 0 (Reply.Refused Errno.Invalid)
     ∷ told 0 Reply.Okay
     ∷ told 0 (Reply.Refused Errno.Invalid)
-    ∷ told 0 (Reply.Committed 1 None)
+    ∷ told 0 (Reply.Committed 1)
     ∷ told 0 (Reply.Wait 1)
     ∷ told 0 Reply.Okay
     ∷ told 0 Reply.Okay
@@ -236,7 +236,7 @@ row06_steps =
     ∷ Step.Call 0 1 (Request.Alloc 176 1 false) Answer.None
     ∷ Step.Call 0 1 (Request.Alloc 176 1 false) Answer.None
     ∷ Step.Call 0 1 (Request.Read 1 9) (Answer.Content (replicate 4096 0))
-    ∷ Step.Call 0 1 (Request.Log 1 9 0 ((17 ∷ []))) Answer.None
+    ∷ Step.Call 0 1 (Request.Log 0 1 9 ((17 ∷ []))) Answer.None
     ∷ Step.Call 0 1 (Request.Relse 1 9) Answer.None
     ∷ Step.Call 0 1 (Request.Get 2 9) Answer.None
     ∷ Step.Call 0 1 (Request.Commit 1) Answer.None
@@ -253,7 +253,7 @@ row06_said =
     ∷ told 0 Reply.Okay
     ∷ told 0 Reply.Kept
     ∷ told 0 (Reply.Refused Errno.Again)
-    ∷ told 0 (Reply.Committed 1 None)
+    ∷ told 0 (Reply.Committed 1)
     ∷ told 0 Reply.Okay
     ∷ told 0 (Reply.Data ((17 ∷ []) ++ replicate 4095 0))
     ∷ []
@@ -289,7 +289,7 @@ row07_said =
     ∷ told 0 (Reply.Trans 1)
     ∷ told 0 Reply.Okay
     ∷ told 0 Reply.Okay
-    ∷ told 0 (Reply.Committed 0 (Some (5 ∷ [])))
+    ∷ told 0 (Reply.CommittedHeld 0 (5 ∷ []))
     ∷ told 0 (Reply.Trans 2)
     ∷ told 0 (Reply.Refused Errno.Again)
     ∷ told 0 Reply.Okay
@@ -337,7 +337,7 @@ row08_said =
     ∷ told 0 (Reply.Trans 1)
     ∷ told 0 Reply.Okay
     ∷ told 0 Reply.Okay
-    ∷ told 0 (Reply.Committed 1 None)
+    ∷ told 0 (Reply.Committed 1)
     ∷ told 0 (Reply.Trans 2)
     ∷ told 0 (Reply.Refused Errno.Again)
     ∷ told 0 (Reply.Wait 1)

@@ -1,6 +1,6 @@
 -- Scripts computed over the definitions: what each step of the mount alone says, and that the list is orderly.
 -- Made by tools/row-theorems from the files of rows/.
-use Rattle.std.proofs.Common.{◌≡◌, ℕ, List, [], ◌∷◌, ◌++◌, Some, None, true, false, refl}
+use Rattle.std.proofs.Common.{◌≡◌, ℕ, List, [], ◌∷◌, ◌++◌, Some, true, false, refl}
 use Rattle.std.specs.Prelude.{replicate}
 use Rattle.xt_base.specs.Alone.{Said, alone_run}
 use Rattle.xt_base.specs.Chunks.{chunks_where}
@@ -122,7 +122,7 @@ edge_begin_clears_steps =
     Step.Mount 0 65536 1024
     ∷ Step.Call 0 1 (Request.Alloc 176 1 false) Answer.None
     ∷ Step.Call 0 1 (Request.Read 1 7) (Answer.Content (replicate 4096 0))
-    ∷ Step.Call 0 1 (Request.Log 1 7 0 ((17 ∷ []))) Answer.None
+    ∷ Step.Call 0 1 (Request.Log 0 1 7 ((17 ∷ []))) Answer.None
     ∷ Step.Call 0 1 (Request.Commit 1) Answer.None
     ∷ Step.Call 0 1 Request.Force Answer.None
     ∷ Step.Post (name 0 1 JobKind.Ckpt 1)
@@ -130,7 +130,7 @@ edge_begin_clears_steps =
     ∷ Step.Begin 0 (name 0 1 JobKind.Ckpt 1)
     ∷ Step.Call 0 1 (Request.Alloc 176 1 false) Answer.None
     ∷ Step.Call 0 1 (Request.Get 2 7) Answer.None
-    ∷ Step.Call 0 1 (Request.Log 2 7 128 ((34 ∷ []))) Answer.None
+    ∷ Step.Call 0 1 (Request.Log 128 2 7 ((34 ∷ []))) Answer.None
     ∷ Step.Call 0 1 (Request.Commit 2) Answer.None
     ∷ Step.End 0 (name 0 1 JobKind.Ckpt 1) (record { taken = 1; sync = Some true })
     ∷ []
@@ -141,7 +141,7 @@ edge_begin_clears_said =
     ∷ told 0 (Reply.Trans 1)
     ∷ told 0 Reply.Okay
     ∷ told 0 Reply.Okay
-    ∷ told 0 (Reply.Committed 1 None)
+    ∷ told 0 (Reply.Committed 1)
     ∷ told 0 (Reply.Wait 1)
     ∷ told 0 Reply.Okay
     ∷ told 0 Reply.Okay
@@ -149,7 +149,7 @@ edge_begin_clears_said =
     ∷ told 0 (Reply.Trans 2)
     ∷ told 0 Reply.Okay
     ∷ told 0 Reply.Okay
-    ∷ told 0 (Reply.Committed 2 None)
+    ∷ told 0 (Reply.Committed 2)
     ∷ said 0 (Reply.Landed 1) (LogOffer.Piece ((88 ∷ 67 ∷ 80 ∷ 49 ∷ []) ++ replicate 7 0 ++ (1 ∷ 0 ∷ 0 ∷ 0 ∷ 1 ∷ []) ++ replicate 7 0 ++ (7 ∷ 0 ∷ 0 ∷ 0 ∷ 1 ∷ []) ++ replicate 4 0 ++ (17 ∷ []) ++ replicate 127 0 ++ (88 ∷ 67 ∷ 69 ∷ 49 ∷ 0 ∷ 0 ∷ 0 ∷ 1 ∷ []) ++ replicate 7 0 ++ (1 ∷ [])) true ∷ LogOffer.Sync true ∷ []) []
     ∷ []
 
@@ -171,9 +171,9 @@ edge_eighth_steps =
     Step.Mount 0 66055 9
     ∷ Step.Call 0 1 (Request.Alloc 8256 1 false) Answer.None
     ∷ Step.Call 0 1 (Request.Get 1 1) Answer.None
-    ∷ Step.Call 0 1 (Request.Log 1 1 0 (replicate 4096 17)) Answer.None
+    ∷ Step.Call 0 1 (Request.Log 0 1 1 (replicate 4096 17)) Answer.None
     ∷ Step.Call 0 1 (Request.Get 1 2) Answer.None
-    ∷ Step.Call 0 1 (Request.Log 1 2 0 (replicate 4096 34)) Answer.None
+    ∷ Step.Call 0 1 (Request.Log 0 1 2 (replicate 4096 34)) Answer.None
     ∷ Step.Call 0 1 (Request.Commit 1) Answer.None
     ∷ Step.Post (name 0 1 JobKind.Ckpt 1)
     ∷ []
@@ -186,7 +186,7 @@ edge_eighth_said =
     ∷ told 0 Reply.Okay
     ∷ told 0 Reply.Okay
     ∷ told 0 Reply.Okay
-    ∷ told 0 (Reply.Committed 1 None)
+    ∷ told 0 (Reply.Committed 1)
     ∷ told 0 Reply.Okay
     ∷ []
 
@@ -204,9 +204,9 @@ edge_eighth_less_steps =
     Step.Mount 0 66056 9
     ∷ Step.Call 0 1 (Request.Alloc 8256 1 false) Answer.None
     ∷ Step.Call 0 1 (Request.Get 1 1) Answer.None
-    ∷ Step.Call 0 1 (Request.Log 1 1 0 (replicate 4096 17)) Answer.None
+    ∷ Step.Call 0 1 (Request.Log 0 1 1 (replicate 4096 17)) Answer.None
     ∷ Step.Call 0 1 (Request.Get 1 2) Answer.None
-    ∷ Step.Call 0 1 (Request.Log 1 2 0 (replicate 4096 34)) Answer.None
+    ∷ Step.Call 0 1 (Request.Log 0 1 2 (replicate 4096 34)) Answer.None
     ∷ Step.Call 0 1 (Request.Commit 1) Answer.None
     ∷ []
 
@@ -218,7 +218,7 @@ edge_eighth_less_said =
     ∷ told 0 Reply.Okay
     ∷ told 0 Reply.Okay
     ∷ told 0 Reply.Okay
-    ∷ told 0 (Reply.Committed 1 None)
+    ∷ told 0 (Reply.Committed 1)
     ∷ []
 
 edge_eighth_less : alone_run edge_eighth_less_steps ≡ edge_eighth_less_said
@@ -240,8 +240,8 @@ edge_flush_failed_steps =
     ∷ Step.Call 0 1 (Request.Alloc 320 1 false) Answer.None
     ∷ Step.Call 0 1 (Request.Read 1 1) (Answer.Content (replicate 4096 0))
     ∷ Step.Call 0 1 (Request.Read 1 2) (Answer.Content (replicate 4096 0))
-    ∷ Step.Call 0 1 (Request.Log 1 1 0 ((17 ∷ []))) Answer.None
-    ∷ Step.Call 0 1 (Request.Log 1 2 0 ((34 ∷ []))) Answer.None
+    ∷ Step.Call 0 1 (Request.Log 0 1 1 ((17 ∷ []))) Answer.None
+    ∷ Step.Call 0 1 (Request.Log 0 1 2 ((34 ∷ []))) Answer.None
     ∷ Step.Call 0 1 (Request.Commit 1) Answer.None
     ∷ Step.Call 0 1 Request.Force Answer.None
     ∷ Step.Post (name 0 1 JobKind.Ckpt 1)
@@ -262,7 +262,7 @@ edge_flush_failed_said =
     ∷ told 0 Reply.Okay
     ∷ told 0 Reply.Okay
     ∷ told 0 Reply.Okay
-    ∷ told 0 (Reply.Committed 1 None)
+    ∷ told 0 (Reply.Committed 1)
     ∷ told 0 (Reply.Wait 1)
     ∷ told 0 Reply.Okay
     ∷ told 0 Reply.Okay
@@ -293,8 +293,8 @@ edge_flush_sync_steps =
     ∷ Step.Call 0 1 (Request.Alloc 320 1 false) Answer.None
     ∷ Step.Call 0 1 (Request.Read 1 1) (Answer.Content (replicate 4096 0))
     ∷ Step.Call 0 1 (Request.Read 1 2) (Answer.Content (replicate 4096 0))
-    ∷ Step.Call 0 1 (Request.Log 1 1 0 ((17 ∷ []))) Answer.None
-    ∷ Step.Call 0 1 (Request.Log 1 2 0 ((34 ∷ []))) Answer.None
+    ∷ Step.Call 0 1 (Request.Log 0 1 1 ((17 ∷ []))) Answer.None
+    ∷ Step.Call 0 1 (Request.Log 0 1 2 ((34 ∷ []))) Answer.None
     ∷ Step.Call 0 1 (Request.Commit 1) Answer.None
     ∷ Step.Call 0 1 Request.Force Answer.None
     ∷ Step.Post (name 0 1 JobKind.Ckpt 1)
@@ -315,7 +315,7 @@ edge_flush_sync_said =
     ∷ told 0 Reply.Okay
     ∷ told 0 Reply.Okay
     ∷ told 0 Reply.Okay
-    ∷ told 0 (Reply.Committed 1 None)
+    ∷ told 0 (Reply.Committed 1)
     ∷ told 0 (Reply.Wait 1)
     ∷ told 0 Reply.Okay
     ∷ told 0 Reply.Okay
@@ -379,7 +379,7 @@ edge_roll_empty_steps =
     ∷ Step.Call 0 1 (Request.Alloc 304 1 true) Answer.None
     ∷ Step.Call 0 1 (Request.Alloc 65232 1 false) Answer.None
     ∷ Step.Call 0 1 (Request.Read 1 7) (Answer.Content (replicate 4096 0))
-    ∷ Step.Call 0 1 (Request.Log 1 7 0 ((17 ∷ []))) Answer.None
+    ∷ Step.Call 0 1 (Request.Log 0 1 7 ((17 ∷ []))) Answer.None
     ∷ Step.Call 0 1 (Request.Roll 1) Answer.None
     ∷ Step.Call 0 1 (Request.Cancel 2) Answer.None
     ∷ Step.Call 0 1 (Request.Roll 1) Answer.None
@@ -395,7 +395,7 @@ edge_roll_empty_said =
     ∷ told 0 Reply.Okay
     ∷ told 0 (Reply.Refused Errno.Again)
     ∷ told 0 Reply.Okay
-    ∷ told 0 (Reply.Committed 1 None)
+    ∷ told 0 (Reply.Committed 1)
     ∷ told 0 Reply.Okay
     ∷ []
 

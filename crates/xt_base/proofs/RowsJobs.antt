@@ -35,9 +35,9 @@ row10_steps =
     ∷ Step.Call 0 1 (Request.Alloc 176 1 false) Answer.None
     ∷ Step.Call 0 1 (Request.Alloc 176 1 false) Answer.None
     ∷ Step.Call 0 1 (Request.Read 1 7) (Answer.Content (replicate 4096 0))
-    ∷ Step.Call 0 1 (Request.Log 1 7 0 ((17 ∷ []))) Answer.None
+    ∷ Step.Call 0 1 (Request.Log 0 1 7 ((17 ∷ []))) Answer.None
     ∷ Step.Call 0 1 (Request.Read 3 8) (Answer.Content (replicate 4096 0))
-    ∷ Step.Call 0 1 (Request.Log 3 8 0 ((17 ∷ []))) Answer.None
+    ∷ Step.Call 0 1 (Request.Log 0 3 8 ((17 ∷ []))) Answer.None
     ∷ Step.Call 0 1 (Request.Cancel 1) Answer.None
     ∷ Step.Show 0
     ∷ Step.Peek 0
@@ -61,7 +61,7 @@ row10_said =
     ∷ told 0 Reply.Okay
     ∷ told 0 (Reply.Seen 1 (Some Reason.CorruptIncore))
     ∷ told 0 (Reply.Refused Errno.Io)
-    ∷ told 0 (Reply.Committed 0 None)
+    ∷ told 0 (Reply.Committed 0)
     ∷ told 0 (Reply.Refused Errno.Io)
     ∷ told 0 Reply.Okay
     ∷ []
@@ -80,7 +80,7 @@ row13_slot0_steps =
     Step.Mount 0 65536 1024
     ∷ Step.Call 0 1 (Request.Alloc 5000 1 false) Answer.None
     ∷ Step.Call 0 1 (Request.Get 1 7) Answer.None
-    ∷ Step.Call 0 1 (Request.Log 1 7 0 (replicate 4096 170)) Answer.None
+    ∷ Step.Call 0 1 (Request.Log 0 1 7 (replicate 4096 170)) Answer.None
     ∷ Step.Call 0 1 (Request.Commit 1) Answer.None
     ∷ Step.Call 0 1 Request.Force Answer.None
     ∷ Step.Post (name 0 1 JobKind.Ckpt 1)
@@ -98,7 +98,7 @@ row13_slot0_said =
     ∷ told 0 (Reply.Trans 1)
     ∷ told 0 Reply.Okay
     ∷ told 0 Reply.Okay
-    ∷ told 0 (Reply.Committed 1 None)
+    ∷ told 0 (Reply.Committed 1)
     ∷ told 0 (Reply.Wait 1)
     ∷ told 0 Reply.Okay
     ∷ told 0 Reply.Okay
@@ -123,7 +123,7 @@ row13_r1_steps =
     Step.Mount 0 65536 1024
     ∷ Step.Call 0 1 (Request.Alloc 5000 1 false) Answer.None
     ∷ Step.Call 0 1 (Request.Get 1 7) Answer.None
-    ∷ Step.Call 0 1 (Request.Log 1 7 0 (replicate 4096 170)) Answer.None
+    ∷ Step.Call 0 1 (Request.Log 0 1 7 (replicate 4096 170)) Answer.None
     ∷ Step.Call 0 1 (Request.Commit 1) Answer.None
     ∷ Step.Call 0 1 Request.Force Answer.None
     ∷ Step.Post (name 0 1 JobKind.Ckpt 1)
@@ -139,7 +139,7 @@ row13_r1_said =
     ∷ told 0 (Reply.Trans 1)
     ∷ told 0 Reply.Okay
     ∷ told 0 Reply.Okay
-    ∷ told 0 (Reply.Committed 1 None)
+    ∷ told 0 (Reply.Committed 1)
     ∷ told 0 (Reply.Wait 1)
     ∷ told 0 Reply.Okay
     ∷ told 0 Reply.Okay
@@ -165,7 +165,7 @@ row14_steps =
     ∷ Step.Show 0
     ∷ Step.Peek 0
     ∷ Step.Call 0 1 (Request.Read 1 7) (Answer.Content (replicate 4096 0))
-    ∷ Step.Call 0 1 (Request.Log 1 7 0 ((17 ∷ []))) Answer.None
+    ∷ Step.Call 0 1 (Request.Log 0 1 7 ((17 ∷ []))) Answer.None
     ∷ Step.Call 0 1 (Request.Read 1 8) Answer.Failed
     ∷ Step.Show 0
     ∷ Step.Peek 0
@@ -201,17 +201,17 @@ row15_steps =
     Step.Mount 0 65536 1024
     ∷ Step.Call 0 1 (Request.Alloc 176 1 false) Answer.None
     ∷ Step.Call 0 1 (Request.Read 1 7) (Answer.Content (replicate 4096 0))
-    ∷ Step.Call 0 1 (Request.Log 1 7 0 ((17 ∷ []))) Answer.None
-    ∷ Step.Call 0 1 (Request.Log 1 7 128 ((34 ∷ []))) Answer.None
+    ∷ Step.Call 0 1 (Request.Log 0 1 7 ((17 ∷ []))) Answer.None
+    ∷ Step.Call 0 1 (Request.Log 128 1 7 ((34 ∷ []))) Answer.None
     ∷ Step.Call 0 1 (Request.View 1 7) Answer.None
     ∷ Step.Call 0 1 (Request.Roll 1) Answer.None
     ∷ Step.Call 0 1 (Request.Alloc 176 2 true) Answer.None
     ∷ Step.Call 0 1 (Request.Read 2 8) (Answer.Content (replicate 4096 0))
-    ∷ Step.Call 0 1 (Request.Log 2 8 0 ((17 ∷ []))) Answer.None
+    ∷ Step.Call 0 1 (Request.Log 0 2 8 ((17 ∷ []))) Answer.None
     ∷ Step.Call 0 1 (Request.Roll 2) Answer.None
     ∷ Step.Call 0 1 (Request.Alloc 65008 1 false) Answer.None
     ∷ Step.Call 0 1 (Request.Get 2 8) Answer.None
-    ∷ Step.Call 0 1 (Request.Log 2 8 128 ((34 ∷ []))) Answer.None
+    ∷ Step.Call 0 1 (Request.Log 128 2 8 ((34 ∷ []))) Answer.None
     ∷ Step.Call 0 1 (Request.Roll 2) Answer.None
     ∷ Step.Call 0 1 (Request.View 2 8) Answer.None
     ∷ Step.Call 0 1 (Request.Cancel 3) Answer.None
@@ -230,14 +230,14 @@ row15_said =
     ∷ told 0 (Reply.Trans 2)
     ∷ told 0 Reply.Okay
     ∷ told 0 Reply.Okay
-    ∷ told 0 (Reply.Committed 1 None)
+    ∷ told 0 (Reply.Committed 1)
     ∷ told 0 (Reply.Trans 3)
     ∷ told 0 Reply.Okay
     ∷ told 0 Reply.Okay
     ∷ told 0 (Reply.Refused Errno.Again)
     ∷ told 0 (Reply.Data ((17 ∷ []) ++ replicate 127 0 ++ (34 ∷ []) ++ replicate 3967 0))
     ∷ told 0 Reply.Okay
-    ∷ told 0 (Reply.Committed 1 None)
+    ∷ told 0 (Reply.Committed 1)
     ∷ []
 
 row15 : alone_run row15_steps ≡ row15_said
@@ -254,7 +254,7 @@ row17_steps =
     Step.Mount 0 65536 1024
     ∷ Step.Call 0 1 (Request.Alloc 176 1 false) Answer.None
     ∷ Step.Call 0 1 (Request.Read 1 7) (Answer.Content (replicate 4096 0))
-    ∷ Step.Call 0 1 (Request.Log 1 7 0 ((17 ∷ []))) Answer.None
+    ∷ Step.Call 0 1 (Request.Log 0 1 7 ((17 ∷ []))) Answer.None
     ∷ Step.Call 0 1 (Request.Commit 1) Answer.None
     ∷ Step.Call 0 1 Request.Force Answer.None
     ∷ Step.Post (name 0 1 JobKind.Ckpt 1)
@@ -262,7 +262,7 @@ row17_steps =
     ∷ Step.Begin 0 (name 0 1 JobKind.Ckpt 1)
     ∷ Step.Call 0 1 (Request.Alloc 176 1 false) Answer.None
     ∷ Step.Call 0 1 (Request.Get 2 7) Answer.None
-    ∷ Step.Call 0 1 (Request.Log 2 7 128 ((34 ∷ []))) Answer.None
+    ∷ Step.Call 0 1 (Request.Log 128 2 7 ((34 ∷ []))) Answer.None
     ∷ Step.Call 0 1 (Request.Commit 2) Answer.None
     ∷ Step.End 0 (name 0 1 JobKind.Ckpt 1) (record { taken = 1; sync = Some true })
     ∷ Step.Call 0 1 Request.Push Answer.None
@@ -286,7 +286,7 @@ row17_said =
     ∷ told 0 (Reply.Trans 1)
     ∷ told 0 Reply.Okay
     ∷ told 0 Reply.Okay
-    ∷ told 0 (Reply.Committed 1 None)
+    ∷ told 0 (Reply.Committed 1)
     ∷ told 0 (Reply.Wait 1)
     ∷ told 0 Reply.Okay
     ∷ told 0 Reply.Okay
@@ -294,7 +294,7 @@ row17_said =
     ∷ told 0 (Reply.Trans 2)
     ∷ told 0 Reply.Okay
     ∷ told 0 Reply.Okay
-    ∷ told 0 (Reply.Committed 2 None)
+    ∷ told 0 (Reply.Committed 2)
     ∷ said 0 (Reply.Landed 1) (LogOffer.Piece ((88 ∷ 67 ∷ 80 ∷ 49 ∷ []) ++ replicate 7 0 ++ (1 ∷ 0 ∷ 0 ∷ 0 ∷ 1 ∷ []) ++ replicate 7 0 ++ (7 ∷ 0 ∷ 0 ∷ 0 ∷ 1 ∷ []) ++ replicate 4 0 ++ (17 ∷ []) ++ replicate 127 0 ++ (88 ∷ 67 ∷ 69 ∷ 49 ∷ 0 ∷ 0 ∷ 0 ∷ 1 ∷ []) ++ replicate 7 0 ++ (1 ∷ [])) true ∷ LogOffer.Sync true ∷ []) []
     ∷ told 0 Reply.Okay
     ∷ told 0 Reply.Okay
@@ -325,7 +325,7 @@ row19_steps =
     Step.Mount 0 65536 1024
     ∷ Step.Call 0 1 (Request.Alloc 176 1 false) Answer.None
     ∷ Step.Call 0 1 (Request.Read 1 7) (Answer.Content (replicate 4096 0))
-    ∷ Step.Call 0 1 (Request.Log 1 7 130 ((1 ∷ 2 ∷ []))) Answer.None
+    ∷ Step.Call 0 1 (Request.Log 130 1 7 ((1 ∷ 2 ∷ []))) Answer.None
     ∷ Step.Call 0 1 (Request.Commit 1) Answer.None
     ∷ Step.Call 0 1 Request.Force Answer.None
     ∷ Step.Post (name 0 1 JobKind.Ckpt 1)
@@ -350,7 +350,7 @@ row19_said =
     ∷ told 0 (Reply.Trans 1)
     ∷ told 0 Reply.Okay
     ∷ told 0 Reply.Okay
-    ∷ told 0 (Reply.Committed 1 None)
+    ∷ told 0 (Reply.Committed 1)
     ∷ told 0 (Reply.Wait 1)
     ∷ told 0 Reply.Okay
     ∷ told 0 Reply.Okay
@@ -421,7 +421,7 @@ relogged_steps =
     Step.Mount 0 65536 1024
     ∷ Step.Call 0 1 (Request.Alloc 5000 1 false) Answer.None
     ∷ Step.Call 0 1 (Request.Get 1 7) Answer.None
-    ∷ Step.Call 0 1 (Request.Log 1 7 0 (replicate 4096 170)) Answer.None
+    ∷ Step.Call 0 1 (Request.Log 0 1 7 (replicate 4096 170)) Answer.None
     ∷ Step.Call 0 1 (Request.Commit 1) Answer.None
     ∷ Step.Call 0 1 Request.Force Answer.None
     ∷ Step.Post (name 0 1 JobKind.Ckpt 1)
@@ -431,7 +431,7 @@ relogged_steps =
     ∷ Step.Call 0 1 Request.Force Answer.None
     ∷ Step.Call 0 1 (Request.Alloc 176 1 false) Answer.None
     ∷ Step.Call 0 1 (Request.Get 2 7) Answer.None
-    ∷ Step.Call 0 1 (Request.Log 2 7 0 ((187 ∷ []))) Answer.None
+    ∷ Step.Call 0 1 (Request.Log 0 2 7 ((187 ∷ []))) Answer.None
     ∷ Step.Call 0 1 (Request.Commit 2) Answer.None
     ∷ Step.Call 0 1 Request.Force Answer.None
     ∷ Step.Post (name 0 1 JobKind.Ckpt 2)
@@ -446,7 +446,7 @@ relogged_said =
     ∷ told 0 (Reply.Trans 1)
     ∷ told 0 Reply.Okay
     ∷ told 0 Reply.Okay
-    ∷ told 0 (Reply.Committed 1 None)
+    ∷ told 0 (Reply.Committed 1)
     ∷ told 0 (Reply.Wait 1)
     ∷ told 0 Reply.Okay
     ∷ told 0 Reply.Okay
@@ -456,7 +456,7 @@ relogged_said =
     ∷ told 0 (Reply.Trans 2)
     ∷ told 0 Reply.Okay
     ∷ told 0 Reply.Okay
-    ∷ told 0 (Reply.Committed 2 None)
+    ∷ told 0 (Reply.Committed 2)
     ∷ told 0 (Reply.Wait 2)
     ∷ told 0 Reply.Okay
     ∷ told 0 Reply.Okay
@@ -489,7 +489,7 @@ refused_allocs_said =
     ∷ told 0 (Reply.Refused Errno.Invalid)
     ∷ told 0 (Reply.Trans 1)
     ∷ told 0 (Reply.Refused Errno.Again)
-    ∷ told 0 (Reply.Committed 0 None)
+    ∷ told 0 (Reply.Committed 0)
     ∷ told 0 (Reply.Trans 2)
     ∷ []
 

@@ -8,7 +8,7 @@ use Rattle.xt_base.proofs.LegLemmas.{rises_with_edits, rises_with_lost}
 use Rattle.xt_base.proofs.RisingLemmas.{each_at, each_filter, each_map, each_put, each_set_at, each_without, rises_filter, rises_put}
 use Rattle.xt_base.proofs.SoundParts.{cost_added, granted_less, parts_aborted, parts_given_up, parts_rolled}
 use Rattle.xt_base.proofs.SoundSteps.{is_none_not, is_none_some, left_true, listed_parts, not_marked, passes_first, ready_ended, shut_for_some, sound_asks_ckpt, sound_asks_flush, sound_changed, sound_either, sound_settling, sound_unless, unlisted_by}
-use Rattle.xt_base.specs.Calls.{Outcome, asks_ckpt, asks_flush, cancel, closed, commit_number, first_of, gives, held_of, inval, inval_refusals, invalidated, io_of, is_no_room, is_own, legs_after, not_fresh, roll, shut_down, shut_if, ungranted, with_leg, with_legs}
+use Rattle.xt_base.specs.Calls.{Outcome, asks_ckpt, asks_flush, cancel, closed, commit_number, committed_of, first_of, gives, held_of, inval, inval_refusals, invalidated, io_of, is_no_room, is_own, legs_after, not_fresh, roll, shut_down, shut_if, ungranted, with_leg, with_legs}
 use Rattle.xt_base.specs.Legs.{aborted, change_of, clean_leg, ended, is_dirty, is_lost, is_stale, with_lost}
 use Rattle.xt_base.specs.Maps.{at, is_in, without_member}
 use Rattle.xt_base.specs.Settle.{Dropped, settled}
@@ -18,7 +18,7 @@ use Rattle.xt_base.specs.State.{Change, Leg, State, Transaction}
 use Rattle.xt_base.specs.declared.steps.Errno.TheVariants.{Again, Invalid, NoSpace}
 use Rattle.xt_base.specs.declared.steps.Owner.{Owner}
 use Rattle.xt_base.specs.declared.steps.Reason.TheVariants.{CorruptIncore}
-use Rattle.xt_base.specs.declared.steps.Reply.TheVariants.{Committed, Okay, Refused}
+use Rattle.xt_base.specs.declared.steps.Reply.TheVariants.{Okay, Refused}
 
 -- ---- inval
 either_state : (b : Bool) (x y : State) → (b ≡ true → IsSound x) → (b ≡ false → IsSound y) → IsSound (if b then x else y)
@@ -180,7 +180,7 @@ module _ (dropped : Dropped) (t : ℕ) (s : State) (trans : Transaction) (h : Is
   pub sound_roll : IsSound (roll dropped t s trans).state
   sound_roll =
       let up : Outcome = gives (io_of (held_of trans.leg.holds)) (settled dropped (with_legs t 0 trans (aborted t trans.leg s))) in
-      let on : Outcome = gives (Committed (commit_number trans.leg s) (held_of trans.leg.holds)) (settled dropped (with_legs t (legs_after trans.legs) trans (ended t trans.leg s))) in
+      let on : Outcome = gives (committed_of (commit_number trans.leg s) (held_of trans.leg.holds)) (settled dropped (with_legs t (legs_after trans.legs) trans (ended t trans.leg s))) in
       let wait : Outcome = gives (Refused Again) (asks_flush (asks_ckpt s)) in
       sound_either (not trans.perm) (gives (Refused Invalid) s) (if is_some s.shut then up else (if is_no_room t trans s then wait else on)) (λ refused. h)
       (λ may.

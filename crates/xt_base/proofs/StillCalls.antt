@@ -9,7 +9,7 @@ use Rattle.xt_base.proofs.SoundBuffers.{held_no_trans}
 use Rattle.xt_base.proofs.SoundParts.{apart_from, none_else}
 use Rattle.xt_base.proofs.SoundSteps.{passes_first}
 use Rattle.xt_base.proofs.StillLemmas.{IsStill, fact_either, fact_if, fact_unless, fact_with_trans, still_aborted, still_busied, still_closed, still_ended, still_landed, still_leg, still_legs, still_made_fresh, still_not_fresh, still_owner, still_same, still_settled, still_shut_if, still_then, still_unowned}
-use Rattle.xt_base.specs.Calls.{Outcome, alloc, alloc_refusals, allocated, alone_with, answered, asks_ckpt, asks_flush, at_end, brought, busied, cancel, closed, commit, commit_number, edited, first_of, force, force_to, force_to_refusals, get, get_refusals, gives, held_of, hold, inval, inval_refusals, invalidated, io_of, is_absent, is_elsewhere, is_flight, is_fresh, is_held, is_kept, is_no_room, is_own, join, join_refusals, legs_after, locked, log, log_refusals, logged_leg, made_fresh, new_trans, not_fresh, push, read, read_refusals, release, released, relse, roll, seen, shut_down, shut_if, unhold, unmount, unowned, view, waits_for, with_leg, with_legs, with_owner, with_trans, without_hold}
+use Rattle.xt_base.specs.Calls.{Outcome, alloc, alloc_refusals, allocated, alone_with, answered, asks_ckpt, asks_flush, at_end, brought, busied, cancel, closed, commit, commit_number, committed_of, edited, first_of, force, force_to, force_to_refusals, get, get_refusals, gives, held_of, hold, inval, inval_refusals, invalidated, io_of, is_absent, is_elsewhere, is_flight, is_fresh, is_held, is_kept, is_no_room, is_own, join, join_refusals, legs_after, locked, log, log_refusals, logged_leg, made_fresh, new_trans, not_fresh, push, read, read_refusals, release, released, relse, roll, seen, shut_down, shut_if, unhold, unmount, unowned, view, waits_for, with_leg, with_legs, with_owner, with_trans, without_hold}
 use Rattle.xt_base.specs.Chunks.{marks}
 use Rattle.xt_base.specs.Jobs.{begin, begun, cleaned, end, end_of, failed, finished, flush, flush_plan, flushed, gone, is_ok, landed, landed_items, next_pieces, posted, renewed, unflushed, waits_on}
 use Rattle.xt_base.specs.Laws.{names}
@@ -27,7 +27,7 @@ use Rattle.xt_base.specs.declared.steps.LogAnswers.{LogAnswers}
 use Rattle.xt_base.specs.declared.steps.Owner.TheVariants.{Trans}
 use Rattle.xt_base.specs.declared.steps.Reason.TheVariants.{CorruptIncore, LogIoError, MetaIoError}
 use Rattle.xt_base.specs.declared.steps.Reply.{Reply}
-use Rattle.xt_base.specs.declared.steps.Reply.TheVariants.{Committed, Done, Failed, Free, Kept, Landed, Nothing, Okay, Refused, Wait}
+use Rattle.xt_base.specs.declared.steps.Reply.TheVariants.{Done, Failed, Free, Kept, Landed, Nothing, Okay, Refused, Wait}
 use Rattle.xt_base.specs.declared.steps.Request.{Request}
 
 module _ (t b : ℕ) (s : State) (h : IsSound s) (own : is_own s t b ≡ true) where
@@ -188,7 +188,7 @@ module _ (t b : ℕ) (s : State) (h : IsSound s) (own : is_own s t b ≡ true) w
     still_commit : (dropped : Dropped) → IsStill t b s (commit dropped u s trans).state
     still_commit dropped =
         fact_either (IsStill t b s) (is_dirty trans.leg && is_some s.shut) (gives (io_of (held_of trans.leg.holds)) (settled dropped (closed u (aborted u trans.leg s))))
-        (gives (Committed (commit_number trans.leg s) (held_of trans.leg.holds)) (settled dropped (closed u (ended u trans.leg s))))
+        (gives (committed_of (commit_number trans.leg s) (held_of trans.leg.holds)) (settled dropped (closed u (ended u trans.leg s))))
         (λ up. still_settled t b its_count s its_owner dropped (closed u (aborted u trans.leg s)) (gone_after (aborted u trans.leg s) given_up))
         (λ on. still_settled t b its_count s its_owner dropped (closed u (ended u trans.leg s)) (gone_after (ended u trans.leg s) went_on))
 
@@ -200,7 +200,7 @@ module _ (t b : ℕ) (s : State) (h : IsSound s) (own : is_own s t b ≡ true) w
     still_roll : (dropped : Dropped) → IsStill t b s (roll dropped u s trans).state
     still_roll dropped =
         let up : Outcome = gives (io_of (held_of trans.leg.holds)) (settled dropped (with_legs u 0 trans (aborted u trans.leg s))) in
-        let on : Outcome = gives (Committed (commit_number trans.leg s) (held_of trans.leg.holds)) (settled dropped (with_legs u (legs_after trans.legs) trans (ended u trans.leg s))) in
+        let on : Outcome = gives (committed_of (commit_number trans.leg s) (held_of trans.leg.holds)) (settled dropped (with_legs u (legs_after trans.legs) trans (ended u trans.leg s))) in
         let wait : Outcome = gives (Refused Again) (asks_flush (asks_ckpt s)) in
         fact_either (IsStill t b s) (not trans.perm) (gives (Refused Invalid) s) (if is_some s.shut then up else (if is_no_room u trans s then wait else on)) (λ refused. still_same t b s)
         (λ may.
@@ -259,7 +259,7 @@ module _ (t b : ℕ) (s : State) (h : IsSound s) (own : is_own s t b ≡ true) w
   still_call (Request.Get u c) answer dropped there other = with_other u (λ trans. get u c s) other (λ trans apart is. still_get u c apart)
   still_call (Request.Read u c) answer dropped there other = with_other u (read u c answer s) other (λ trans apart is. still_read u c answer trans apart)
   still_call (Request.View u c) answer dropped there other = with_other u (view u c s) other (λ trans apart is. still_view u c trans)
-  still_call (Request.Log u c first bytes) answer dropped there other = with_other u (log u c first bytes s) other (λ trans apart is. still_log u c first bytes trans apart)
+  still_call (Request.Log first u c bytes) answer dropped there other = with_other u (log u c first bytes s) other (λ trans apart is. still_log u c first bytes trans apart)
   still_call (Request.Hold u c) answer dropped there other = with_other u (hold u c s) other (λ trans apart is. still_hold u c trans apart)
   still_call (Request.Unhold u c) answer dropped there other = with_other u (unhold u c s) other (λ trans apart is. still_unhold u c trans apart)
   still_call (Request.Relse u c) answer dropped there other = with_other u (relse dropped u c s) other (λ trans apart is. released_still dropped u c trans (own_count u (at c s.owners)) apart refl)

@@ -115,8 +115,9 @@ abbrev pub reason_of : Option State → Option Reason
 reason_of None = None
 reason_of (Some m) = m.shut
 
--- what one step offered to the two devices
+-- what one step of a slot offered to the two devices
 pub record Offered : Type 0 where
+  pub slot : ℕ
   pub log : List LogOffer
   pub home : List HomeOffer
 

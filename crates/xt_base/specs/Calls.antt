@@ -16,7 +16,7 @@ use Rattle.xt_base.specs.declared.steps.Owner.TheVariants.{Held, Trans}
 use Rattle.xt_base.specs.declared.steps.Reason.{Reason}
 use Rattle.xt_base.specs.declared.steps.Reason.TheVariants.{CorruptIncore, ForceUmount, MetaIoError}
 use Rattle.xt_base.specs.declared.steps.Reply.{Reply}
-use Rattle.xt_base.specs.declared.steps.Reply.TheVariants.{Aborted, Committed, Done, Free, Kept, Okay, OkayHeld, Refused, Wait}
+use Rattle.xt_base.specs.declared.steps.Reply.TheVariants.{Aborted, Committed, CommittedHeld, Done, Free, Kept, Okay, OkayHeld, Refused, Wait}
 use Rattle.xt_base.specs.declared.steps.Request.{Request}
 
 -- what a call or job answers and leaves
@@ -326,6 +326,11 @@ abbrev pub io_of : Option (List ℕ) → Reply
 io_of None = Refused Io
 io_of (Some held) = Aborted held
 
+-- the checkpoint of a committed leg, with the blocks that stay held
+abbrev pub committed_of : ℕ → Option (List ℕ) → Reply
+committed_of number None = Committed number
+committed_of number (Some held) = CommittedHeld number held
+
 -- the number that a leg's commit answers
 abbrev pub commit_number : Leg → State → ℕ
 commit_number leg s = if is_dirty leg then s.items.open_number else 0
@@ -334,7 +339,7 @@ commit_number leg s = if is_dirty leg then s.items.open_number else 0
 abbrev pub commit : Dropped → ℕ → State → Transaction → Outcome
 commit dropped t s trans =
     if is_dirty trans.leg && is_some s.shut then gives (io_of (held_of trans.leg.holds)) (settled dropped (closed t (aborted t trans.leg s)))
-    else gives (Committed (commit_number trans.leg s) (held_of trans.leg.holds)) (settled dropped (closed t (ended t trans.leg s)))
+    else gives (committed_of (commit_number trans.leg s) (held_of trans.leg.holds)) (settled dropped (closed t (ended t trans.leg s)))
 
 -- the state after a roll's commit without the transaction's grant
 abbrev pub ungranted : ℕ → Transaction → State → State
@@ -358,7 +363,7 @@ roll dropped t s trans =
     if not trans.perm then gives (Refused Invalid) s
     else (if is_some s.shut then gives (io_of (held_of trans.leg.holds)) (settled dropped (with_legs t 0 trans (aborted t trans.leg s)))
     else (if is_no_room t trans s then gives (Refused Again) (asks_flush (asks_ckpt s))
-    else gives (Committed (commit_number trans.leg s) (held_of trans.leg.holds)) (settled dropped (with_legs t (legs_after trans.legs) trans (ended t trans.leg s)))))
+    else gives (committed_of (commit_number trans.leg s) (held_of trans.leg.holds)) (settled dropped (with_legs t (legs_after trans.legs) trans (ended t trans.leg s)))))
 
 -- gives the leg up and ends the transaction; a dirty one shuts the mount
 abbrev pub cancel : Dropped → ℕ → State → Transaction → Outcome
@@ -418,7 +423,7 @@ alone_with dropped (Request.Alloc unit count perm) answer s = alloc unit count p
 alone_with dropped (Request.Get t b) answer s = with_trans (at t s.transactions) s (λ trans. get t b s)
 alone_with dropped (Request.Read t b) answer s = with_trans (at t s.transactions) s (read t b answer s)
 alone_with dropped (Request.View t b) answer s = with_trans (at t s.transactions) s (view t b s)
-alone_with dropped (Request.Log t b first bytes) answer s = with_trans (at t s.transactions) s (log t b first bytes s)
+alone_with dropped (Request.Log first t b bytes) answer s = with_trans (at t s.transactions) s (log t b first bytes s)
 alone_with dropped (Request.Hold t b) answer s = with_trans (at t s.transactions) s (hold t b s)
 alone_with dropped (Request.Unhold t b) answer s = with_trans (at t s.transactions) s (unhold t b s)
 alone_with dropped (Request.Relse t b) answer s = with_trans (at t s.transactions) s (relse dropped t b s)

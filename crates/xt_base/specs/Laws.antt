@@ -19,7 +19,7 @@ pub record LooksAlike (t b : ℕ) (s u : State) : Type 0 where
 -- the requests by which a transaction uses a block that it has: view, log, hold, unhold, relse, inval
 abbrev pub uses : ℕ → ℕ → Request → Bool
 uses t b (Request.View u c) = (u == t) && (c == b)
-uses t b (Request.Log u c first bytes) = (u == t) && (c == b)
+uses t b (Request.Log first u c bytes) = (u == t) && (c == b)
 uses t b (Request.Hold u c) = (u == t) && (c == b)
 uses t b (Request.Unhold u c) = (u == t) && (c == b)
 uses t b (Request.Relse u c) = (u == t) && (c == b)
@@ -31,7 +31,7 @@ abbrev pub names : ℕ → Request → Bool
 names t (Request.Get u b) = u == t
 names t (Request.Read u b) = u == t
 names t (Request.View u b) = u == t
-names t (Request.Log u b first bytes) = u == t
+names t (Request.Log first u b bytes) = u == t
 names t (Request.Hold u b) = u == t
 names t (Request.Unhold u b) = u == t
 names t (Request.Relse u b) = u == t

@@ -12,6 +12,7 @@ pub mod Legs
 pub mod Calls
 pub mod Jobs
 pub mod Alone
+pub mod Offers
 pub mod Order
 pub mod Sound
 pub mod Own

@@ -8,48 +8,66 @@ use crate::steps::{HomeOffer, LogOffer, Reason, Reply};
 use std::alloc::{AllocError, Global};
 use std::marker::Model;
 
-/// The offers of a step that made some.
+/// A slot, and what a step of it offered to one of its devices. Most steps offer nothing, so offers are in a box.
 #[derive(Debug, Drop)]
-struct OfferLists {
-    log: Vec<LogOffer>,
-    home: Vec<HomeOffer>,
+enum Lists {
+    None(Slot),
+    Log(Slot, Box<Vec<LogOffer>>),
+    Home(Slot, Box<Vec<HomeOffer>>),
 }
 
-/// What one step offered to its slot's log device and home device, in order. Most steps offer nothing, so offers are in a box.
+/// What a step of a slot offered to its log device or to its home device, in order. It knows the slot, so that a turn is small.
 #[derive(Debug, Drop)]
 pub struct Offers {
-    lists: Option<Box<OfferLists>>,
+    lists: Lists,
 }
 
 impl Model for Offers {
-    ghost use Rattle.std.specs.Prelude.{[], option_map, unwrap_or};
     ghost use Rattle.xt_base.specs.Alone.{Offered};
+    ghost use Rattle.xt_base.specs.Offers.{offered_of};
 
     ghost Value = { Offered };
 
-    ghost view = { λ o. record {
-      log = unwrap_or (option_map (λ lists. lists.value.log.items) o.lists) [];
-      home = unwrap_or (option_map (λ lists. lists.value.home.items) o.lists) [];
-    } };
+    ghost view = { λ o. offered_of o.lists };
 }
 
 impl Offers {
-    /// No offer.
-    pub fn none() -> Self
-        ensures { result ≡ record { log = []; home = [] } }
+    /// No offer of a slot.
+    pub fn none(slot: Slot) -> Self
+        ensures { result ≡ record { slot = slot; log = []; home = [] } }
     {
-        Offers { lists: None }
+        Offers {
+            lists: Lists::None(slot),
+        }
     }
 
-    /// These offers to the log device and to the home device. The one error is want of memory.
-    pub fn of(alloc: Global, log: Vec<LogOffer>, home: Vec<HomeOffer>) -> Result<Self, AllocError>
-        ensures { IfOk result (λ offers. offers ≡ record { log = log.items; home = home.items }) }
+    /// These offers to the log device of a slot. The one error is want of memory.
+    pub fn to_log(alloc: Global, slot: Slot, offers: Vec<LogOffer>) -> Result<Self, AllocError>
+        ensures { IfOk result (λ offered. offered ≡ record { slot = slot; log = offers.items; home = [] }) }
     {
-        if log.is_empty() && home.is_empty() {
-            return Ok(Offers::none());
+        let offers = Box::new(alloc, offers)?;
+        Ok(Offers {
+            lists: Lists::Log(slot, offers),
+        })
+    }
+
+    /// These offers to the home device of a slot. The one error is want of memory.
+    pub fn to_home(alloc: Global, slot: Slot, offers: Vec<HomeOffer>) -> Result<Self, AllocError>
+        ensures { IfOk result (λ offered. offered ≡ record { slot = slot; log = []; home = offers.items }) }
+    {
+        let offers = Box::new(alloc, offers)?;
+        Ok(Offers {
+            lists: Lists::Home(slot, offers),
+        })
+    }
+
+    /// The slot.
+    pub fn slot(&self) -> Slot
+        ensures { result ≡ self.now.slot }
+    {
+        match &self.lists {
+            Lists::None(slot) | Lists::Log(slot, _) | Lists::Home(slot, _) => *slot,
         }
-        let lists = Some(Box::new(alloc, OfferLists { log, home })?);
-        Ok(Offers { lists })
     }
 
     /// What was offered to the log device.
@@ -57,8 +75,8 @@ impl Offers {
         ensures { result.now ≡ self.now.log }
     {
         match &self.lists {
-            Some(lists) => &lists.log,
-            None => &[],
+            Lists::Log(_, offers) => offers,
+            _ => &[],
         }
     }
 
@@ -67,16 +85,15 @@ impl Offers {
         ensures { result.now ≡ self.now.home }
     {
         match &self.lists {
-            Some(lists) => &lists.home,
-            None => &[],
+            Lists::Home(_, offers) => offers,
+            _ => &[],
         }
     }
 }
 
-/// What one step said: its slot, its reply, and what it offered.
+/// What one step said: its reply, and what it offered, which knows its slot.
 #[derive(Debug, Drop)]
 pub struct Turn {
-    pub slot: Slot,
     pub reply: Reply,
     pub offers: Offers,
 }
@@ -86,7 +103,16 @@ impl Model for Turn {
 
     ghost Value = { Said };
 
-    ghost view = { λ t. record { slot = t.slot; reply = t.reply; log = t.offers.log; home = t.offers.home } };
+    ghost view = { λ t. record { slot = t.offers.slot; reply = t.reply; log = t.offers.log; home = t.offers.home } };
+}
+
+impl Turn {
+    /// The slot of the step.
+    pub fn slot(&self) -> Slot
+        ensures { result ≡ self.now.slot }
+    {
+        self.offers.slot()
+    }
 }
 
 /// What a run of steps told: a turn for each step, and for each of sixteen slots why it is shut at

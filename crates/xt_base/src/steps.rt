@@ -64,9 +64,9 @@ pub enum Request {
     },
     /// Writes bytes from `first` on and marks their chunks (`xfs_trans_log_buf`).
     Log {
+        first: u32,
         trans: TransNo,
         block: Block,
-        first: u32,
         bytes: Data,
     },
     /// Keeps a block locked beyond the leg (`xfs_trans_bhold`).
@@ -143,11 +143,10 @@ pub enum Reply {
     OkayHeld(HeldBlocks),
     Life(Life),
     Trans(TransNo),
-    /// The checkpoint of a leg (0 for a clean one), with the blocks that stay held.
-    Committed {
-        number: CkptNo,
-        held: Option<HeldBlocks>,
-    },
+    /// The checkpoint of a leg; 0 for a clean one.
+    Committed(CkptNo),
+    /// The same, with the blocks that stay held.
+    CommittedHeld { number: CkptNo, held: HeldBlocks },
     /// EIO of a leg that was given up, with the blocks that it leaves held.
     Aborted(HeldBlocks),
     /// A force waits for this checkpoint.
@@ -160,19 +159,13 @@ pub enum Reply {
     Data(Content),
     /// A job found nothing to do.
     Nothing,
-    Begun {
-        number: CkptNo,
-        pieces: u32,
-    },
+    Begun { number: CkptNo, pieces: u32 },
     Landed(CkptNo),
     Failed(CkptNo),
     /// How many blocks left the active list.
     Flushed(u32),
     /// What the board shows of a slot; life 0 where nothing was shown.
-    Seen {
-        life: Life,
-        reason: Option<Reason>,
-    },
+    Seen { life: Life, reason: Option<Reason> },
     Refused(Errno),
 }
 

@@ -28,10 +28,11 @@ fn print_turn<W: Write>(writer: &mut W, text: &mut Text, turn: &Turn) -> io::Res
     ensures { OnOk result (Appends (W.contents writer.old) (W.contents writer.new) (turn_text turn.now)) }
 {
     text.clear();
-    print_slot_reply(turn.slot, &turn.reply, text);
+    let slot = turn.slot();
+    print_slot_reply(slot, &turn.reply, text);
     print_line(writer, text)?;
-    print_log(writer, text, turn.slot, turn.offers.log())?;
-    print_home(writer, text, turn.slot, turn.offers.home())
+    print_log(writer, text, slot, turn.offers.log())?;
+    print_home(writer, text, slot, turn.offers.home())
 }
 
 /// Prints the offers to a log device.

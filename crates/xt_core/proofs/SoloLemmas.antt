@@ -73,16 +73,16 @@ refused_step x r new old here refused served =
     (record { kept = kept; place = kept.slot ∙ sym here; log = refl; home = refl })
 
 -- a step that was taken
-pub taken_step : (x : Step) (r : Reply) (log : List LogOffer) (home : List HomeOffer) (mid new old : Solo) → slot_of x ≡ old.slot → is_no_memory r ≡ false → IsServedUnlessMemory x r mid old
+pub taken_step : (x : Step) (r : Reply) (slot : ℕ) (log : List LogOffer) (home : List HomeOffer) (mid new old : Solo) → slot_of x ≡ old.slot → slot ≡ old.slot → is_no_memory r ≡ false → IsServedUnlessMemory x r mid old
     → ((w : ℕ) → hand_of new w ≡ hand_after x r w (hand_of mid w)) → new ≡ record mid { hands = new.hands } → log ≡ (alone x (lone_of old)).log → home ≡ (alone x (lone_of old)).home
-    → IsStepped x (record { slot = new.slot; reply = r; log = log; home = home }) new old
+    → IsStepped x (record { slot = slot; reply = r; log = log; home = home }) new old
 unfolding said
-taken_step x r log home mid new old here went served hands passed logged wrote =
-    let t : Said = record { slot = new.slot; reply = r; log = log; home = home } in
+taken_step x r slot log home mid new old here own went served hands passed logged wrote =
+    let t : Said = record { slot = slot; reply = r; log = log; home = home } in
     let s : IsServed x r mid old = by_false (is_no_memory r) (IsKept mid old) (IsServed x r mid old) went served in
     let place : new.slot ≡ old.slot = ap (λ (u : Solo). u.slot) passed ∙ s.slot in
-    let told : said new.slot r log home ≡ said (slot_of x) (alone x (lone_of old)).reply (alone x (lone_of old)).log (alone x (lone_of old)).home =
-    ap (λ n. said n r log home) (place ∙ sym here) ∙ ap (λ q. said (slot_of x) q log home) s.reply ∙ ap (λ l. said (slot_of x) (alone x (lone_of old)).reply l home) logged
+    let told : said slot r log home ≡ said (slot_of x) (alone x (lone_of old)).reply (alone x (lone_of old)).log (alone x (lone_of old)).home =
+    ap (λ n. said n r log home) (own ∙ sym here) ∙ ap (λ q. said (slot_of x) q log home) s.reply ∙ ap (λ l. said (slot_of x) (alone x (lone_of old)).reply l home) logged
     ∙ ap (said (slot_of x) (alone x (lone_of old)).reply (alone x (lone_of old)).log) wrote in
     let taken : IsTaken x t new old = record {
       slot = place;

@@ -17,7 +17,7 @@ fn note(outcomes: &mut Outcomes, turn: Turn, reason: Option<Reason>) -> Result<(
     ensures told { OnOk result (outcomes.new ≡ told_then outcomes.old turn reason) }
     ensures range { OnOk result (turn.slot < 16) }
 {
-    let slot = turn.slot;
+    let slot = turn.slot();
     let refused = is_no_memory(&turn.reply);
     outcomes.add(turn)?;
     outcomes.note_shut(slot, reason);

@@ -19,9 +19,7 @@ use std::alloc::{AllocError, Global};
 use std::collections::VecDeque;
 use xt_base::names::{JobKind, JobName, Life, Slot, Worker};
 use xt_base::outcomes::{Offers, Turn};
-use xt_base::steps::{
-    Answer, Errno, HomeAnswers, HomeOffer, LogAnswers, LogOffer, Reason, Reply, Request, Step,
-};
+use xt_base::steps::{Answer, Errno, HomeAnswers, LogAnswers, Reason, Reply, Request, Step};
 use xt_mount::mount::{Mount, Stage};
 
 /// A slot with its workers.
@@ -487,44 +485,26 @@ impl Solo {
         }
     }
 
-    /// What a step will have offered to the log device: at an end the pieces, which are copied, and the sync.
-    fn log_offers(&self, step: &Step) -> Result<Vec<LogOffer>, AllocError>
-        requires own { IsOwnOf self.now.slot (lone_of self.now) }
-        requires suit { suits step.now (lone_of self.now) ≡ true }
-        ensures { IfOk result (λ offers. offers.items ≡ (alone step.now (lone_of self.now)).log) }
-    {
-        match (step, &self.mount) {
-            (Step::End { answers, .. }, Some(mount)) => log_offers(
-                self.alloc,
-                answers,
-                mount.pieces(),
-            ),
-            _ => Ok(Vec::new(self.alloc)),
-        }
-    }
-
-    /// What a step will have offered to the home device, reads aside: at a flush the contents of its plan, which are copied,
-    /// and the sync.
-    fn home_offers(&self, step: &Step) -> Result<Vec<HomeOffer>, AllocError>
-        requires { suits step.now (lone_of self.now) ≡ true }
-        ensures { IfOk result (λ offers. offers.items ≡ (alone step.now (lone_of self.now)).home) }
-    {
-        match (step, &self.mount) {
-            (Step::Flush { answers, .. }, Some(mount)) => home_offers(self.alloc, answers, mount),
-            _ => Ok(Vec::new(self.alloc)),
-        }
-    }
-
-    /// What a step will have offered, reads aside.
+    /// What a step will have offered: at an end the pieces, which are copied, and the sync; at a flush the contents of its
+    /// plan, which are copied, and the sync. Reads are left aside. The one error is want of memory.
     fn offers(&self, step: &Step) -> Result<Offers, AllocError>
         requires own { IsOwnOf self.now.slot (lone_of self.now) }
         requires suit { suits step.now (lone_of self.now) ≡ true }
+        ensures slot { IfOk result (λ offers. offers.slot ≡ self.now.slot) }
         ensures log { IfOk result (λ offers. offers.log ≡ (alone step.now (lone_of self.now)).log) }
         ensures home { IfOk result (λ offers. offers.home ≡ (alone step.now (lone_of self.now)).home) }
     {
-        let log = self.log_offers(step)?;
-        let home = self.home_offers(step)?;
-        Offers::of(self.alloc, log, home)
+        match (step, &self.mount) {
+            (Step::End { answers, .. }, Some(mount)) => {
+                let offers = log_offers(self.alloc, answers, mount.pieces())?;
+                Offers::to_log(self.alloc, self.slot, offers)
+            }
+            (Step::Flush { answers, .. }, Some(mount)) => {
+                let offers = home_offers(self.alloc, answers, mount)?;
+                Offers::to_home(self.alloc, self.slot, offers)
+            }
+            _ => Ok(Offers::none(self.slot)),
+        }
     }
 
     /// Takes a step that may come, and tells its turn. Where the step itself is refused memory its reply is ENOMEM, and
@@ -538,20 +518,10 @@ impl Solo {
         let offers = self.offers(step)?;
         let reply = self.serve(step);
         if is_no_memory(&reply) {
-            return Ok(self.turn(reply, Offers::none()));
+            let offers = Offers::none(self.slot);
+            return Ok(Turn { reply, offers });
         }
         self.pass_on(step, &reply);
-        Ok(self.turn(reply, offers))
-    }
-
-    /// A turn of this slot.
-    fn turn(&self, reply: Reply, offers: Offers) -> Turn
-        ensures { result ≡ record { slot = self.now.slot; reply = reply; log = offers.log; home = offers.home } }
-    {
-        Turn {
-            slot: self.slot,
-            reply,
-            offers,
-        }
+        Ok(Turn { reply, offers })
     }
 }

@@ -212,17 +212,6 @@ impl Items {
         cost_of(self.cil.entries())
     }
 
-    /// The cost of the flight in bytes; 0 where nothing is in flight.
-    pub fn flight_cost(&self) -> u64
-        ensures value { result ≡ cost (flight_items self.now.flight) }
-        ensures range { result ≤ 526368 }
-    {
-        match &self.flight {
-            Some(flight) => cost_of(flight.items.entries()),
-            None => 0,
-        }
-    }
-
     /// An empty list for the next `fly`: that of a flight which has landed, or a new one. The one error is want of memory.
     pub fn next_list(&mut self, alloc: Global) -> Result<NumberMap<Chunks>, AllocError>
         ensures list { IfOk result (λ list. list ≡ []) }

@@ -2,7 +2,7 @@
 use Rattle.std.proofs.Common.{◌≡◌, ◌∙◌, ◌+◌, ◌≤◌, length, Bool, IfSome, List, MatchOption, None, Option, Some, [], ap, false, arith, if◌then◌else◌, not, refl, subst, sym, true, ◌∷◌, ℕ}
 use Rattle.std.specs.List.{cons_option}
 use Rattle.std.specs.Prelude.{filter_map, is_some, option_map, ◌&&◌}
-use Rattle.xt_base.specs.Calls.{cancel, closed, commit, commit_number, gives, held_of, io_of, okay_of, shut_if, with_trans}
+use Rattle.xt_base.specs.Calls.{cancel, closed, commit, commit_number, committed_of, gives, held_of, io_of, okay_of, shut_if, with_trans}
 use Rattle.xt_base.specs.Legs.{aborted, ended, is_dirty, is_stale, owned_by, owner_aborted, owner_after, with_edit}
 use Rattle.xt_base.proofs.MapLemmas.{length_put_le, length_without_le}
 use Rattle.xt_base.specs.Maps.{at, has}
@@ -12,7 +12,6 @@ use Rattle.xt_base.specs.declared.steps.Owner.{Owner}
 use Rattle.xt_base.specs.declared.steps.Owner.TheVariants.{Held, Stale}
 use Rattle.xt_base.specs.declared.steps.Reason.TheVariants.{CorruptIncore}
 use Rattle.xt_base.specs.declared.steps.Reply.{Reply}
-use Rattle.xt_base.specs.declared.steps.Reply.TheVariants.{Committed}
 use Rattle.xt_locks.specs.Locking.{passed}
 use Rattle.xt_mount.specs.Ending.{owner_kept, owner_left}
 
@@ -64,11 +63,11 @@ owners_kept t leg os = passed_alike (passed t (owner_kept leg)) (owner_aborted t
 module _ (s : State) (t : ℕ) (trans : Transaction) (there : Some trans ≡ at t s.transactions) where
   -- it is committed
   pub commit_kept : (held : Option (List ℕ)) (mid new : State) (number : ℕ) → held ≡ held_of trans.leg.holds → IfSome (at t s.transactions) (λ u. mid ≡ closed t (ended t u.leg s)) → new ≡ settled [] mid
-      → number ≡ commit_number trans.leg s → (is_dirty trans.leg && is_some s.shut) ≡ false → gives (Committed number held) new ≡ with_trans (at t s.transactions) s (commit [] t s)
+      → number ≡ commit_number trans.leg s → (is_dirty trans.leg && is_some s.shut) ≡ false → gives (committed_of number held) new ≡ with_trans (at t s.transactions) s (commit [] t s)
   commit_kept held mid new number named ends settles counted clean =
-      ap (gives (Committed number held)) (settles ∙ ap (settled []) (some_if (at t s.transactions) (λ u. mid ≡ closed t (ended t u.leg s)) trans there ends))
-      ∙ ap (λ k. gives (Committed k held) (settled [] (closed t (ended t trans.leg s)))) counted
-      ∙ ap (λ h. gives (Committed (commit_number trans.leg s) h) (settled [] (closed t (ended t trans.leg s)))) named
+      ap (gives (committed_of number held)) (settles ∙ ap (settled []) (some_if (at t s.transactions) (λ u. mid ≡ closed t (ended t u.leg s)) trans there ends))
+      ∙ ap (λ k. gives (committed_of k held) (settled [] (closed t (ended t trans.leg s)))) counted
+      ∙ ap (λ h. gives (committed_of (commit_number trans.leg s) h) (settled [] (closed t (ended t trans.leg s)))) named
       ∙ sym (if_false (is_dirty trans.leg && is_some s.shut) _ _ clean) ∙ ap (λ o. with_trans o s (commit [] t s)) there
 
   -- or given up, on a shut mount

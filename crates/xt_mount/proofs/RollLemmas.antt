@@ -7,7 +7,7 @@ use Rattle.xt_base.proofs.MapLemmas.{at_later}
 use Rattle.xt_base.proofs.RisingLemmas.{each_at}
 use Rattle.xt_base.proofs.SoundBounds.{few_changes, few_contents, few_fresh}
 use Rattle.xt_base.proofs.SoundSteps.{charge_granted}
-use Rattle.xt_base.specs.Calls.{Outcome, asks_ckpt, asks_flush, commit_number, gives, held_of, io_of, is_no_room as finds_no_room, legs_after, roll, with_legs, with_trans}
+use Rattle.xt_base.specs.Calls.{Outcome, asks_ckpt, asks_flush, commit_number, committed_of, gives, held_of, io_of, is_no_room as finds_no_room, legs_after, roll, with_legs, with_trans}
 use Rattle.xt_base.specs.Legs.{aborted, ended, is_dirty, with_marks}
 use Rattle.xt_base.specs.Maps.{at, is_in}
 use Rattle.xt_base.specs.Sound.{Each, IsFair, IsRising, IsSound}
@@ -15,7 +15,7 @@ use Rattle.xt_base.specs.Settle.{settled}
 use Rattle.xt_base.specs.Space.{change_cost, charge, cost, granted}
 use Rattle.xt_base.specs.State.{Leg, State, Transaction}
 use Rattle.xt_base.specs.declared.steps.Errno.TheVariants.{Again, Invalid}
-use Rattle.xt_base.specs.declared.steps.Reply.TheVariants.{Committed, Refused}
+use Rattle.xt_base.specs.declared.steps.Reply.TheVariants.{Refused}
 use Rattle.xt_mount.proofs.EndLemmas.{if_some, some_if}
 use Rattle.xt_resv.proofs.MountLemmas.{is_covered, is_paid, no_room_is}
 use Rattle.xt_resv.specs.Ledgers.{is_no_room}
@@ -94,7 +94,7 @@ module _ (s : State) (h : IsSound s) (t : ℕ) (u : Transaction) (there : Some u
   wait = gives (Refused Again) (asks_flush (asks_ckpt s))
 
   abbrev on : Outcome
-  on = gives (Committed (commit_number u.leg s) (held_of u.leg.holds)) (settled [] (with_legs t (legs_after u.legs) u (ended t u.leg s)))
+  on = gives (committed_of (commit_number u.leg s) (held_of u.leg.holds)) (settled [] (with_legs t (legs_after u.legs) u (ended t u.leg s)))
 
   abbrev is_no_room_now : Bool
   is_no_room_now = finds_no_room t u s
@@ -111,9 +111,9 @@ module _ (s : State) (h : IsSound s) (t : ℕ) (u : Transaction) (there : Some u
 
   -- or goes on
   pub roll_goes_on : not u.perm ≡ false → is_some s.shut ≡ false → is_no_room_now ≡ false → (held : Option (List ℕ)) (number : ℕ) (mid new : State) → held ≡ held_of u.leg.holds → number ≡ commit_number u.leg s
-      → IfSome (at t s.transactions) (λ x. mid ≡ with_legs t (legs_after x.legs) x (ended t x.leg s)) → new ≡ settled [] mid → gives (Committed number held) new ≡ with_trans (at t s.transactions) s (roll [] t s)
+      → IfSome (at t s.transactions) (λ x. mid ≡ with_legs t (legs_after x.legs) x (ended t x.leg s)) → new ≡ settled [] mid → gives (committed_of number held) new ≡ with_trans (at t s.transactions) s (roll [] t s)
   roll_goes_on may live room held number mid new named counted ends settles =
-      ap (gives (Committed number held)) (settles ∙ ap (settled []) (some_if (at t s.transactions) (λ x. mid ≡ with_legs t (legs_after x.legs) x (ended t x.leg s)) u there ends))
-      ∙ ap (λ k. gives (Committed k held) (settled [] (with_legs t (legs_after u.legs) u (ended t u.leg s)))) counted
-      ∙ ap (λ h. gives (Committed (commit_number u.leg s) h) (settled [] (with_legs t (legs_after u.legs) u (ended t u.leg s)))) named
+      ap (gives (committed_of number held)) (settles ∙ ap (settled []) (some_if (at t s.transactions) (λ x. mid ≡ with_legs t (legs_after x.legs) x (ended t x.leg s)) u there ends))
+      ∙ ap (λ k. gives (committed_of k held) (settled [] (with_legs t (legs_after u.legs) u (ended t u.leg s)))) counted
+      ∙ ap (λ h. gives (committed_of (commit_number u.leg s) h) (settled [] (with_legs t (legs_after u.legs) u (ended t u.leg s)))) named
       ∙ on_live on may live (ap (λ b. if b then wait else on) room)

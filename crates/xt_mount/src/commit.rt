@@ -1,7 +1,7 @@
 //! Ending a transaction.
 
 ghost use Rattle.std.specs.Prelude.{◌≡◌, ◌&&◌, [], is_some, IfOk, OnErr, if◌then◌else◌};
-ghost use Rattle.xt_base.specs.Calls.{cancel as cancel_step, commit as commit_step, gives, io_of, okay_of, shut_if, with_trans};
+ghost use Rattle.xt_base.specs.Calls.{cancel as cancel_step, commit as commit_step, committed_of, gives, io_of, okay_of, shut_if, with_trans};
 ghost use Rattle.xt_base.specs.Maps.{at};
 ghost use Rattle.xt_base.specs.Sound.{IsSound};
 ghost use Rattle.xt_base.specs.declared.steps.Reason.TheVariants.{CorruptIncore as IsCorrupt};
@@ -52,7 +52,7 @@ impl Machine {
         let number = self.commit_number(is_dirty);
         self.close(trans);
         self.settle();
-        Ok(Reply::Committed { number, held })
+        Ok(committed_of(number, held))
     }
 
     /// Shuts the mount for this reason, where a leg was dirty.
@@ -80,6 +80,16 @@ impl Machine {
         self.shut_if(is_dirty, Reason::CorruptIncore);
         self.settle();
         Ok(okay_of(held))
+    }
+}
+
+/// The checkpoint of a committed leg, with the blocks that stay held.
+pub fn committed_of(number: CkptNo, held: Option<HeldBlocks>) -> Reply
+    ensures { result ≡ committed_of number held }
+{
+    match held {
+        Some(held) => Reply::CommittedHeld { number, held },
+        None => Reply::Committed(number),
     }
 }
 

@@ -8,7 +8,7 @@ ghost use Rattle.xt_base.specs.Settle.{settled};
 ghost use Rattle.xt_base.specs.Sound.{IsSound};
 ghost use Rattle.xt_mount.specs.Machines.{state_of};
 
-use crate::commit::io_of;
+use crate::commit::{committed_of, io_of};
 use crate::machine::Machine;
 use std::alloc::AllocError;
 use xt_base::steps::{Errno, Reply};
@@ -39,7 +39,7 @@ impl Machine {
         let number = self.commit_number(opened.leg().is_dirty());
         self.next_leg(trans);
         self.settle();
-        Ok(Reply::Committed { number, held })
+        Ok(committed_of(number, held))
     }
 
     /// The same on a shut mount: the leg is given up.

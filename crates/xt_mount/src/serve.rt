@@ -28,9 +28,9 @@ impl Machine {
             Request::Read { trans, block } => self.read(trans.0, block.0, answer),
             Request::View { trans, block } => self.view(trans.0, block.0),
             Request::Log {
+                first,
                 trans,
                 block,
-                first,
                 bytes,
             } => self.log(trans.0, block.0, *first, bytes),
             Request::Hold { trans, block } => Ok(self.hold(trans.0, block.0)),

@@ -161,7 +161,7 @@ request_fits (Alloc unit count perm) is =
 request_fits (Get trans block) is = omega (arith, own_fits trans block is.0 is.1)
 request_fits (Read trans block) is = omega (arith, own_fits trans block is.0 is.1)
 request_fits (View trans block) is = omega (arith, own_fits trans block is.0 is.1)
-request_fits (Log trans block first bytes) is =
+request_fits (Log first trans block bytes) is =
     let c = decimal first ␣ spelling bytes in
     omega (
       arith,

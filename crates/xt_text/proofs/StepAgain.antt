@@ -63,7 +63,7 @@ request_again (Alloc unit count perm) is other =
 request_again (Get trans block) is other = rw (own_again trans block is.0 is.1) refl
 request_again (Read trans block) is other = absurd (other tt)
 request_again (View trans block) is other = rw (own_again trans block is.0 is.1) refl
-request_again (Log trans block first bytes) is other =
+request_again (Log first trans block bytes) is other =
     rw (
       before_trans trans (decimal block ␣ decimal first ␣ spelling bytes) is.0,
       behind_trans trans (decimal block ␣ decimal first ␣ spelling bytes) is.0,

@@ -85,7 +85,7 @@ log_of words =
     number_of (before 32 a) >>= λ block.
     u32_of (before 32 b) >>= λ first.
     read_data (behind 32 b) >>= λ bytes.
-    Some (Log trans block first bytes)
+    Some (Log first trans block bytes)
 
 -- BLOCK
 unfoldable pub drop_of : List ℕ → Option Request

@@ -1,7 +1,7 @@
 -- The texts of replies and of offers.
 use Rattle.std.specs.Fmt.{decimal}
 use Rattle.std.specs.List.{flat_map}
-use Rattle.std.specs.Prelude.{List, None, Option, Some, [], codes, ℕ, ◌++◌, ◌∷◌}
+use Rattle.std.specs.Prelude.{List, None, Option, Some, codes, ℕ, ◌++◌, ◌∷◌}
 use Rattle.xt_base.specs.declared.steps.Errno.{Errno}
 use Rattle.xt_base.specs.declared.steps.Errno.TheVariants.{Again, Busy, Invalid, Io, NoBufs, NoDevice, NoMemory, NoSpace, Stale}
 use Rattle.xt_base.specs.declared.steps.HomeOffer.{HomeOffer}
@@ -37,11 +37,6 @@ seen_text (Some CorruptIncore) = codes "CORRUPT_INCORE"
 abbrev pub held_text : List ℕ → List ℕ
 held_text blocks = codes " held" ++ flat_map (λ b. 32 ∷ decimal b) blocks
 
--- blocks that stay held, if there are some
-abbrev pub any_held_text : Option (List ℕ) → List ℕ
-any_held_text None = []
-any_held_text (Some blocks) = held_text blocks
-
 -- ---- replies
 -- the text of a reply, without its slot and newline
 abbrev pub reply_text : Reply → List ℕ
@@ -49,7 +44,8 @@ reply_text Reply.Okay = codes "ok"
 reply_text (Reply.OkayHeld held) = codes "ok" ++ held_text held
 reply_text (Reply.Life life) = codes "life" ␣ decimal life
 reply_text (Reply.Trans trans) = trans_text trans
-reply_text (Reply.Committed number held) = ckpt_text number ++ any_held_text held
+reply_text (Reply.Committed number) = ckpt_text number
+reply_text (Reply.CommittedHeld number held) = ckpt_text number ++ held_text held
 reply_text (Reply.Aborted held) = codes "EIO" ++ held_text held
 reply_text (Reply.Wait number) = codes "wait" ␣ ckpt_text number
 reply_text Reply.Done = codes "done"

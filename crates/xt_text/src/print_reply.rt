@@ -4,7 +4,7 @@ ghost use Rattle.std.specs.Fmt.{decimal};
 ghost use Rattle.std.specs.Prelude.{◌≡◌, ◌≤◌, ◌∷◌, ◌++◌, length};
 ghost use Rattle.xt_text.specs.Buffer.{put};
 ghost use Rattle.xt_text.specs.Lines.{ckpt_text, ◌␣◌};
-ghost use Rattle.xt_text.specs.Replies.{any_held_text, errno_text, held_text, home_offer_text, log_offer_text, reply_text, seen_text, slot_reply_text};
+ghost use Rattle.xt_text.specs.Replies.{errno_text, held_text, home_offer_text, log_offer_text, reply_text, seen_text, slot_reply_text};
 
 use crate::buffer::Text;
 use crate::fields::{then_ckpt, then_data, then_number, then_ok, then_word};
@@ -97,16 +97,14 @@ fn put_with_held(out: &mut Text, word: &[u8], held: &HeldBlocks)
     then_held(out, held);
 }
 
-/// The number of a leg's checkpoint, and the blocks that stay held if there are some.
-#[tactic(auto, using(crate::proofs::BufferLemmas::put_put, crate::proofs::BufferLemmas::put_none))]
-fn put_committed(out: &mut Text, number: CkptNo, held: &Option<HeldBlocks>)
-    ensures text { out.new ≡ put out.old (ckpt_text number ++ any_held_text held.now) }
-    ensures short { length (ckpt_text number ++ any_held_text held.now) ≤ 1370 }
+/// The number of a leg's checkpoint, and the blocks that stay held.
+#[tactic(auto, using(crate::proofs::BufferLemmas::put_put))]
+fn put_committed(out: &mut Text, number: CkptNo, held: &HeldBlocks)
+    ensures text { out.new ≡ put out.old (ckpt_text number ++ held_text held.now) }
+    ensures short { length (ckpt_text number ++ held_text held.now) ≤ 1370 }
 {
     put_ckpt(out, number);
-    if let Some(held) = held {
-        then_held(out, held);
-    }
+    then_held(out, held);
 }
 
 /// Puts a reply, with no slot in front and no newline behind, behind what the buffer holds.
@@ -123,7 +121,8 @@ pub fn print_reply(reply: &Reply, out: &mut Text)
             out.push(b't');
             put_number(out, trans.0);
         }
-        Reply::Committed { number, held } => put_committed(out, *number, held),
+        Reply::Committed(number) => put_ckpt(out, *number),
+        Reply::CommittedHeld { number, held } => put_committed(out, *number, held),
         Reply::Aborted(held) => put_with_held(out, b"EIO", held),
         Reply::Wait(number) => put_with_ckpt(out, b"wait", *number),
         Reply::Done => out.put(b"done"),

@@ -85,9 +85,9 @@ fn put_request(out: &mut Text, request: &Request)
         Request::Read { trans, block } => put_own(out, b"read", *trans, *block),
         Request::View { trans, block } => put_own(out, b"view", *trans, *block),
         Request::Log {
+            first,
             trans,
             block,
-            first,
             bytes,
         } => put_log(out, *trans, *block, *first, bytes),
         Request::Hold { trans, block } => put_own(out, b"hold", *trans, *block),

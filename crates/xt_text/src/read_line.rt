@@ -57,9 +57,9 @@ fn log_of(alloc: Global, words: &[u8]) -> Result<Request, BadLine>
     let first = u32_of(first)?;
     let bytes = read_data(alloc, bytes)?;
     Ok(Request::Log {
+        first,
         trans,
         block,
-        first,
         bytes,
     })
 }

@@ -470,15 +470,7 @@ fn replies_are_printed(rt: HostRuntime) -> Result<(), Fail> {
         &Reply::Trans(TransNo(18446744073709551615)),
         "t18446744073709551615",
     );
-    says(
-        &rt,
-        &mut out,
-        &Reply::Committed {
-            number: CkptNo(3),
-            held: None,
-        },
-        "c3",
-    );
+    says(&rt, &mut out, &Reply::Committed(CkptNo(3)), "c3");
     says(&rt, &mut out, &Reply::Wait(CkptNo(10)), "wait c10");
     says(&rt, &mut out, &Reply::Done, "done");
     says(&rt, &mut out, &Reply::Kept, "kept");
@@ -518,9 +510,9 @@ fn held_blocks_are_printed(rt: HostRuntime) -> Result<(), Fail> {
     says(
         &rt,
         &mut out,
-        &Reply::Committed {
+        &Reply::CommittedHeld {
             number: CkptNo(0),
-            held: Some(two),
+            held: two,
         },
         "c0 held 0 1099511627775",
     );

@@ -2,7 +2,7 @@
 use Rattle.std.proofs.Common.{◌≡◌, ◌≢◌, ◌∙◌, ◌+◌, ◌*◌, ◌≤◌, ◌∷◌, Bool, List, None, Option, Some, [], ap, arith, false, length, refl, suc, sym, true, ℕ}
 use Rattle.std.proofs.lemmas.List.Sums.{sum_by-cons}
 use Rattle.std.specs.List.{cons_option}
-use Rattle.std.specs.Prelude.{if◌then◌else◌, option_map, sum_by, ◌==◌}
+use Rattle.std.specs.Prelude.{if◌then◌else◌, option_map, sum_by}
 use Rattle.xt_base.proofs.CostLemmas.{cost-cons}
 use Rattle.xt_base.proofs.MapLemmas.{at_put_other}
 use Rattle.xt_base.proofs.RisingLemmas.{each_map, rises_above, rises_put, sum_put, weight_at}

@@ -63,10 +63,6 @@ blank = record { marks = record { 0 = 0 }; edit = None; chunks = []; charged = [
 abbrev pub item_at : ℕ → List (ℕ × BufItem) → BufItem
 item_at b es = unwrap_or (at b es) blank
 
--- what a leg is charged for the block of an entry
-abbrev pub item_charge : BufItem → ℕ
-item_charge i = if is_item_dirty i then 16 + 128 * length i.charged else 0
-
 -- ---- a commit list
 -- what an item of a commit list costs, if it stands there
 abbrev pub standing_cost : Option (List ℕ) → ℕ

@@ -22,5 +22,5 @@ fn memory_refused(rt: HostRuntime) {
     let is_told = leg.held(alloc).is_ok();
     assert!(rt; is_seen || is_told);
     assert!(rt; leg.is_held(7) && leg.is_changed(7));
-    assert_eq!(rt; leg.charge(), 176);
+    assert_eq!(rt; leg.newly_logged(7, Chunks::mark(0, 200)).chunks, 1);
 }

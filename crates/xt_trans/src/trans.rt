@@ -10,7 +10,7 @@ ghost use Rattle.xt_base.specs.Marks.{marks_of, no_marks};
 ghost use Rattle.xt_base.specs.Sound.{IsRising};
 ghost use Rattle.xt_base.specs.Space.{charge, cost, item_cost};
 ghost use Rattle.xt_base.specs.Text.{zeros};
-ghost use Rattle.xt_trans.specs.LegItems.{AreItems, blank, change_in, gain_in, item_at, item_charge, item_gain, item_loss, leg_of, loss_in, no_change};
+ghost use Rattle.xt_trans.specs.LegItems.{AreItems, blank, change_in, gain_in, item_at, item_gain, item_loss, leg_of, loss_in, no_change};
 
 use std::alloc::{AllocError, Global};
 use std::marker::Model;
@@ -143,15 +143,6 @@ impl TransRec {
             Some(content) => content.copy_over(alloc, spare),
             None => Content::zeros(alloc),
         }
-    }
-
-    /// The leg's charge in log bytes, at most 526,368.
-    pub fn charge(&self) -> u64
-        ensures value { result ≡ charge self.now.changes }
-        ensures range { result ≤ 526368 }
-    {
-        let total = total_charge(self.items.entries());
-        if total == 0 { 0 } else { 32 + total }
     }
 
     /// What a commit list costs once the marks of this leg were joined to it: the length of its checkpoint text, at most
@@ -293,31 +284,6 @@ impl TransRec {
     {
         first_dirty(self.items.entries())
     }
-}
-
-/// What a leg is charged for the block of an entry.
-fn charge_of(item: &BufItem) -> u64
-    ensures value { result ≡ item_charge item.now }
-    ensures range { result ≤ 4112 }
-{
-    if item.marks.is_dirty() {
-        16 + 128 * item.charged.count() as u64
-    } else {
-        0
-    }
-}
-
-/// What a leg is charged for its blocks.
-fn total_charge(items: &[(u64, BufItem)]) -> u64
-    requires { length items.now ≤ 128 }
-    ensures value { result ≡ sum_by (λ e. item_charge e.1) items.now }
-    ensures range { result ≤ 526336 }
-{
-    let mut total = 0;
-    for e in items {
-        total += charge_of(&e.1);
-    }
-    total
 }
 
 /// What the items of a commit list cost.

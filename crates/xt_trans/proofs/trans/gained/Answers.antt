@@ -1,7 +1,7 @@
 use Rattle.std.proofs.Common.{◌<◌, arith, length}
 use Rattle.std.proofs.lemmas.List.Sums.{sum_by-drop_more}
 use Rattle.xt_trans.specs.LegItems.{gain_in, item_gain}
-use Rattle.std.proofs.Common.{◌∙◌, ◌≡◌, ap, sym}
+use Rattle.std.proofs.Common.{◌∙◌, ◌≡◌, ap}
 use Rattle.xt_trans.proofs.trans.gained.Goals as goal
 
 pub loop-e-preserved : goal.loop-e-preserved

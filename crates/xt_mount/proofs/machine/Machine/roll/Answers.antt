@@ -1,7 +1,7 @@
 use Rattle.std.proofs.Common.{◌∙◌, ap, arith, length, sym, if◌then◌else◌}
 use Rattle.std.specs.Prelude.{not}
 use Rattle.xt_base.proofs.SoundBounds.{few_holds}
-use Rattle.xt_base.specs.Calls.{held_of}
+use Rattle.xt_base.specs.Calls.{gives, held_of}
 use Rattle.xt_base.specs.Legs.{is_dirty}
 use Rattle.xt_base.specs.State.{Leg}
 use Rattle.xt_mount.proofs.EndLemmas.{if_some}
@@ -30,7 +30,8 @@ next_leg-requires-clause-room c = if_some _ _ c.in-Some.opened.now c.in-Some.ens
 
 pub returns-clause-ok : goal.returns-clause-ok
 returns-clause-ok c =
-    roll_goes_on (state_of c.args.self.now) c.requires c.args.trans c.in-Some.opened.now c.in-Some.ensures (ap not (sym c.perm.ensures ∙ c.if-not-perm.false)) (sym c.is_shut.ensures ∙ c.if-is_shut.false) (room_is (state_of c.args.self.now) c.requires c.args.trans c.in-Some.opened.now c.in-Some.ensures ∙ sym c.finds_no_room.ensures ∙ c.if-finds_no_room.false) c.in_ok-held.held c.commit_number-number.result _ _
+    ap (λ r. gives r (state_of c.settle.new.self)) c.committed_of.ensures
+    ∙ roll_goes_on (state_of c.args.self.now) c.requires c.args.trans c.in-Some.opened.now c.in-Some.ensures (ap not (sym c.perm.ensures ∙ c.if-not-perm.false)) (sym c.is_shut.ensures ∙ c.if-is_shut.false) (room_is (state_of c.args.self.now) c.requires c.args.trans c.in-Some.opened.now c.in-Some.ensures ∙ sym c.finds_no_room.ensures ∙ c.if-finds_no_room.false) c.in_ok-held.held c.commit_number-number.result _ _
     (c.in_ok-held.ensures ∙ ap (λ (l : Leg). held_of l.holds) c.leg.ensures)
     (c.commit_number-number.ensures ∙ ap (λ b. if b then (state_of c.args.self.now).items.open_number else 0) (c.is_dirty.ensures ∙ ap is_dirty c.leg-2.ensures))
     c.next_leg.ensures c.settle.ensures
