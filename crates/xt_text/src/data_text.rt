@@ -200,10 +200,12 @@ fn hex_digit(value: u8) -> u8
 }
 
 /// Puts a byte as two digits.
+#[tactic(auto, using(crate::proofs::BufferLemmas::put_put))]
 fn put_hex(out: &mut Text, byte: u8)
     ensures { out.new ≡ put out.old (hex byte) }
 {
-    out.put(&[hex_digit(byte / 16), hex_digit(byte % 16)]);
+    out.push(hex_digit(byte / 16));
+    out.push(hex_digit(byte % 16));
 }
 
 /// Puts a run's text.

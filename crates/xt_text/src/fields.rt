@@ -35,7 +35,8 @@ pub(crate) fn then_number(out: &mut Text, number: u64)
 pub(crate) fn then_trans(out: &mut Text, trans: TransNo)
     ensures { out.new ≡ put out.old (32 ∷ trans_text trans) }
 {
-    out.put(b" t");
+    out.push(b' ');
+    out.push(b't');
     put_number(out, trans.0);
 }
 
@@ -45,7 +46,8 @@ pub(crate) fn then_ckpt(out: &mut Text, number: CkptNo)
     ensures text { out.new ≡ put out.old (32 ∷ ckpt_text number) }
     ensures short { length (ckpt_text number) ≤ 21 }
 {
-    out.put(b" c");
+    out.push(b' ');
+    out.push(b'c');
     put_number(out, number.0);
 }
 
