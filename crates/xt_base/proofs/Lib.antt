@@ -31,6 +31,7 @@ mod RandomListsA
 mod RandomListsB
 mod RandomListsC
 mod RandomListsD
+pub mod SameLemmas
 pub mod NameLemmas
 pub mod TurnLemmas
 pub mod LifeLemmas
