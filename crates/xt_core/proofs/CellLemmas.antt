@@ -7,6 +7,7 @@ use Rattle.xt_base.specs.Isolation.{is_no_memory}
 use Rattle.xt_base.specs.Jobs.{end, end_offers, fits_pieces, fits_plan, flight_pieces, flush, flush_offers, flush_plan, is_begun, is_waiting, sync_offer, write_answers, writes}
 use Rattle.xt_base.specs.Order.{mount_is}
 use Rattle.xt_base.specs.State.{Lone, State}
+use Rattle.xt_base.specs.Steps.{slot_of}
 use Rattle.xt_base.specs.Text.{log_offers_of}
 use Rattle.xt_base.specs.declared.names.JobName.{JobName}
 use Rattle.xt_base.specs.declared.steps.HomeAnswers.{HomeAnswers}
@@ -56,6 +57,14 @@ module _ (x : Step) (r : Reply) (life : ℕ) (reason : Option Reason) (new old :
       let t = alone x (lone_with life reason old) in
       to_true (is_no_memory r) (cell_with life reason new ≡ cell_with life reason old) ((r ≡ t.reply) × (cell_with life reason new ≡ with_lone t.slot (cell_with life reason old)))
       (ap is_no_memory refused.0) (ap (cell_with life reason) refused.1)
+
+-- the same of a step and a slot by what they are equal to
+pub turned_as : (step x : Step) (r : Reply) (new cell old : Cell) → step ≡ x → cell ≡ old → IsTurned x r new cell → IsTurned step r new old
+turned_as step x r new cell old is same turned_x = subst (λ y. IsTurned y r new old) (sym is) (subst (IsTurned x r new) same turned_x)
+
+-- a step of this slot names its number
+pub number_is : (step x : Step) (cell old : Cell) → step ≡ x → slot_of step ≡ old.slot → cell ≡ old → slot_of x ≡ cell.slot
+number_is step x cell old is here same = sym (ap slot_of is) ∙ here ∙ sym (ap (λ (c : Cell). c.slot) same)
 
 -- ---- tests
 -- two tests of a mount, one after the other
