@@ -4,3 +4,5 @@
 mod offers;
 pub mod run;
 mod solo;
+
+pub use run::run_one;

@@ -20,3 +20,5 @@ mod roll;
 mod serve;
 mod settle;
 mod space;
+
+pub use mount::{Mount, Stage};
