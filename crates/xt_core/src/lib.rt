@@ -6,3 +6,5 @@ mod offers;
 pub mod run;
 mod solo;
 mod turns;
+
+pub use run::run_one;

@@ -21,3 +21,6 @@ mod serve;
 mod settle;
 pub mod slot;
 mod space;
+
+pub use mount::{Mount, Stage};
+pub use slot::MountSlot;
