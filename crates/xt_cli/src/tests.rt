@@ -6,6 +6,7 @@ mod drive;
 mod home;
 mod idle;
 mod longest;
+mod maxima;
 mod orders;
 mod places;
 mod rolls;
