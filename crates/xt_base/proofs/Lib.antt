@@ -39,3 +39,5 @@ pub mod FitsLemmas
 pub mod RunLemmas
 pub mod OneLemmas
 pub mod MemoryLemmas
+pub mod StruckLemmas
+pub mod HostLemmas

@@ -18,5 +18,6 @@ pub mod Sound
 pub mod Own
 pub mod Marks
 pub mod Turns
+pub mod Host
 pub mod Isolation
 pub mod Laws
