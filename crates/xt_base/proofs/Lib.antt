@@ -21,23 +21,3 @@ pub mod StillLemmas
 pub mod StillCalls
 pub mod OwnerNumbers
 pub mod CancelLemmas
-mod RowsBuffers
-mod RowsJobs
-mod RowsManyBusy
-mod RowsIdleCut
-mod RowsIdleAsked
-mod RowsEdges
-mod RandomListsA
-mod RandomListsB
-mod RandomListsC
-mod RandomListsD
-pub mod NameLemmas
-pub mod TurnLemmas
-pub mod LifeLemmas
-pub mod OrderLemmas
-pub mod FitsLemmas
-pub mod RunLemmas
-pub mod OneLemmas
-pub mod MemoryLemmas
-pub mod StruckLemmas
-pub mod HostLemmas

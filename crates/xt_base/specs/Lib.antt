@@ -17,7 +17,5 @@ pub mod Order
 pub mod Sound
 pub mod Own
 pub mod Marks
-pub mod Turns
-pub mod Host
 pub mod Isolation
 pub mod Laws

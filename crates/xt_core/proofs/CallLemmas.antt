@@ -2,7 +2,7 @@
 use Rattle.std.proofs.Common.{◌≡◌, ◌∙◌, Bool, None, Option, Some, [], ap, false, if◌then◌else◌, inl, inr, refl, subst, sym, true, ℕ}
 use Rattle.std.proofs.lemmas.Bool.{cases_Bool, false≢true}
 use Rattle.std.specs.Prelude.{◌&&◌, ◌==◌}
-use Rattle.xt_base.proofs.MemoryLemmas.{alone_no_want}
+use Rattle.xt_core.proofs.MemoryLemmas.{alone_no_want}
 use Rattle.xt_base.specs.Alone.{IsCallUnlessMemory, Turn, call, called, is_okay, turn}
 use Rattle.xt_base.specs.Calls.{Outcome, alone_with, is_unmount}
 use Rattle.xt_base.specs.Isolation.{is_no_memory}

@@ -1,3 +1,13 @@
+pub mod NameLemmas
+pub mod TurnLemmas
+pub mod LifeLemmas
+pub mod OrderLemmas
+pub mod FitsLemmas
+pub mod RunLemmas
+pub mod OneLemmas
+pub mod MemoryLemmas
+pub mod StruckLemmas
+pub mod HostLemmas
 pub mod SoloLemmas
 pub mod CallLemmas
 pub mod OfferLemmas

@@ -3,14 +3,14 @@ use Rattle.std.proofs.Common.{◌≡◌, ◌∙◌, ◌+◌, ◌<◌, ◌≤◌,
 use Rattle.std.proofs.lemmas.Bool.{and_parts, cases_Bool, eqb-true, false≢true}
 use Rattle.std.proofs.lemmas.List.{take_all, take_more}
 use Rattle.std.specs.Prelude.{MatchBool, slice_index_or, if◌then◌else◌, ◌&&◌, ◌==◌}
-use Rattle.xt_base.proofs.OneLemmas.{IsOneRun, one_breaks, one_moved, one_none, one_own, one_refused, one_taken, one_tells}
+use Rattle.xt_core.proofs.OneLemmas.{IsOneRun, one_breaks, one_moved, one_none, one_own, one_refused, one_taken, one_tells}
 use Rattle.xt_base.specs.Alone.{Said, Turn, alone, reason_of}
 use Rattle.xt_base.specs.Isolation.{BreaksOne, TellsOne, Told, first_slot, is_no_memory, told_refused, told_taken, untold}
 use Rattle.xt_base.specs.Order.{suits}
 use Rattle.xt_base.specs.Own.{IsOwnOf}
 use Rattle.xt_base.specs.State.{Lone, empty}
 use Rattle.xt_base.specs.Steps.{slot_of}
-use Rattle.xt_base.specs.Turns.{can_step, hand_after, keeps_turn, queue_after}
+use Rattle.xt_core.specs.Turns.{can_step, hand_after, keeps_turn, queue_after}
 use Rattle.xt_base.specs.declared.steps.HomeOffer.{HomeOffer}
 use Rattle.xt_base.specs.declared.steps.LogOffer.{LogOffer}
 use Rattle.xt_base.specs.declared.steps.Reason.{Reason}

@@ -5,7 +5,7 @@ use Rattle.xt_base.specs.Calls.{Outcome, alone_with}
 use Rattle.xt_base.specs.Isolation.{BreaksOne, Told, is_no_memory, told_then}
 use Rattle.xt_base.specs.State.{Lone, State}
 use Rattle.xt_base.specs.Steps.{slot_of}
-use Rattle.xt_base.specs.Turns.{hand_after, queue_after}
+use Rattle.xt_core.specs.Turns.{hand_after, queue_after}
 use Rattle.xt_base.specs.declared.names.JobName.{JobName}
 use Rattle.xt_base.specs.declared.outcomes.RunFault.{RunFault}
 use Rattle.xt_base.specs.declared.outcomes.RunFault.TheVariants.{Disorder, Memory}

@@ -10,7 +10,7 @@ ghost use Rattle.xt_base.specs.Order.{has_in_hand, is_answer, is_first, is_nothi
 ghost use Rattle.xt_base.specs.Own.{IsOwnOf};
 ghost use Rattle.xt_base.specs.State.{empty};
 ghost use Rattle.xt_base.specs.Steps.{slot_of};
-ghost use Rattle.xt_base.specs.Turns.{can_step, hand_after, held_in, keeps_turn};
+ghost use Rattle.xt_core.specs.Turns.{can_step, hand_after, held_in, keeps_turn};
 ghost use Rattle.xt_base.specs.declared.steps.Step.{Step as AStep};
 ghost use Rattle.xt_core.specs.Solo.{answered_turn, hand_of, lone_of, with_lone, IsServedUnlessMemory, IsStepped, IsTurned};
 

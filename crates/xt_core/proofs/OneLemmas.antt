@@ -5,8 +5,8 @@ use Rattle.std.proofs.lemmas.List.{get_or-set_other, take_more}
 use Rattle.std.proofs.lemmas.Option.{get_or_from_slice_get}
 use Rattle.std.specs.Prelude.{slice_index_or, if◌then◌else◌, ◌&&◌, ◌==◌}
 use Rattle.xt_base.proofs.RisingLemmas.{each_map}
-use Rattle.xt_base.proofs.RunLemmas.{IsAfter, IsBelow, after_none, after_refused, after_taken, after_tells, breaks_fits, breaks_whole, by_slot, each_append}
-use Rattle.xt_base.proofs.TurnLemmas.{turn_hands}
+use Rattle.xt_core.proofs.RunLemmas.{IsAfter, IsBelow, after_none, after_refused, after_taken, after_tells, breaks_fits, breaks_whole, by_slot, each_append}
+use Rattle.xt_core.proofs.TurnLemmas.{turn_hands}
 use Rattle.xt_base.specs.Alone.{Said, alone, reason_of, said_of}
 use Rattle.xt_base.specs.Isolation.{BreaksOne, BreaksOrder, IsOneSlot, TellsOne, Told, events, first_slot, is_no_memory, is_refused, told_refused, told_taken, untold}
 use Rattle.xt_base.specs.Order.{Event, fits, orderly}
@@ -14,7 +14,7 @@ use Rattle.xt_base.specs.Own.{IsOwnOf}
 use Rattle.xt_base.specs.Sound.{Each}
 use Rattle.xt_base.specs.State.{Lone, empty}
 use Rattle.xt_base.specs.Steps.{slot_of}
-use Rattle.xt_base.specs.Turns.{can_step, hand_after, queue_after}
+use Rattle.xt_core.specs.Turns.{can_step, hand_after, queue_after}
 use Rattle.xt_base.specs.declared.names.JobName.{JobName}
 use Rattle.xt_base.specs.declared.steps.Reason.{Reason}
 use Rattle.xt_base.specs.declared.steps.Step.{Step}

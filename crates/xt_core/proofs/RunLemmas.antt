@@ -3,11 +3,11 @@ use Rattle.std.proofs.Common.{◌≡◌, ◌≢◌, ◌∙◌, ◌<◌, ◌++◌
 use Rattle.std.proofs.lemmas.Bool.{and_parts, cases_eq, eq-eqb, false≢true, ne_eqb}
 use Rattle.std.proofs.lemmas.List.{append-nil, get_or-set_other, get_or-set_same, length-set, map-append}
 use Rattle.std.specs.Prelude.{if◌then◌else◌, option_to_list, slice_index_or, slice_set, ◌&&◌}
-use Rattle.xt_base.proofs.FitsLemmas.{common_step, fits_is}
-use Rattle.xt_base.proofs.LifeLemmas.{IsGiven, IsLater, given_once_posted, later_step}
-use Rattle.xt_base.proofs.OrderLemmas.{after_more, alone_more, events_more, of_slot_other, of_slot_own, orderly_for_more, orderly_more, strike_other, strike_own, told_more, turns_other, turns_own}
+use Rattle.xt_core.proofs.FitsLemmas.{common_step, fits_is}
+use Rattle.xt_core.proofs.LifeLemmas.{IsGiven, IsLater, given_once_posted, later_step}
+use Rattle.xt_core.proofs.OrderLemmas.{after_more, alone_more, events_more, of_slot_other, of_slot_own, orderly_for_more, orderly_more, strike_other, strike_own, told_more, turns_other, turns_own}
 use Rattle.xt_base.proofs.RisingLemmas.{each_map}
-use Rattle.xt_base.proofs.TurnLemmas.{IsTurn, one_more, turn_hands, turn_none, turn_step}
+use Rattle.xt_core.proofs.TurnLemmas.{IsTurn, one_more, turn_hands, turn_none, turn_step}
 use Rattle.xt_base.specs.Alone.{Said, after, alone, alone_run, reason_of, said_of}
 use Rattle.xt_base.specs.Isolation.{Tells, Told, events, is_no_memory, is_refused, shut_in, told_refused, told_taken, turns_of, untold}
 use Rattle.xt_base.specs.Order.{Event, fits, fits_for, keeps_common, keeps_own, of_slot, orderly, orderly_for, post_of, posted, state_of, steps_of, suits, told, told_from}
@@ -15,7 +15,7 @@ use Rattle.xt_base.specs.Own.{IsOwnOf}
 use Rattle.xt_base.specs.Sound.{Each}
 use Rattle.xt_base.specs.State.{Lone, empty}
 use Rattle.xt_base.specs.Steps.{slot_of, strike}
-use Rattle.xt_base.specs.Turns.{can_step, keeps_turn, queue_after, hand_after}
+use Rattle.xt_core.specs.Turns.{can_step, keeps_turn, queue_after, hand_after}
 use Rattle.xt_base.specs.declared.names.JobName.{JobName}
 use Rattle.xt_base.specs.declared.steps.Reason.{Reason}
 use Rattle.xt_base.specs.declared.steps.Step.{Step}

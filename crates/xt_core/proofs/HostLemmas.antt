@@ -6,10 +6,10 @@ use Rattle.std.proofs.lemmas.List.Elements.{filter-append}
 use Rattle.std.proofs.lemmas.List.Folds.{list_any-append}
 use Rattle.std.specs.List.{list_any}
 use Rattle.std.specs.Prelude.{MatchBool, cond, filter, if◌then◌else◌, not, slice_index_or, slice_set, ◌&&◌, ◌==◌, ◌||◌}
-use Rattle.xt_base.proofs.RunLemmas.{IsAfter as IsRun, after_none, after_refused, after_taken, breaks_fits, by_slot}
-use Rattle.xt_base.proofs.FitsLemmas.{fits_is}
+use Rattle.xt_core.proofs.RunLemmas.{IsAfter as IsRun, after_none, after_refused, after_taken, breaks_fits, by_slot}
+use Rattle.xt_core.proofs.FitsLemmas.{fits_is}
 use Rattle.xt_base.specs.Alone.{Said, alone, reason_of, said_of}
-use Rattle.xt_base.specs.Host.{Host, IsAfter, IsStepped, IsTaken, hand_of, happened, lone_at, may_come, new_host, was_refused}
+use Rattle.xt_core.specs.Host.{Host, IsAfter, IsStepped, IsTaken, hand_of, happened, lone_at, may_come, new_host, was_refused}
 use Rattle.xt_base.specs.Isolation.{Told, is_no_memory, is_refused, told_refused, told_taken, untold}
 use Rattle.xt_base.specs.Order.{Event, fits, state_of, told}
 use Rattle.xt_base.specs.State.{Lone, empty}
@@ -64,7 +64,7 @@ unused_at zero m = refl
 unused_at (suc n) zero = refl
 unused_at (suc n) (suc m) = unused_at n m
 
-free_at : (n w : ℕ) → slice_index_or (replicate n (None {A = JobName})) w None ≡ None
+free_at : (n w : ℕ) → slice_index_or (replicate {A = Option JobName} n None) w None ≡ None
 free_at zero w = refl
 free_at (suc n) zero = refl
 free_at (suc n) (suc w) = free_at n w

@@ -4,15 +4,15 @@ use Rattle.std.proofs.lemmas.Bool.{and_parts, cases_Bool, eq-eqb, false_from_ne_
 use Rattle.std.proofs.lemmas.List.Elements.{filter-append}
 use Rattle.std.specs.List.{cons_option}
 use Rattle.std.specs.Prelude.{IfSome, filter, filter_map, if◌then◌else◌, is_none, not, option_to_list, ◌&&◌, ◌==◌, ◌||◌}
-use Rattle.xt_base.proofs.LifeLemmas.{IsGiven, fresh}
-use Rattle.xt_base.proofs.NameLemmas.{AreAlike, alike, filter_rest, is_distinct}
+use Rattle.xt_core.proofs.LifeLemmas.{IsGiven, fresh}
+use Rattle.xt_core.proofs.NameLemmas.{AreAlike, alike, filter_rest, is_distinct}
 use Rattle.xt_base.proofs.RisingLemmas.{filter_drop, filter_pass}
-use Rattle.xt_base.proofs.TurnLemmas.{IsTurn, unfinished_is, waiting_is}
+use Rattle.xt_core.proofs.TurnLemmas.{IsTurn, unfinished_is, waiting_is}
 use Rattle.xt_base.specs.Order.{Event, finish_by, finished_by, fits, is_among, is_first, is_none_left, is_nothing, keeps_common, of_slot, posted, same_name, state_of, suits, take_by, taken_by, unfinished}
 use Rattle.xt_base.specs.Sound.{Each}
 use Rattle.xt_base.specs.State.{Lone}
 use Rattle.xt_base.specs.Steps.{slot_of}
-use Rattle.xt_base.specs.Turns.{can_step, held_in, keeps_turn}
+use Rattle.xt_core.specs.Turns.{can_step, held_in, keeps_turn}
 use Rattle.xt_base.specs.declared.names.JobName.{JobName}
 use Rattle.xt_base.specs.declared.steps.Reply.{Reply}
 use Rattle.xt_base.specs.declared.steps.Step.{Step}

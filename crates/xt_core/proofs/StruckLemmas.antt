@@ -3,16 +3,16 @@ use Rattle.std.proofs.Common.{◌≡◌, ◌≢◌, ◌∙◌, ◌++◌, ◌∷�
 use Rattle.std.proofs.lemmas.Bool.{and_parts, cases_Bool, cases_eq, eq-eqb, false≢true, ne_eqb, not-true}
 use Rattle.std.proofs.lemmas.List.Elements.{filter-append}
 use Rattle.std.specs.Prelude.{IfSome, filter, is_none, not, option_to_list, ◌&&◌, ◌==◌}
-use Rattle.xt_base.proofs.FitsLemmas.{distinct_filter, filter_map_filter, hand_of_slot, in_slot, not_among_filter, take_common, unfinished_of_slot}
-use Rattle.xt_base.proofs.NameLemmas.{filter_rest, is_distinct, same_names}
-use Rattle.xt_base.proofs.OrderLemmas.{of_slot_other, of_slot_own}
+use Rattle.xt_core.proofs.FitsLemmas.{distinct_filter, filter_map_filter, hand_of_slot, in_slot, not_among_filter, take_common, unfinished_of_slot}
+use Rattle.xt_core.proofs.NameLemmas.{filter_rest, is_distinct, same_names}
+use Rattle.xt_core.proofs.OrderLemmas.{of_slot_other, of_slot_own}
 use Rattle.xt_base.proofs.RisingLemmas.{filter_drop, filter_pass}
-use Rattle.xt_base.proofs.TurnLemmas.{IsTurn, turn_none, turn_step}
+use Rattle.xt_core.proofs.TurnLemmas.{IsTurn, turn_none, turn_step}
 use Rattle.xt_base.specs.Alone.{after, alone}
 use Rattle.xt_base.specs.Order.{Event, fits, is_among, is_first, is_none_left, keeps_common, keeps_own, keeps_part, of_slot, orderly, orderly_from, post_of, posted, state_of, steps_of, suits, take_of, taken, told, unfinished, waiting}
 use Rattle.xt_base.specs.State.{empty}
 use Rattle.xt_base.specs.Steps.{slot_of, strike}
-use Rattle.xt_base.specs.Turns.{hand_after, keeps_turn, queue_after}
+use Rattle.xt_core.specs.Turns.{hand_after, keeps_turn, queue_after}
 use Rattle.xt_base.specs.declared.names.JobName.{JobName}
 use Rattle.xt_base.specs.declared.steps.Reply.{Reply}
 use Rattle.xt_base.specs.declared.steps.Step.{Step}

@@ -6,9 +6,9 @@ use Rattle.std.proofs.lemmas.List.Elements.{filter_map-append}
 use Rattle.std.proofs.Common.{append_assoc}
 use Rattle.std.specs.List.{cons_option}
 use Rattle.std.specs.Prelude.{filter, filter_map, if◌then◌else◌, is_none, not, option_to_list, ◌&&◌, ◌==◌}
-use Rattle.xt_base.proofs.NameLemmas.{among_first, among_more, apart_from, distinct_more, filter_rest, is_distinct, same_names}
+use Rattle.xt_core.proofs.NameLemmas.{among_first, among_more, apart_from, distinct_more, filter_rest, is_distinct, same_names}
 use Rattle.xt_base.specs.Order.{Event, finish_by, finished_by, is_among, is_first, is_nothing, keeps_common, post_of, posted, take_by, take_of, taken, taken_by, unfinished, waiting}
-use Rattle.xt_base.specs.Turns.{hand_after, held_in, keeps_turn, queue_after}
+use Rattle.xt_core.specs.Turns.{hand_after, held_in, keeps_turn, queue_after}
 use Rattle.xt_base.specs.declared.names.JobName.{JobName}
 use Rattle.xt_base.specs.declared.steps.Reply.{Reply}
 use Rattle.xt_base.specs.declared.steps.Step.{Step}

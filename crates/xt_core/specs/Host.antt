@@ -6,7 +6,7 @@ use Rattle.xt_base.specs.Isolation.{is_no_memory}
 use Rattle.xt_base.specs.Order.{Event}
 use Rattle.xt_base.specs.State.{Lone, empty}
 use Rattle.xt_base.specs.Steps.{slot_of}
-use Rattle.xt_base.specs.Turns.{can_step, hand_after, queue_after}
+use Rattle.xt_core.specs.Turns.{can_step, hand_after, queue_after}
 use Rattle.xt_base.specs.declared.names.JobName.{JobName}
 use Rattle.xt_base.specs.declared.steps.Reply.{Reply}
 use Rattle.xt_base.specs.declared.steps.Step.{Step}

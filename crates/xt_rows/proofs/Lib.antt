@@ -1,0 +1,10 @@
+mod RowsBuffers
+mod RowsEdges
+mod RowsIdleAsked
+mod RowsIdleCut
+mod RowsJobs
+mod RowsManyBusy
+mod RandomListsA
+mod RandomListsB
+mod RandomListsC
+mod RandomListsD

@@ -1,0 +1,2 @@
+//! Worked scripts computed over the definitions of one mount, in `proofs/`.
+#![tactic(auto)]
