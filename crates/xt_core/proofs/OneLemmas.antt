@@ -43,7 +43,7 @@ empty_only k m =
     ]
 
 -- the states of the slots, one by one the same
-run_alike : (done : List Step) (h : List Event) (o : Told) (queue : List JobName) (hand : ℕ → Option JobName) (lone lone' : ℕ → Lone) → ((m : ℕ) → lone m ≡ lone' m) → IsAfter done h o queue hand lone → IsAfter done h o queue hand lone'
+pub run_alike : (done : List Step) (h : List Event) (o : Told) (queue : List JobName) (hand : ℕ → Option JobName) (lone lone' : ℕ → Lone) → ((m : ℕ) → lone m ≡ lone' m) → IsAfter done h o queue hand lone → IsAfter done h o queue hand lone'
 run_alike done h o queue hand lone lone' e a = record {
   slots = a.slots;
   shut_room = a.shut_room;
@@ -62,7 +62,7 @@ run_alike done h o queue hand lone lone' e a = record {
 }
 
 -- hands that hold the same
-run_hands : (done : List Step) (h : List Event) (o : Told) (queue : List JobName) (hand hand' : ℕ → Option JobName) (lone : ℕ → Lone) → ((w : ℕ) → hand' w ≡ hand w) → IsAfter done h o queue hand lone → IsAfter done h o queue hand' lone
+pub run_hands : (done : List Step) (h : List Event) (o : Told) (queue : List JobName) (hand hand' : ℕ → Option JobName) (lone : ℕ → Lone) → ((w : ℕ) → hand' w ≡ hand w) → IsAfter done h o queue hand lone → IsAfter done h o queue hand' lone
 run_hands done h o queue hand hand' lone e a = record {
   slots = a.slots;
   shut_room = a.shut_room;
@@ -89,7 +89,7 @@ never zero m = refl
 never (suc n) zero = refl
 never (suc n) (suc m) = never n m
 
-none_refused : (m : ℕ) → is_refused m untold ≡ false
+pub none_refused : (m : ℕ) → is_refused m untold ≡ false
 none_refused m = never 16 m
 
 -- before any step, with free hands

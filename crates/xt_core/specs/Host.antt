@@ -1,15 +1,16 @@
 -- The host as a reader sees it: sixteen slots, one queue of names, and the hands of eight workers; and what one step makes of it.
 use Rattle.std.specs.List.{list_any}
-use Rattle.std.specs.Prelude.{Bool, List, MatchBool, None, Option, [], false, filter, not, replicate, slice_index_or, true, ℕ, ◌&&◌, ◌++◌, ◌<◌, ◌==◌, ◌∷◌, ◌≡◌, ◌≢◌}
+use Rattle.std.specs.Prelude.{Bool, List, MatchBool, None, Option, [], filter, is_none, not, replicate, slice_index_or, true, ℕ, ◌&&◌, ◌++◌, ◌<◌, ◌==◌, ◌∷◌, ◌≡◌, ◌≢◌}
 use Rattle.xt_base.specs.Alone.{alone}
 use Rattle.xt_base.specs.Isolation.{is_no_memory}
-use Rattle.xt_base.specs.Order.{Event}
+use Rattle.xt_base.specs.Order.{Event, is_first}
 use Rattle.xt_base.specs.State.{Lone, empty}
 use Rattle.xt_base.specs.Steps.{slot_of}
-use Rattle.xt_core.specs.Turns.{can_step, hand_after, queue_after}
 use Rattle.xt_base.specs.declared.names.JobName.{JobName}
 use Rattle.xt_base.specs.declared.steps.Reply.{Reply}
 use Rattle.xt_base.specs.declared.steps.Step.{Step}
+use Rattle.xt_base.specs.declared.steps.Step.TheVariants.{Begin, End, Flush, Take}
+use Rattle.xt_core.specs.Turns.{can_step, hand_after, queue_after}
 
 -- the slots' states, the names that were posted and not taken, and what each worker took and has not finished
 pub record Host : Type 0 where
@@ -63,3 +64,11 @@ happened h = filter (λ e. not (is_no_memory e.reply)) h
 -- whether a step of a slot was answered ENOMEM
 abbrev pub was_refused : ℕ → List Event → Bool
 was_refused m h = list_any (λ e. (slot_of e.step == m) && is_no_memory e.reply) h
+
+-- what a step of one slot can see of the others: a take sees whether its name is in front and whether its worker is free, a job step sees its worker's hand, and every other step sees nothing
+abbrev pub IsSharedAlike : Step → Host → Host → Type 0
+IsSharedAlike (Take worker name) a b = (is_first name a.queue ≡ is_first name b.queue) × (is_none (hand_of a worker) ≡ is_none (hand_of b worker))
+IsSharedAlike (Begin worker name) a b = hand_of a worker ≡ hand_of b worker
+IsSharedAlike (End worker name answers) a b = hand_of a worker ≡ hand_of b worker
+IsSharedAlike (Flush worker name answers) a b = hand_of a worker ≡ hand_of b worker
+IsSharedAlike other a b = Unit {0}
