@@ -21,3 +21,4 @@ pub mod StillLemmas
 pub mod StillCalls
 pub mod OwnerNumbers
 pub mod CancelLemmas
+pub mod SameLemmas

@@ -19,4 +19,5 @@ mod relse;
 mod roll;
 mod serve;
 mod settle;
+pub mod slot;
 mod space;
