@@ -8,6 +8,8 @@ pub mod OneLemmas
 pub mod MemoryLemmas
 pub mod StruckLemmas
 pub mod HostLemmas
+pub mod HostRunLemmas
+pub mod PlaceLemmas
 pub mod SoloLemmas
 pub mod CallLemmas
 pub mod OfferLemmas

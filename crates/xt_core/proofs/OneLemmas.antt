@@ -83,7 +83,7 @@ run_hands done h o queue hand hand' lone e a = record {
 }
 
 -- the events are those of what was told
-happened_now : (done : List Step) (h : List Event) (o : Told) (queue : List JobName) (hand : ℕ → Option JobName) (lone : ℕ → Lone) → IsAfter done h o queue hand lone → IsAfter done (events done o.turns) o queue hand lone
+pub happened_now : (done : List Step) (h : List Event) (o : Told) (queue : List JobName) (hand : ℕ → Option JobName) (lone : ℕ → Lone) → IsAfter done h o queue hand lone → IsAfter done (events done o.turns) o queue hand lone
 happened_now done h o queue hand lone a = subst (λ g. IsAfter done g o queue hand lone) (sym a.happened) a
 
 -- before any step, with free hands

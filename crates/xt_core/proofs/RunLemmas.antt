@@ -157,7 +157,7 @@ module _ (done : List Step) (h : List Event) (o : Told) (queue : List JobName) (
         ap (λ k. slice_index_or (slice_set o.refused t.slot true) k false) (sym same) ∙ ap (λ k. slice_index_or (slice_set o.refused k true) (slot_of x) false) here
         ∙ get_or-set_same o.refused (slot_of x) true false within
 
-    still : (m : ℕ) → is_refused m (told_refused o t reason) ≡ false → (slot_of x ≢ m) × (is_refused m o ≡ false)
+    pub still : (m : ℕ) → is_refused m (told_refused o t reason) ≡ false → (slot_of x ≢ m) × (is_refused m o ≡ false)
     still m n =
         elim (cases_eq (slot_of x) m) [
           | inl same ↦ absurd (false≢true (sym n ∙ set_there m same))

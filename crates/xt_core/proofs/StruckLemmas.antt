@@ -48,7 +48,7 @@ pub strike_twice : (xs : List Step) (m : ℕ) → strike (strike xs m) m ≡ str
 strike_twice xs m = filter_twice (λ x. slot_of x == m) xs
 
 -- the events of a slot, once more
-of_slot_twice : (m : ℕ) (h : List Event) → of_slot m (of_slot m h) ≡ of_slot m h
+pub of_slot_twice : (m : ℕ) (h : List Event) → of_slot m (of_slot m h) ≡ of_slot m h
 of_slot_twice m h = filter_twice (λ e. slot_of e.step == m) h
 
 -- ---- a step of a slot after the events of the slot
@@ -116,7 +116,7 @@ own_of_slot : (m : ℕ) (h : List Event) (x : Step) → keeps_own m (of_slot m h
 own_of_slot m h x = ap (λ g. keeps_part (λ w. unfinished w g) (after (steps_of g) empty) x) (of_slot_twice m h)
 
 -- so a step that fits a history fits the events of its slot alone
-fits_of_slot : (h : List Event) (queue : List JobName) (hand : ℕ → Option JobName) (x : Step) → IsTurn h queue hand → fits h x ≡ true → fits (of_slot (slot_of x) h) x ≡ true
+pub fits_of_slot : (h : List Event) (queue : List JobName) (hand : ℕ → Option JobName) (x : Step) → IsTurn h queue hand → fits h x ≡ true → fits (of_slot (slot_of x) h) x ≡ true
 fits_of_slot h queue hand x t f =
     let parts = and_parts (keeps_common h x) (keeps_own (slot_of x) h x) f in
     ap (λ b. b && keeps_own (slot_of x) (of_slot (slot_of x) h) x) (common_of_slot h queue hand x t parts.0) ∙ own_of_slot (slot_of x) h x ∙ parts.1

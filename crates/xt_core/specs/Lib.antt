@@ -1,3 +1,5 @@
 pub mod Turns
 pub mod Host
+pub mod Runs
+pub mod InPlace
 pub mod Solo
