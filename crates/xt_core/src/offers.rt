@@ -12,7 +12,7 @@ use std::alloc::{AllocError, Global};
 use xt_base::content::{Content, Data};
 use xt_base::names::Block;
 use xt_base::steps::{HomeAnswers, HomeOffer, LogAnswers, LogOffer};
-use xt_mount::mount::Mount;
+use xt_mount::slot::MountSlot;
 
 /// The offer of a piece, which is copied.
 fn piece_offer(alloc: Global, piece: &Bytes, ok: bool) -> Result<LogOffer, AllocError>
@@ -59,11 +59,11 @@ pub fn log_offers(
     Ok(offers)
 }
 
-/// A copy of what a mount has committed of a block; zeros where it keeps nothing.
-fn committed_copy(alloc: Global, mount: &Mount, block: Block) -> Result<Content, AllocError>
-    ensures { IfOk result (λ content. content ≡ content_at block mount.now.frames.committed) }
+/// A copy of what a slot's mount has committed of a block; zeros where it keeps nothing.
+fn committed_copy(alloc: Global, slot: &MountSlot, block: Block) -> Result<Content, AllocError>
+    ensures { IfOk result (λ content. content ≡ unwrap_or (committed_in block slot.now.mounted) zeros) }
 {
-    let Some(bytes) = mount.committed(block) else {
+    let Some(bytes) = slot.committed(block) else {
         return Content::zeros(alloc);
     };
     match Content::of(alloc, bytes.to_vec(alloc)?)? {
@@ -75,20 +75,20 @@ fn committed_copy(alloc: Global, mount: &Mount, block: Block) -> Result<Content,
 /// The offer of a write, with its answer.
 fn write_offer(
     alloc: Global,
-    mount: &Mount,
+    slot: &MountSlot,
     block: Block,
     ok: bool,
 ) -> Result<HomeOffer, AllocError>
-    ensures { IfOk result (λ offer. offer ≡ AHomeOffer.Write block (content_at block mount.now.frames.committed) ok) }
+    ensures { IfOk result (λ offer. offer ≡ AHomeOffer.Write block (unwrap_or (committed_in block slot.now.mounted) zeros) ok) }
 {
-    let content = committed_copy(alloc, mount, block)?;
+    let content = committed_copy(alloc, slot, block)?;
     Ok(HomeOffer::Write { block, content, ok })
 }
 
 /// The offers of writes of these blocks, each with its answer, whatever the answers before it were.
 fn write_offers(
     alloc: Global,
-    mount: &Mount,
+    slot: &MountSlot,
     blocks: &[Block],
     answers: &[bool],
 ) -> Result<Vec<HomeOffer>, AllocError>
@@ -107,7 +107,7 @@ fn write_offers(
 pub fn home_offers(
     alloc: Global,
     answers: &HomeAnswers,
-    mount: &Mount,
+    slot: &MountSlot,
 ) -> Result<Vec<HomeOffer>, AllocError>
     requires { fits_plan answers.now (flush_plan mount.now) ≡ true }
     ensures { IfOk result (λ offers. offers.items ≡ flush_offers answers.now mount.now) }

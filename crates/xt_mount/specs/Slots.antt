@@ -1,9 +1,9 @@
 -- A slot: the last life given, and the mount if there is one. What the board shows of it stands beside it.
-use Rattle.std.specs.Prelude.{List, None, Option, Some, [], if◌then◌else◌, option_map, ℕ, ◌==◌, ◌≡◌, ◌⊎◌}
+use Rattle.std.specs.Prelude.{List, None, Option, Some, [], if◌then◌else◌, not, option_map, ℕ, ◌==◌, ◌≡◌, ◌⊎◌}
 use Rattle.xt_base.specs.Alone.{alone}
 use Rattle.xt_base.specs.Calls.{alone_with}
-use Rattle.xt_base.specs.Jobs.{flight_pieces, flush_plan}
-use Rattle.xt_base.specs.Maps.{at}
+use Rattle.xt_base.specs.Jobs.{flight_pieces, flush_plan, is_begun, is_waiting}
+use Rattle.xt_base.specs.Order.{mount_is}
 use Rattle.xt_base.specs.State.{Lone, State}
 use Rattle.xt_base.specs.declared.names.JobKind.{JobKind}
 use Rattle.xt_base.specs.declared.names.JobName.{JobName}
@@ -15,8 +15,8 @@ use Rattle.xt_base.specs.declared.steps.Reply.TheVariants.{Refused}
 use Rattle.xt_base.specs.declared.steps.Request.{Request}
 use Rattle.xt_base.specs.declared.steps.Step.{Step}
 use Rattle.xt_mount.specs.Come.{owed_name}
-use Rattle.xt_mount.specs.Stages.{stage_of}
 use Rattle.xt_mount.specs.declared.mount.Stage.{Stage}
+use Rattle.xt_mount.specs.declared.mount.Stage.TheVariants.{Begun, Waiting}
 
 -- a slot without its public reading
 pub record SlotState : Type 0 where
@@ -61,10 +61,11 @@ abbrev pub owed_in : JobKind → Option State → Option JobName
 owed_in kind None = None
 owed_in kind (Some m) = owed_name kind m
 
--- how far a job has come
-abbrev pub stage_in : JobName → Option State → Option Stage
-stage_in name None = None
-stage_in name (Some m) = stage_of name m
+-- how far a job has come; none where it is of another slot
+abbrev pub stage_in : JobName → SlotState → Option Stage
+stage_in name s =
+    if not (name.slot == s.slot) then None
+    else (if mount_is (is_begun name) s.mounted then Some Begun else (if mount_is (is_waiting name) s.mounted then Some Waiting else None))
 
 -- the pieces of the checkpoint in flight
 abbrev pub pieces_in : Option State → List (List ℕ)
@@ -76,7 +77,7 @@ abbrev pub plan_in : Option State → List ℕ
 plan_in None = []
 plan_in (Some m) = flush_plan m
 
--- the committed content of a block
-abbrev pub committed_in : ℕ → Option State → Option (List ℕ)
-committed_in b None = None
-committed_in b (Some m) = at b m.frames.committed
+-- the committed contents of its busy blocks
+abbrev pub contents_in : Option State → List (ℕ × List ℕ)
+contents_in None = []
+contents_in (Some m) = m.frames.committed

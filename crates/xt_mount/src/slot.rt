@@ -4,11 +4,12 @@ ghost use Rattle.std.specs.Prelude.{◌≡◌, ◌≤◌, ◌&&◌, All, IfSome,
 ghost use Rattle.xt_base.specs.Alone.{is_okay, reason_of};
 ghost use Rattle.xt_base.specs.Calls.{is_unmount};
 ghost use Rattle.xt_base.specs.Jobs.{fits_pieces, fits_plan, is_begun, is_ckpt, is_owed_as, is_waiting};
+ghost use Rattle.xt_base.specs.Maps.{at};
 ghost use Rattle.xt_base.specs.Order.{is_there, mount_is, of_life};
 ghost use Rattle.xt_base.specs.declared.steps.Reply.{Reply as AReply};
 ghost use Rattle.xt_base.specs.declared.steps.Step.{Step as AStep};
 ghost use Rattle.xt_mount.specs.Come.{read_block};
-ghost use Rattle.xt_mount.specs.Slots.{committed_in, life_in, owed_in, pieces_in, plan_in, stage_in, unused, IsAnsweredUnlessMemory, IsServed, IsServedUnlessMemory};
+ghost use Rattle.xt_mount.specs.Slots.{contents_in, life_in, owed_in, pieces_in, plan_in, stage_in, unused, IsAnsweredUnlessMemory, IsServed, IsServedUnlessMemory};
 
 use crate::mount::{Mount, Stage};
 use bytes::Bytes;
@@ -115,7 +116,7 @@ impl MountSlot {
 
     /// How far a job has come; None where it is not outstanding here.
     pub fn stage(&self, name: &JobName) -> Option<Stage>
-        ensures { result ≡ stage_in name.now self.now.mounted }
+        ensures { result ≡ stage_in name.now self.now }
     {
         match &self.mount {
             Some(mount) => mount.stage(name),
@@ -152,7 +153,7 @@ impl MountSlot {
 
     /// The committed content of a block, 4,096 bytes: what a flush writes home. None where the mount keeps none.
     pub fn committed(&self, block: Block) -> Option<&[u8]>
-        ensures value { option_copied result ≡ committed_in block self.now.mounted }
+        ensures value { option_copied result ≡ at block (contents_in self.now.mounted) }
         ensures whole { IfSome result (λ bytes. length bytes.now ≡ 4096) }
     {
         match &self.mount {
@@ -258,12 +259,7 @@ fn is_unmounted(request: &Request, reply: &Reply) -> bool
 }
 
 /// What the mount of a life answers to a request, before an unmount empties the slot.
-fn answered(
-    mount: &mut Option<Mount>,
-    life: Life,
-    request: &Request,
-    answer: &Answer,
-) -> Reply
+fn answered(mount: &mut Option<Mount>, life: Life, request: &Request, answer: &Answer) -> Reply
     requires { is_there (mount_is (of_life life request.now) mount.old) answer.now ≡ true }
     ensures { IsAnsweredUnlessMemory life request.now answer.now result mount.new mount.old }
 {
