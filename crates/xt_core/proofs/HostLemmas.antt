@@ -16,9 +16,8 @@ use Rattle.xt_base.specs.declared.steps.Reply.{Reply}
 use Rattle.xt_base.specs.declared.steps.Step.{Step}
 use Rattle.xt_base.specs.declared.steps.Step.TheVariants.{Begin, Call, End, Flush, Mount, Peek, Post, Show, Take}
 use Rattle.xt_core.proofs.FitsLemmas.{fits_is}
-use Rattle.xt_core.proofs.OneLemmas.{run_alike, run_hands}
-use Rattle.xt_core.proofs.RunLemmas.{IsAfter as IsRun, after_none, after_refused, after_taken, by_slot, none_refused}
-use Rattle.xt_core.specs.Host.{Host, IsAfter, IsKept, IsNew, IsSharedAlike, IsStepped, IsTaken, happened, may_come, was_refused}
+use Rattle.xt_core.proofs.RunLemmas.{IsAfter as IsRun, after_none, after_refused, after_taken, by_slot, none_refused, run_alike, run_hands}
+use Rattle.xt_core.specs.Host.{Host, IsAfter, IsKept, IsNew, IsSharedAlike, IsStepped, IsTaken, happened, hand_at, lone_of, may_come, was_refused}
 use Rattle.xt_core.specs.Turns.{held_in, queue_after}
 
 -- ---- by the reply
@@ -74,16 +73,16 @@ refused_by m h x r b is =
 record IsLed (h : List Event) (host : Host) : Type 0 where
   done : List Step
   said : Told
-  run : IsRun done (happened h) said host.queue host.hands host.slots
+  run : IsRun done (happened h) said host.queue (hand_at host) (lone_of host)
   refused : (m : ℕ) → is_refused m said ≡ was_refused m h
 
 led_none : (host : Host) → IsNew host → IsLed [] host
-led_none host new = record {
+led_none host isnew = record {
   done = [];
   said = untold;
   run =
-      subst (λ q. IsRun [] [] untold q host.hands host.slots) (sym new.queue)
-      (run_hands [] [] untold [] (λ w. None) host.hands host.slots new.hands (run_alike [] [] untold [] (λ w. None) (λ m. empty) host.slots (λ m. sym (new.slots m)) after_none));
+      subst (λ q. IsRun [] [] untold q (hand_at host) (lone_of host)) (sym isnew.queue)
+      (run_hands [] [] untold [] (λ w. None) (hand_at host) (lone_of host) isnew.hands (run_alike [] [] untold [] (λ w. None) (λ m. empty) (lone_of host) (λ m. sym (isnew.slots m)) after_none));
   refused = none_refused;
 }
 
@@ -91,14 +90,14 @@ led_none host new = record {
 led_refused : (h : List Event) (x : Step) (r : Reply) (old : Host) → IsLed h old → slot_of x < 16 → is_no_memory r ≡ true → IsLed (h ++ record { step = x; reply = r } ∷ []) old
 led_refused h x r old l small refused =
     let t : Said = record { slot = slot_of x; reply = r; log = []; home = [] } in
-    let why : Option Reason = reason_of (old.slots (slot_of x)).mounted in
+    let why : Option Reason = reason_of (lone_of old (slot_of x)).mounted in
     let within : slot_of x < length l.said.refused = omega (arith, l.run.refused_room, small) in
-    let run : IsRun (l.done ++ x ∷ []) (happened h) (told_refused l.said t why) old.queue old.hands old.slots =
-    after_refused l.done (happened h) l.said old.queue old.hands old.slots x l.run t why small refl old.hands refused (λ w. refl) refl in
+    let run : IsRun (l.done ++ x ∷ []) (happened h) (told_refused l.said t why) old.queue (hand_at old) (lone_of old) =
+    after_refused l.done (happened h) l.said old.queue (hand_at old) (lone_of old) x l.run t why small refl (hand_at old) refused (λ w. refl) refl in
     record {
       done = l.done ++ x ∷ [];
       said = told_refused l.said t why;
-      run = subst (λ g. IsRun (l.done ++ x ∷ []) g (told_refused l.said t why) old.queue old.hands old.slots) (sym (happened_still h x r refused)) run;
+      run = subst (λ g. IsRun (l.done ++ x ∷ []) g (told_refused l.said t why) old.queue (hand_at old) (lone_of old)) (sym (happened_still h x r refused)) run;
       refused = by_slot (slot_of x) (λ m. is_refused m (told_refused l.said t why) ≡ was_refused m (h ++ record { step = x; reply = r } ∷ []))
           (get_or-set_same l.said.refused (slot_of x) true false within
           ∙ sym (refused_by (slot_of x) h x r true (ap (λ b. b && is_no_memory r) (eq-eqb (slot_of x) (slot_of x) refl) ∙ refused) ∙ or_all (was_refused (slot_of x) h)))
@@ -107,20 +106,20 @@ led_refused h x r old l small refused =
     }
 
 -- a step that was taken
-led_taken : (h : List Event) (x : Step) (new old : Host) → IsLed h old → slot_of x < 16 → may_come old x ≡ true → is_no_memory (alone x (old.slots (slot_of x))).reply ≡ false
-    → IsTaken x (alone x (old.slots (slot_of x))).reply new old → IsLed (h ++ record { step = x; reply = (alone x (old.slots (slot_of x))).reply } ∷ []) new
+led_taken : (h : List Event) (x : Step) (new old : Host) → IsLed h old → slot_of x < 16 → may_come old x ≡ true → is_no_memory (alone x (lone_of old (slot_of x))).reply ≡ false
+    → IsTaken x (alone x (lone_of old (slot_of x))).reply new old → IsLed (h ++ record { step = x; reply = (alone x (lone_of old (slot_of x))).reply } ∷ []) new
 led_taken h x new old l small may went taken =
-    let r : Reply = (alone x (old.slots (slot_of x))).reply in
-    let t : Said = said_of x (alone x (old.slots (slot_of x))) in
-    let why : Option Reason = reason_of (new.slots (slot_of x)).mounted in
-    let run : IsRun (l.done ++ x ∷ []) (happened h ++ record { step = x; reply = r } ∷ []) (told_taken l.said t why) (queue_after x old.queue) new.hands new.slots =
-    after_taken l.done (happened h) l.said old.queue old.hands old.slots x l.run t new.slots refl may taken.slot taken.others new.hands why small went taken.hands refl in
+    let r : Reply = (alone x (lone_of old (slot_of x))).reply in
+    let t : Said = said_of x (alone x (lone_of old (slot_of x))) in
+    let why : Option Reason = reason_of (lone_of new (slot_of x)).mounted in
+    let run : IsRun (l.done ++ x ∷ []) (happened h ++ record { step = x; reply = r } ∷ []) (told_taken l.said t why) (queue_after x old.queue) (hand_at new) (lone_of new) =
+    after_taken l.done (happened h) l.said old.queue (hand_at old) (lone_of old) x l.run t (lone_of new) refl may taken.slot taken.others (hand_at new) why small went taken.hands refl in
     record {
       done = l.done ++ x ∷ [];
       said = told_taken l.said t why;
       run =
-          subst (λ g. IsRun (l.done ++ x ∷ []) g (told_taken l.said t why) new.queue new.hands new.slots) (sym (happened_more h x r went))
-          (subst (λ q. IsRun (l.done ++ x ∷ []) (happened h ++ record { step = x; reply = r } ∷ []) (told_taken l.said t why) q new.hands new.slots) (sym taken.queue) run);
+          subst (λ g. IsRun (l.done ++ x ∷ []) g (told_taken l.said t why) new.queue (hand_at new) (lone_of new)) (sym (happened_more h x r went))
+          (subst (λ q. IsRun (l.done ++ x ∷ []) (happened h ++ record { step = x; reply = r } ∷ []) (told_taken l.said t why) q (hand_at new) (lone_of new)) (sym taken.queue) run);
       refused = λ m. l.refused m ∙ sym (refused_by m h x r false (ap (λ b. (slot_of x == m) && b) went ∙ and_none (slot_of x == m)) ∙ or_none (was_refused m h));
     }
 
@@ -129,9 +128,9 @@ led_kept h new old kept l = record {
   done = l.done;
   said = l.said;
   run =
-      subst (λ q. IsRun l.done (happened h) l.said q new.hands new.slots) (sym kept.queue)
-      (run_hands l.done (happened h) l.said old.queue old.hands new.hands new.slots kept.hands
-      (run_alike l.done (happened h) l.said old.queue old.hands old.slots new.slots (λ m. sym (kept.slots m)) l.run));
+      subst (λ q. IsRun l.done (happened h) l.said q (hand_at new) (lone_of new)) (sym kept.queue)
+      (run_hands l.done (happened h) l.said old.queue (hand_at old) (hand_at new) (lone_of new) kept.hands
+      (run_alike l.done (happened h) l.said old.queue (hand_at old) (lone_of old) (lone_of new) (λ m. sym (kept.slots m)) l.run));
   refused = l.refused;
 }
 
@@ -147,7 +146,7 @@ led_more h x r new old l small s =
     ]
 
 led : {h : List Event} {host : Host} → IsAfter h host → IsLed h host
-led (IsAfter.none host new) = led_none host new
+led (IsAfter.none host isnew) = led_none host isnew
 led (IsAfter.more h x r new old a small s) = led_more h x r new old (led a) small s
 
 -- ---- what may come after a history
@@ -156,7 +155,7 @@ module _ (h : List Event) (host : Host) (x : Step) (a : IsAfter h host) (n : was
   pub may_come_is : may_come host x ≡ fits (happened h) x
   may_come_is =
       let l : IsLed h host = led a in
-      sym (fits_is (happened h) host.queue host.hands (host.slots (slot_of x)) x l.run.turn (l.run.below (slot_of x)) (l.run.state (slot_of x) (l.refused (slot_of x) ∙ n)))
+      sym (fits_is (happened h) host.queue (hand_at host) (lone_of host (slot_of x)) x l.run.turn (l.run.below (slot_of x)) (l.run.state (slot_of x) (l.refused (slot_of x) ∙ n)))
 
   -- and is answered as its slot alone answers it after its own steps
   pub reply_is : (r : Reply) (new : Host) → IsTaken x r new host → r ≡ (told (happened h) x).reply
@@ -165,17 +164,17 @@ module _ (h : List Event) (host : Host) (x : Step) (a : IsAfter h host) (n : was
       taken.reply ∙ ap (λ s. (alone x s).reply) (l.run.state (slot_of x) (l.refused (slot_of x) ∙ n))
 
 -- ---- nothing but the front of the queue and a hand is shared
-pub alike_may_come : (a b : Host) (x : Step) → IsSharedAlike x a b → a.slots (slot_of x) ≡ b.slots (slot_of x) → may_come a x ≡ may_come b x
-alike_may_come a b (Take worker name) shared own = ap (λ f. (f && is_none (a.hands worker)) && true) shared.0 ∙ ap (λ f. (is_first name b.queue && f) && true) shared.1
-alike_may_come a b (Begin worker name) shared own = ap (λ o. is_first name (option_to_list o) && suits (Begin worker name) (a.slots name.slot)) shared ∙ ap (λ s. is_first name (held_in b.hands worker) && suits (Begin worker name) s) own
-alike_may_come a b (End worker name answers) shared own = ap (λ o. is_first name (option_to_list o) && suits (End worker name answers) (a.slots name.slot)) shared ∙ ap (λ s. is_first name (held_in b.hands worker) && suits (End worker name answers) s) own
-alike_may_come a b (Flush worker name answers) shared own = ap (λ o. is_first name (option_to_list o) && suits (Flush worker name answers) (a.slots name.slot)) shared ∙ ap (λ s. is_first name (held_in b.hands worker) && suits (Flush worker name answers) s) own
+pub alike_may_come : (a b : Host) (x : Step) → IsSharedAlike x a b → lone_of a (slot_of x) ≡ lone_of b (slot_of x) → may_come a x ≡ may_come b x
+alike_may_come a b (Take worker name) shared own = ap (λ f. (f && is_none (hand_at a worker)) && true) shared.0 ∙ ap (λ f. (is_first name b.queue && f) && true) shared.1
+alike_may_come a b (Begin worker name) shared own = ap (λ o. is_first name (option_to_list o) && suits (Begin worker name) (lone_of a name.slot)) shared ∙ ap (λ s. is_first name (held_in (hand_at b) worker) && suits (Begin worker name) s) own
+alike_may_come a b (End worker name answers) shared own = ap (λ o. is_first name (option_to_list o) && suits (End worker name answers) (lone_of a name.slot)) shared ∙ ap (λ s. is_first name (held_in (hand_at b) worker) && suits (End worker name answers) s) own
+alike_may_come a b (Flush worker name answers) shared own = ap (λ o. is_first name (option_to_list o) && suits (Flush worker name answers) (lone_of a name.slot)) shared ∙ ap (λ s. is_first name (held_in (hand_at b) worker) && suits (Flush worker name answers) s) own
 alike_may_come a b (Mount slot log_bytes blocks) shared own = refl
 alike_may_come a b (Call slot life request answer) shared own = ap (suits (Call slot life request answer)) own
 alike_may_come a b (Post name) shared own = ap (suits (Post name)) own
 alike_may_come a b (Show slot) shared own = refl
 alike_may_come a b (Peek slot) shared own = refl
 
-pub alike_taken : (a b c d : Host) (x : Step) (r q : Reply) → a.slots (slot_of x) ≡ b.slots (slot_of x) → IsTaken x r c a → IsTaken x q d b → (r ≡ q) × (c.slots (slot_of x) ≡ d.slots (slot_of x))
+pub alike_taken : (a b c d : Host) (x : Step) (r q : Reply) → lone_of a (slot_of x) ≡ lone_of b (slot_of x) → IsTaken x r c a → IsTaken x q d b → (r ≡ q) × (lone_of c (slot_of x) ≡ lone_of d (slot_of x))
 alike_taken a b c d x r q own left right =
     (left.reply ∙ ap (λ s. (alone x s).reply) own ∙ sym right.reply, left.slot ∙ ap (λ s. (alone x s).slot) own ∙ sym right.slot)

@@ -87,7 +87,7 @@ module _ (cells : List Cell) (a : AreInPlace cells) (i : ℕ) (small : i < 16) (
 -- ---- a step of one slot
 -- the host of slots, a queue and hands
 abbrev pub host_of : List Cell → InTurn → Host
-host_of cells turns = record { slots = states_of cells; queue = turns.queue; hands = hand_of turns }
+host_of cells turns = record { cells = cells; queue = turns.queue; hands = turns.hands }
 
 left_is : (x : Step) (queue : List JobName) → post_of x ≡ None → queue_left x queue ≡ queue_after x queue
 left_is (Post name) queue h = absurd (cc)

@@ -1,6 +1,6 @@
 -- The host as a reader sees it: its slots, one queue of names, and the hands of its workers; and what one step makes of it.
 use Rattle.std.specs.List.{list_any}
-use Rattle.std.specs.Prelude.{Bool, List, MatchBool, None, Option, [], filter, is_none, not, true, ℕ, ◌&&◌, ◌++◌, ◌<◌, ◌==◌, ◌∷◌, ◌≡◌, ◌≢◌}
+use Rattle.std.specs.Prelude.{Bool, List, MatchBool, None, Option, [], filter, is_none, not, slice_index_or, true, ℕ, ◌&&◌, ◌++◌, ◌<◌, ◌==◌, ◌∷◌, ◌≡◌, ◌≢◌}
 use Rattle.xt_base.specs.Alone.{alone}
 use Rattle.xt_base.specs.Isolation.{is_no_memory}
 use Rattle.xt_base.specs.Order.{Event, is_first}
@@ -10,37 +10,47 @@ use Rattle.xt_base.specs.declared.names.JobName.{JobName}
 use Rattle.xt_base.specs.declared.steps.Reply.{Reply}
 use Rattle.xt_base.specs.declared.steps.Step.{Step}
 use Rattle.xt_base.specs.declared.steps.Step.TheVariants.{Begin, End, Flush, Take}
+use Rattle.xt_core.specs.Cells.{Cell}
+use Rattle.xt_core.specs.InPlace.{states_of}
 use Rattle.xt_core.specs.Turns.{can_step, hand_after, queue_after}
 
--- the states of the slots, by number; the names that were posted and not taken; and what each worker took and has not finished
+-- sixteen slots, each at the place of its number; the names that were posted and not taken; and what each worker took and has not finished
 pub record Host : Type 0 where
-  pub slots : ℕ → Lone
+  pub cells : List Cell
   pub queue : List JobName
-  pub hands : ℕ → Option JobName
+  pub hands : List (Option JobName)
+
+-- the state of a slot
+abbrev pub lone_of : Host → ℕ → Lone
+lone_of host m = states_of host.cells m
+
+-- what a worker has in hand
+abbrev pub hand_at : Host → ℕ → Option JobName
+hand_at host w = slice_index_or host.hands w None
 
 -- no slot was ever mounted, no name was posted, and all workers are free
 pub record IsNew (host : Host) : Type 0 where
-  pub slots : (m : ℕ) → host.slots m ≡ empty
+  pub slots : (m : ℕ) → lone_of host m ≡ empty
   pub queue : host.queue ≡ []
-  pub hands : (w : ℕ) → host.hands w ≡ None
+  pub hands : (w : ℕ) → hand_at host w ≡ None
 
 -- whether a step may come: by the front of the queue and its worker's hand, and by its own slot's state
 abbrev pub may_come : Host → Step → Bool
-may_come host x = can_step host.queue host.hands (host.slots (slot_of x)) x
+may_come host x = can_step host.queue (hand_at host) (lone_of host (slot_of x)) x
 
 -- nothing changed
 pub record IsKept (new old : Host) : Type 0 where
-  pub slots : (m : ℕ) → new.slots m ≡ old.slots m
+  pub slots : (m : ℕ) → lone_of new m ≡ lone_of old m
   pub queue : new.queue ≡ old.queue
-  pub hands : (w : ℕ) → new.hands w ≡ old.hands w
+  pub hands : (w : ℕ) → hand_at new w ≡ hand_at old w
 
 -- a step was taken: its reply and what it makes of its slot are those of the slot alone; no other slot changed; the queue and the hands follow
 pub record IsTaken (x : Step) (r : Reply) (new old : Host) : Type 0 where
-  pub reply : r ≡ (alone x (old.slots (slot_of x))).reply
-  pub slot : new.slots (slot_of x) ≡ (alone x (old.slots (slot_of x))).slot
-  pub others : (m : ℕ) → slot_of x ≢ m → new.slots m ≡ old.slots m
+  pub reply : r ≡ (alone x (lone_of old (slot_of x))).reply
+  pub slot : lone_of new (slot_of x) ≡ (alone x (lone_of old (slot_of x))).slot
+  pub others : (m : ℕ) → slot_of x ≢ m → lone_of new m ≡ lone_of old m
   pub queue : new.queue ≡ queue_after x old.queue
-  pub hands : (w : ℕ) → new.hands w ≡ hand_after x r w (old.hands w)
+  pub hands : (w : ℕ) → hand_at new w ≡ hand_after x r w (hand_at old w)
 
 -- a step that might come was taken, or it was answered ENOMEM and nothing changed
 pub record IsStepped (x : Step) (r : Reply) (new old : Host) : Type 0 where
@@ -65,8 +75,8 @@ was_refused m h = list_any (λ e. (slot_of e.step == m) && is_no_memory e.reply)
 -- what a step can see of other slots' steps is alike: a take sees whether its name is in front and its worker is free, a job step its worker's
 -- hand, and every other step nothing
 abbrev pub IsSharedAlike : Step → Host → Host → Type 0
-IsSharedAlike (Take worker name) a b = (is_first name a.queue ≡ is_first name b.queue) × (is_none (a.hands worker) ≡ is_none (b.hands worker))
-IsSharedAlike (Begin worker name) a b = a.hands worker ≡ b.hands worker
-IsSharedAlike (End worker name answers) a b = a.hands worker ≡ b.hands worker
-IsSharedAlike (Flush worker name answers) a b = a.hands worker ≡ b.hands worker
+IsSharedAlike (Take worker name) a b = (is_first name a.queue ≡ is_first name b.queue) × (is_none (hand_at a worker) ≡ is_none (hand_at b worker))
+IsSharedAlike (Begin worker name) a b = hand_at a worker ≡ hand_at b worker
+IsSharedAlike (End worker name answers) a b = hand_at a worker ≡ hand_at b worker
+IsSharedAlike (Flush worker name answers) a b = hand_at a worker ≡ hand_at b worker
 IsSharedAlike other a b = Unit {0}

@@ -1,5 +1,5 @@
 pub mod Turns
+pub mod Cells
 pub mod Host
 pub mod Runs
 pub mod InPlace
-pub mod Solo

@@ -7,7 +7,7 @@ use Rattle.xt_base.specs.Steps.{slot_of, strike}
 use Rattle.xt_base.specs.declared.outcomes.RunFault.{RunFault}
 use Rattle.xt_base.specs.declared.outcomes.RunFault.TheVariants.{Disorder, Memory}
 use Rattle.xt_base.specs.declared.steps.Step.{Step}
-use Rattle.xt_core.specs.Host.{Host, IsStepped}
+use Rattle.xt_core.specs.Host.{Host, IsStepped, lone_of}
 
 -- the steps of each slot that was not refused memory are orderly by themselves
 abbrev pub AreStruckOrderly : List Step → Told → Type 0
@@ -42,9 +42,9 @@ IsNotOrderly steps Memory = Unit {0}
 pub record IsSaid (x : Step) (t : Said) (new old : Host) : Type 0 where
   pub stepped : IsStepped x t.reply new old
   pub place : t.slot ≡ slot_of x
-  pub log : t.log ≡ (if is_no_memory t.reply then [] else (alone x (old.slots (slot_of x))).log)
-  pub home : t.home ≡ (if is_no_memory t.reply then [] else (alone x (old.slots (slot_of x))).home)
+  pub log : t.log ≡ (if is_no_memory t.reply then [] else (alone x (lone_of old (slot_of x))).log)
+  pub home : t.home ≡ (if is_no_memory t.reply then [] else (alone x (lone_of old (slot_of x))).home)
 
 -- its turn was told
 abbrev pub IsMore : Step → Host → Host → Told → Told → Type 0
-IsMore x new old told_new told_old = (t : Said) × (IsSaid x t new old × (told_new ≡ told_then told_old t (reason_of (new.slots (slot_of x)).mounted)) × (slot_of x < 16))
+IsMore x new old told_new told_old = (t : Said) × (IsSaid x t new old × (told_new ≡ told_then told_old t (reason_of (lone_of new (slot_of x)).mounted)) × (slot_of x < 16))

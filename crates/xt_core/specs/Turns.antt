@@ -35,6 +35,11 @@ queue_after (Post name) queue = queue ++ name ∷ []
 queue_after (Take worker name) queue = drop 1 queue
 queue_after other queue = queue
 
+-- a post puts its name behind the others
+abbrev pub queue_put : Step → List JobName → List JobName
+queue_put (Post name) queue = queue ++ name ∷ []
+queue_put other queue = queue
+
 -- a take takes the first name away
 abbrev pub queue_left : Step → List JobName → List JobName
 queue_left (Take worker name) queue = drop 1 queue

@@ -6,7 +6,7 @@ ghost use Rattle.xt_base.specs.Isolation.{is_no_memory, told_then};
 ghost use Rattle.xt_base.specs.Order.{fits, post_of, told, Event};
 ghost use Rattle.xt_base.specs.Steps.{slot_of};
 ghost use Rattle.xt_base.specs.declared.steps.Step.{Step as AStep};
-ghost use Rattle.xt_core.specs.Host.{happened, may_come, was_refused, IsAfter, IsNew, IsStepped};
+ghost use Rattle.xt_core.specs.Host.{happened, lone_of, may_come, was_refused, IsAfter, IsNew, IsStepped};
 ghost use Rattle.xt_core.specs.InPlace.{AreUnused};
 ghost use Rattle.xt_core.specs.Runs.{IsMore, IsSaid};
 
@@ -32,12 +32,11 @@ pub struct HostCore {
 
 impl Model for HostCore {
     ghost use Rattle.xt_core.specs.Host.{Host};
-    ghost use Rattle.xt_core.specs.InPlace.{states_of, AreInPlace};
-    ghost use Rattle.xt_core.specs.Turns.{hand_of};
+    ghost use Rattle.xt_core.specs.InPlace.{AreInPlace};
 
     ghost Value = { Host };
 
-    ghost view = { λ h. record { slots = states_of h.cells.items; queue = h.turns.queue; hands = hand_of h.turns } };
+    ghost view = { λ h. record { cells = h.cells.items; queue = h.turns.queue; hands = h.turns.hands } };
 
     ghost invariant = { λ h. AreInPlace h.cells.items };
 }
@@ -80,7 +79,7 @@ impl HostCore {
 
     /// Why a slot is shut, if it is.
     fn shut(&self, slot: Slot) -> Option<Reason>
-        ensures { result ≡ reason_of (self.now.slots slot).mounted }
+        ensures { result ≡ reason_of (lone_of self.now slot).mounted }
     {
         self.cells[slot.index()].shut()
     }

@@ -6,7 +6,7 @@ ghost use Rattle.xt_base.specs.Order.{orderly};
 ghost use Rattle.xt_base.specs.Steps.{slot_of, strike};
 ghost use Rattle.xt_base.specs.declared.steps.Reply.{Reply as AReply};
 ghost use Rattle.xt_base.specs.declared.steps.Step.{Step as AStep};
-ghost use Rattle.xt_core.specs.Host.{may_come, Host, IsSharedAlike, IsTaken};
+ghost use Rattle.xt_core.specs.Host.{lone_of, may_come, Host, IsSharedAlike, IsTaken};
 ghost use Rattle.xt_core.specs.Runs.{IsSameFor};
 
 /// Two worlds: where two lists of steps agree on what names a slot, two runs of them, neither of which
@@ -25,6 +25,6 @@ pub fn orderly_parts()
 /// slot of a step is alike, and of the rest only what the step can see of it, let the step come alike, answer it alike, and
 /// leave its slot alike.
 pub fn front_and_hands_are_shared()
-    ensures order { (a b : Host) (x : AStep) → IsSharedAlike x a b → a.slots (slot_of x) ≡ b.slots (slot_of x) → may_come a x ≡ may_come b x }
-    ensures turn { (a b c d : Host) (x : AStep) (r q : AReply) → a.slots (slot_of x) ≡ b.slots (slot_of x) → IsTaken x r c a → IsTaken x q d b → (r ≡ q) × (c.slots (slot_of x) ≡ d.slots (slot_of x)) }
+    ensures order { (a b : Host) (x : AStep) → IsSharedAlike x a b → lone_of a (slot_of x) ≡ lone_of b (slot_of x) → may_come a x ≡ may_come b x }
+    ensures turn { (a b c d : Host) (x : AStep) (r q : AReply) → lone_of a (slot_of x) ≡ lone_of b (slot_of x) → IsTaken x r c a → IsTaken x q d b → (r ≡ q) × (lone_of c (slot_of x) ≡ lone_of d (slot_of x)) }
 {}
