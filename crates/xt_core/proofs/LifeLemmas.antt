@@ -31,7 +31,6 @@ use Rattle.xt_base.specs.declared.steps.Reply.TheVariants.{Done, Free, Kept, Oka
 use Rattle.xt_base.specs.declared.steps.Request.{Request}
 use Rattle.xt_base.specs.declared.steps.Step.{Step}
 use Rattle.xt_base.specs.declared.steps.Step.TheVariants.{Begin, Call, End, Flush, Mount, Peek, Post, Show, Take}
-
 use Rattle.xt_base.proofs.SameLemmas.{IsSameLife, same_begin, same_call, same_end, same_flush, same_life}
 
 -- ---- any step of a slot

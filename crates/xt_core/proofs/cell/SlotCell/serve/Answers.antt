@@ -15,8 +15,8 @@ pub returns-in-Call : goal.returns-in-Call
 returns-in-Call c =
     let old = c.self-in-Call.inside in
     let named =
-        number_is c.args.step.now (Step.Call c.in-Call.slot c.in-Call.life c.in-Call.request c.in-Call.answer) (cell_with old.seen_life old.seen_reason old.mount) c.args.self.now c.in-Call.is c.requires.slot
-        c.self-in-Call.view_is in
+    number_is c.args.step.now (Step.Call c.in-Call.slot c.in-Call.life c.in-Call.request c.in-Call.answer) (cell_with old.seen_life old.seen_reason old.mount) c.args.self.now c.in-Call.is c.requires.slot
+    c.self-in-Call.view_is in
     turned_as c.args.step.now (Step.Call old.mount.slot c.in-Call.life c.in-Call.request c.in-Call.answer) c.call.result (cell_with old.seen_life old.seen_reason c.call.new.self) (cell_with old.seen_life old.seen_reason old.mount)
     c.args.self.now (c.in-Call.is ∙ ap (λ n. Step.Call n c.in-Call.life c.in-Call.request c.in-Call.answer) named) c.self-in-Call.view_is
     (turned (Step.Call old.mount.slot c.in-Call.life c.in-Call.request c.in-Call.answer) c.call.result old.seen_life old.seen_reason c.call.new.self old.mount c.call.ensures)
