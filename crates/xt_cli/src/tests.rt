@@ -5,6 +5,7 @@ mod buffers;
 mod drive;
 mod home;
 mod idle;
+mod maxima;
 mod rolls;
 mod rows;
 mod shut;

@@ -7,3 +7,5 @@ pub mod laws;
 mod offers;
 pub mod run;
 mod turns;
+
+pub use host::HostCore;

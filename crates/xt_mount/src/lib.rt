@@ -21,3 +21,5 @@ mod serve;
 mod settle;
 pub mod slot;
 mod space;
+
+pub use mount::{Mount, Stage};
