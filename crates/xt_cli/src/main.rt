@@ -9,35 +9,56 @@ mod script;
 mod tests;
 mod writing;
 
-use clap::Command;
+use clap::{Arg, ArgMatches, Command};
 use clap::error::ErrorKind;
 use fault::ScriptFault;
 use script::run_script;
 use std::alloc::{AllocError, Global};
 use std::io::{BufWriter, Input};
 use std::process::ExitCode;
+use xt_base::names::Slot;
 
 /// How many bytes of output are written at once.
 const OUTPUT_BYTES: usize = 65_536;
+
+/// The slots, as a command line spells them.
+const SLOTS: [&str; 16] = [
+    "0", "1", "2", "3", "4", "5", "6", "7", "8", "9", "10", "11", "12", "13", "14", "15",
+];
 
 /// The command line.
 fn command<'a>(alloc: Global) -> Result<Command<'a>, AllocError> {
     let script = Command::new(alloc, "script").about(
         "Runs the steps on standard input, one on a line, and prints each reply with its offers",
     );
+    let slot = Arg::new(alloc, "SLOT")
+        .help("The slot, 0 to 15")
+        .required(true)
+        .value_parser(SLOTS.as_slice());
+    let strike = Command::new(alloc, "strike")
+        .about("Runs the steps of one slot alone, all others struck out")
+        .arg(slot)?;
     Command::new(alloc, "xth")
         .version("0.1.0")
         .about("Transactions over the blocks of a volume, step by step")
         .bin_name("xth")?
         .subcommand_required(true)
-        .subcommand(script)
+        .subcommand(script)?
+        .subcommand(strike)
 }
 
-/// Runs the script on standard input.
-fn script_on_streams(rt: &HostRuntime) -> Result<u8, ScriptFault> {
+/// The slot that `strike` names; None of `script`, which runs the steps of all.
+fn slot_of(matches: &ArgMatches) -> Option<Slot> {
+    let word = matches.subcommand_matches("strike")?.get_str("SLOT")?;
+    let place = SLOTS.iter().position(|spelled| *spelled == word)?;
+    Slot::new(place as u8)
+}
+
+/// Runs the script on standard input: all its steps, or those of one slot.
+fn script_on_streams(rt: &HostRuntime, only: Option<Slot>) -> Result<u8, ScriptFault> {
     let alloc = rt.alloc();
     let mut writer = BufWriter::with_capacity(alloc, OUTPUT_BYTES, rt.stdout())?;
-    Ok(run_script(alloc, &mut rt.reader(), &mut writer, &mut rt.stderr(), None))
+    Ok(run_script(alloc, &mut rt.reader(), &mut writer, &mut rt.stderr(), only))
 }
 
 /// What a command line that is none prints, and its status.
@@ -54,7 +75,7 @@ fn run(rt: &HostRuntime) -> Result<u8, ScriptFault> {
     let alloc = rt.alloc();
     let words: Vec<String> = std::env::args(rt)?.collect(alloc)?;
     match command(alloc)?.try_get_matches_from(words.as_slice()) {
-        Ok(_) => script_on_streams(rt),
+        Ok(matches) => script_on_streams(rt, slot_of(&matches)),
         Err(error) => refuse(rt, &error),
     }
 }

@@ -12,7 +12,7 @@ use std::io::{self, Read, Write};
 use xt_base::names::Slot;
 use xt_base::outcomes::RunFault;
 use xt_base::steps::Step;
-use xt_core::run::run_one;
+use xt_core::HostCore;
 
 /// The steps that are run: all, or those of one slot.
 fn pick(mut steps: Vec<Step>, only: Option<Slot>) -> Vec<Step>
@@ -31,7 +31,7 @@ fn play_steps<W: Write>(alloc: Global, writer: &mut W, steps: &[Step]) -> Result
     ensures cut { OnErr result (IsCutShort steps.now (W.contents writer.old) (W.contents writer.new)) }
     ensures fault { IfErr result (λ fault. is_of_script fault ≡ false) }
 {
-    match run_one(alloc, steps) {
+    match HostCore::run(alloc, steps) {
         Ok(told) => {
             print_turns(alloc, writer, told.turns()).map_err(ScriptFault::Io)?;
             Ok(0)
