@@ -12,6 +12,7 @@ mod places;
 mod rolls;
 mod rows;
 mod shut;
+mod slots;
 
 use crate::script::run_script;
 use asked::*;
@@ -25,6 +26,7 @@ use places::*;
 use rolls::*;
 use rows::*;
 use shut::*;
+use slots::*;
 use std::alloc::Global;
 use std::io::{self, Read, Write};
 use std::process::Abort;
@@ -323,9 +325,51 @@ fn a_broken_order_is_printed_after_what_came_before(rt: HostRuntime) {
     says(&rt, alloc, "post 0.1.ckpt.1\n", "disorder 1\n", 3);
 }
 
+/// Asserts that a script's steps of one slot print just the lines that the script prints of that slot.
+fn strikes(rt: &impl Abort, alloc: Global, input: &str, output: &str, index: u8) -> Result<(), Fail> {
+    let slot = Slot::new(index).ok_or("a slot")?;
+    let number = format!(in alloc; "{index} ")?;
+    let mut want = Vec::new(alloc);
+    for line in output.lines() {
+        if line.starts_with(number.as_str()) {
+            want.extend_from_slice(line.as_bytes())?;
+            want.push(b'\n')?;
+        }
+    }
+    let (mut out, mut err) = (Vec::new(alloc), Vec::new(alloc));
+    let got = run_script(alloc, &mut input.as_bytes(), &mut out, &mut err, Some(slot));
+    assert_eq!(rt; got, 0);
+    assert_eq!(rt; out.as_slice(), want.as_slice());
+    assert!(rt; err.is_empty());
+    Ok(())
+}
+
 #[test]
-fn a_step_of_another_slot_breaks_order(rt: HostRuntime) {
-    says(&rt, rt.alloc(), TWO_SLOTS, "0 life 1\ndisorder 2\n", 3);
+fn each_mount_is_told_what_it_would_be_told_alone(rt: HostRuntime) -> Result<(), Fail> {
+    let alloc = rt.alloc();
+    for (input, output) in [(ROW11_IN, ROW11_OUT), (ROW13_IN, ROW13_OUT), (ROW16_IN, ROW16_OUT)] {
+        says(&rt, alloc, input, output, 0);
+        strikes(&rt, alloc, input, output, 0)?;
+        strikes(&rt, alloc, input, output, 1)?;
+    }
+    Ok(())
+}
+
+#[test]
+fn a_job_of_another_slot_stands_in_front(rt: HostRuntime) -> Result<(), Fail> {
+    let alloc = rt.alloc();
+    says(&rt, alloc, ROW12_IN, ROW12_OUT, 3);
+    strikes(&rt, alloc, ROW12_IN, ROW12_OUT, 0)?;
+    Ok(())
+}
+
+#[test]
+fn thirty_two_names_wait(rt: HostRuntime) -> Result<(), Fail> {
+    let alloc = rt.alloc();
+    says(&rt, alloc, NAMES_IN, NAMES_OUT, 0);
+    strikes(&rt, alloc, NAMES_IN, NAMES_OUT, 0)?;
+    strikes(&rt, alloc, NAMES_IN, NAMES_OUT, 15)?;
+    Ok(())
 }
 
 #[test]
