@@ -80,6 +80,14 @@ pub fault_unparsed : (left : Option (List ℕ)) (only : Option ℕ) (script : Li
 fault_unparsed None only script old fault read is = tt
 fault_unparsed (Some bytes) only script old fault read is = fault_in only bytes old fault (subst (λ s. IsFaultIn s fault) read is)
 
+-- a script was parsed, and its steps were not picked
+pub fault_unpicked : (left : Option (List ℕ)) (only : Option ℕ) (old : Option (List ℕ)) (fault : ScriptFault) → is_of_script fault ≡ false → IfSome left (λ bytes. IsFault only bytes old old fault)
+fault_unpicked None only old fault other = tt
+fault_unpicked (Some bytes) only old (BadLine number) other = absurd (true≢false other)
+fault_unpicked (Some bytes) only old TooLong other = absurd (true≢false other)
+fault_unpicked (Some bytes) only old (Io error) other = inl (keeps_same old)
+fault_unpicked (Some bytes) only old (Memory error) other = inl (keeps_same old)
+
 -- a script's steps were picked, and their run was cut short
 pub fault_late : (left : Option (List ℕ)) (only : Option ℕ) (script : List ℕ) (steps chosen : List Step) (old new : Option (List ℕ)) (fault : ScriptFault) → IfSome left (λ bytes. script ≡ bytes) → IsScript script steps → chosen ≡ picked only steps → IsCutShort chosen old new → is_of_script fault ≡ false → IfSome left (λ bytes. IsFault only bytes old new fault)
 fault_late None only script steps chosen old new fault read says picks cut other = tt

@@ -1,4 +1,4 @@
-//! The program `xth`: transactions of a mount, step by step.
+//! The program `xth`: transactions of mounted volumes, step by step.
 #![tactic(auto)]
 
 mod fault;
@@ -9,8 +9,8 @@ mod script;
 mod tests;
 mod writing;
 
-use clap::{Arg, ArgMatches, Command};
 use clap::error::ErrorKind;
+use clap::{Arg, ArgMatches, Command};
 use fault::ScriptFault;
 use script::run_script;
 use std::alloc::{AllocError, Global};
@@ -21,8 +21,8 @@ use xt_base::names::Slot;
 /// How many bytes of output are written at once.
 const OUTPUT_BYTES: usize = 65_536;
 
-/// The slots, as a command line spells them.
-const SLOTS: [&str; 16] = [
+/// The slots, spelled as in the lines of a script.
+const SLOTS: &[&str] = &[
     "0", "1", "2", "3", "4", "5", "6", "7", "8", "9", "10", "11", "12", "13", "14", "15",
 ];
 
@@ -32,11 +32,11 @@ fn command<'a>(alloc: Global) -> Result<Command<'a>, AllocError> {
         "Runs the steps on standard input, one on a line, and prints each reply with its offers",
     );
     let slot = Arg::new(alloc, "SLOT")
-        .help("The slot, 0 to 15")
+        .help("A slot, 0 to 15")
         .required(true)
-        .value_parser(SLOTS.as_slice());
+        .value_parser(SLOTS);
     let strike = Command::new(alloc, "strike")
-        .about("Runs the steps of one slot alone, all others struck out")
+        .about("The same with the steps of one slot alone")
         .arg(slot)?;
     Command::new(alloc, "xth")
         .version("0.1.0")
@@ -47,14 +47,13 @@ fn command<'a>(alloc: Global) -> Result<Command<'a>, AllocError> {
         .subcommand(strike)
 }
 
-/// The slot that `strike` names; None of `script`, which runs the steps of all.
-fn slot_of(matches: &ArgMatches) -> Option<Slot> {
-    let word = matches.subcommand_matches("strike")?.get_str("SLOT")?;
-    let place = SLOTS.iter().position(|spelled| *spelled == word)?;
-    Slot::new(place as u8)
+/// The slot to which a script is struck, if it is.
+fn only_slot(matches: &ArgMatches) -> Option<Slot> {
+    let strike = matches.subcommand_matches("strike")?;
+    Slot::new(strike.get_one("SLOT")?)
 }
 
-/// Runs the script on standard input: all its steps, or those of one slot.
+/// Runs the script on standard input, or the steps of one slot of it.
 fn script_on_streams(rt: &HostRuntime, only: Option<Slot>) -> Result<u8, ScriptFault> {
     let alloc = rt.alloc();
     let mut writer = BufWriter::with_capacity(alloc, OUTPUT_BYTES, rt.stdout())?;
@@ -75,7 +74,7 @@ fn run(rt: &HostRuntime) -> Result<u8, ScriptFault> {
     let alloc = rt.alloc();
     let words: Vec<String> = std::env::args(rt)?.collect(alloc)?;
     match command(alloc)?.try_get_matches_from(words.as_slice()) {
-        Ok(matches) => script_on_streams(rt, slot_of(&matches)),
+        Ok(matches) => script_on_streams(rt, only_slot(&matches)),
         Err(error) => refuse(rt, &error),
     }
 }

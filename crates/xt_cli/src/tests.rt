@@ -5,10 +5,7 @@ mod buffers;
 mod drive;
 mod home;
 mod idle;
-mod longest;
 mod maxima;
-mod orders;
-mod places;
 mod rolls;
 mod rows;
 mod shut;
@@ -20,9 +17,6 @@ use buffers::*;
 use drive::{Told, drive, home_lines, lines_of, log_lines};
 use home::*;
 use idle::*;
-use longest::*;
-use orders::*;
-use places::*;
 use rolls::*;
 use rows::*;
 use shut::*;
@@ -325,51 +319,81 @@ fn a_broken_order_is_printed_after_what_came_before(rt: HostRuntime) {
     says(&rt, alloc, "post 0.1.ckpt.1\n", "disorder 1\n", 3);
 }
 
-/// Asserts that a script's steps of one slot print just the lines that the script prints of that slot.
-fn strikes(rt: &impl Abort, alloc: Global, input: &str, output: &str, index: u8) -> Result<(), Fail> {
-    let slot = Slot::new(index).ok_or("a slot")?;
-    let number = format!(in alloc; "{index} ")?;
-    let mut want = Vec::new(alloc);
-    for line in output.lines() {
-        if line.starts_with(number.as_str()) {
-            want.extend_from_slice(line.as_bytes())?;
-            want.push(b'\n')?;
-        }
-    }
-    let (mut out, mut err) = (Vec::new(alloc), Vec::new(alloc));
-    let got = run_script(alloc, &mut input.as_bytes(), &mut out, &mut err, Some(slot));
-    assert_eq!(rt; got, 0);
-    assert_eq!(rt; out.as_slice(), want.as_slice());
-    assert!(rt; err.is_empty());
-    Ok(())
+#[test]
+fn slots_are_mounted_side_by_side(rt: HostRuntime) {
+    let want = "0 life 1\n1 life 1\n0 t1\n1 t1\n0 ok\n";
+    says(&rt, rt.alloc(), TWO_SLOTS, want, 0);
 }
 
-#[test]
-fn each_mount_is_told_what_it_would_be_told_alone(rt: HostRuntime) -> Result<(), Fail> {
-    let alloc = rt.alloc();
-    for (input, output) in [(ROW11_IN, ROW11_OUT), (ROW13_IN, ROW13_OUT), (ROW16_IN, ROW16_OUT)] {
-        says(&rt, alloc, input, output, 0);
-        strikes(&rt, alloc, input, output, 0)?;
-        strikes(&rt, alloc, input, output, 1)?;
+/// Asserts what a script prints, and what the steps of each of two of its slots print by themselves.
+fn says_struck(
+    rt: &impl Abort,
+    alloc: Global,
+    input: &str,
+    want: (&str, u8),
+    struck: [(u8, &str); 2],
+) -> Result<(), Fail> {
+    says(rt, alloc, input, want.0, want.1);
+    for (index, want) in struck {
+        let slot = Slot::new(index).ok_or("a slot")?;
+        says_of(rt, alloc, input, Some(slot), want, 0);
     }
     Ok(())
 }
 
 #[test]
-fn a_job_of_another_slot_stands_in_front(rt: HostRuntime) -> Result<(), Fail> {
-    let alloc = rt.alloc();
-    says(&rt, alloc, ROW12_IN, ROW12_OUT, 3);
-    strikes(&rt, alloc, ROW12_IN, ROW12_OUT, 0)?;
-    Ok(())
+fn two_slots_in_turn_say_what_each_says_alone(rt: HostRuntime) -> Result<(), Fail> {
+    says_struck(
+        &rt,
+        rt.alloc(),
+        ROW11_IN,
+        (ROW11_OUT, 0),
+        [(0, ROW11_0), (1, ROW11_1)],
+    )
 }
 
 #[test]
-fn thirty_two_names_wait(rt: HostRuntime) -> Result<(), Fail> {
-    let alloc = rt.alloc();
-    says(&rt, alloc, NAMES_IN, NAMES_OUT, 0);
-    strikes(&rt, alloc, NAMES_IN, NAMES_OUT, 0)?;
-    strikes(&rt, alloc, NAMES_IN, NAMES_OUT, 15)?;
-    Ok(())
+fn a_take_that_is_not_the_front_breaks_order(rt: HostRuntime) -> Result<(), Fail> {
+    says_struck(
+        &rt,
+        rt.alloc(),
+        ROW12_IN,
+        (ROW12_OUT, 3),
+        [(0, ROW12_0), (1, ROW12_1)],
+    )
+}
+
+#[test]
+fn a_failing_disk_shuts_its_own_slot_alone(rt: HostRuntime) -> Result<(), Fail> {
+    says_struck(
+        &rt,
+        rt.alloc(),
+        ROW13_IN,
+        (ROW13_OUT, 0),
+        [(0, ROW13_0), (1, ROW13_1)],
+    )
+}
+
+#[test]
+fn a_full_slot_leaves_room_in_another(rt: HostRuntime) -> Result<(), Fail> {
+    says_struck(
+        &rt,
+        rt.alloc(),
+        ROW16A_IN,
+        (ROW16A_OUT, 0),
+        [(0, ROW16A_0), (1, ROW16A_1)],
+    )
+}
+
+#[test]
+fn thirty_two_names(rt: HostRuntime) -> Result<(), Fail> {
+    says_struck(
+        &rt,
+        rt.alloc(),
+        NAMES_IN,
+        (NAMES_OUT, 0),
+        [(0, NAMES_0), (15, NAMES_15)],
+    )
 }
 
 #[test]
@@ -428,40 +452,6 @@ fn what_is_not_asked_is_not_owed(rt: HostRuntime) {
     says(&rt, alloc, PUSH_ENDS_IN, PUSH_ENDS_OUT, 3);
     says(&rt, alloc, EMPTY_LIST_IN, EMPTY_LIST_OUT, 3);
     says(&rt, alloc, SHUT_OWES_IN, SHUT_OWES_OUT, 3);
-}
-
-#[test]
-fn the_first_refusal_is_answered(rt: HostRuntime) {
-    let alloc = rt.alloc();
-    says(&rt, alloc, ALLOC_ORDER_IN, ALLOC_ORDER_OUT, 0);
-    says(&rt, alloc, FORCE_TO_ORDER_IN, FORCE_TO_ORDER_OUT, 0);
-    says(&rt, alloc, LOG_ORDER_IN, LOG_ORDER_OUT, 0);
-    says(&rt, alloc, MOUNT_ORDER_IN, MOUNT_ORDER_OUT, 0);
-    says(&rt, alloc, READ_ORDER_IN, READ_ORDER_OUT, 0);
-}
-
-#[test]
-fn a_full_mount_asks_for_no_block(rt: HostRuntime) {
-    says(&rt, rt.alloc(), BUSY_READ_IN, BUSY_READ_OUT, 0);
-}
-
-#[test]
-fn a_flush_of_a_shut_mount_finds_nothing(rt: HostRuntime) {
-    let alloc = rt.alloc();
-    says(&rt, alloc, FLUSH_SHUT_IN, FLUSH_SHUT_OUT, 0);
-    says(&rt, alloc, FLUSH_ANSWERED_IN, FLUSH_ANSWERED_OUT, 3);
-}
-
-#[test]
-fn the_oldest_block_is_written_first_and_frees_the_log(rt: HostRuntime) {
-    let alloc = rt.alloc();
-    says(&rt, alloc, KEPT_PLACE_IN, KEPT_PLACE_OUT, 0);
-    says(&rt, alloc, TAIL_IN, TAIL_OUT, 0);
-}
-
-#[test]
-fn the_longest_checkpoint_lands_and_goes_home(rt: HostRuntime) {
-    says(&rt, rt.alloc(), LONGEST_IN, LONGEST_OUT, 0);
 }
 
 /// Asserts that the replies of a mount and the offers that its devices tell are the lines of an output.
@@ -532,4 +522,15 @@ fn a_device_that_fails_a_write_is_offered_it_again(rt: HostRuntime) -> Result<()
     let offers = log.taken().ok_or("it tells")?;
     let calls = home.taken().ok_or("it tells")?;
     tells(&rt, alloc, &replies, offers, calls, FAILED_WRITE_OUT)
+}
+
+#[test]
+fn three_tenants_of_which_one_disk_fails(rt: HostRuntime) -> Result<(), Fail> {
+    says_struck(
+        &rt,
+        rt.alloc(),
+        TENANTS_IN,
+        (TENANTS_OUT, 0),
+        [(0, TENANTS_0), (1, TENANTS_1)],
+    )
 }

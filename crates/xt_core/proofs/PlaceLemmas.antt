@@ -190,3 +190,9 @@ post_refused x r cells turns turns' may refused still = record {
       to_true (is_no_memory r) (IsKept (host_of cells turns') (host_of cells turns)) (IsTaken x r (host_of cells turns') (host_of cells turns)) refused
       (record { slots = λ m. refl; queue = ap (λ (t : InTurn). t.queue) still; hands = λ w. ap (λ t. hand_of t w) still });
 }
+
+-- the slot at the place of a step lets it come
+pub suits_at : (x : Step) (cells : List Cell) → AreInPlace cells → (i : ℕ) → i ≡ slot_of x → i < 16 → (c : Cell) → c ≡ get_or cells i c → (turns : InTurn) → may_come (host_of cells turns) x ≡ true → suits x c.lone ≡ true
+suits_at x cells a i here small c is turns may =
+    ap (suits x) (found_state cells a i small c is ∙ ap (states_of cells) here)
+    ∙ (and_parts (keeps_turn turns.queue (hand_of turns) x) (suits x (states_of cells (slot_of x))) may).1

@@ -1,6 +1,7 @@
 -- The steps of one slot of an orderly list are orderly by themselves, and so is each beginning of the list.
-use Rattle.std.proofs.Common.{◌≡◌, ◌≢◌, ◌∙◌, ◌++◌, ◌∷◌, Bool, List, None, Option, Some, [], ap, false, inl, inr, refl, subst, suc, sym, take, true, zero, ℕ}
+use Rattle.std.proofs.Common.{◌≡◌, ◌≢◌, ◌∙◌, ◌+◌, ◌<◌, ◌++◌, ◌∷◌, Bool, List, None, Option, Some, [], ap, false, get_or, inl, inr, length, refl, subst, suc, sym, take, true, zero, ℕ}
 use Rattle.std.proofs.lemmas.Bool.{and_parts, cases_Bool, cases_eq, eq-eqb, false≢true, ne_eqb, not-true}
+use Rattle.std.proofs.lemmas.List.{append-nil, take_more}
 use Rattle.std.proofs.lemmas.List.Elements.{filter-append}
 use Rattle.std.specs.Prelude.{IfSome, filter, is_none, not, option_to_list, ◌&&◌, ◌==◌}
 use Rattle.xt_core.proofs.FitsLemmas.{distinct_filter, filter_map_filter, hand_of_slot, in_slot, not_among_filter, take_common, unfinished_of_slot}
@@ -46,6 +47,19 @@ module _ {A : Type 0} where
 -- the steps of a slot, struck to it once more
 pub strike_twice : (xs : List Step) (m : ℕ) → strike (strike xs m) m ≡ strike xs m
 strike_twice xs m = filter_twice (λ x. slot_of x == m) xs
+
+-- the steps of a slot among one step more of a list: it is one of them
+pub strike_more : (xs : List Step) (i : ℕ) (x : Step) (m : ℕ) → i < length xs → x ≡ get_or xs i x → (slot_of x == m) ≡ true → strike (take (i + 1) xs) m ≡ strike (take i xs) m ++ x ∷ []
+strike_more xs i x m within is own =
+    ap (λ l. strike l m) (take_more xs i x within ∙ ap (λ y. take i xs ++ y ∷ []) (sym is))
+    ∙ filter-append (λ y. slot_of y == m) (take i xs) (x ∷ []) ∙ ap (λ l. strike (take i xs) m ++ l) (filter_pass (λ y. slot_of y == m) x [] own)
+
+-- or it is not
+pub strike_less : (xs : List Step) (i : ℕ) (x : Step) (m : ℕ) → i < length xs → x ≡ get_or xs i x → (slot_of x == m) ≡ false → strike (take (i + 1) xs) m ≡ strike (take i xs) m
+strike_less xs i x m within is other =
+    ap (λ l. strike l m) (take_more xs i x within ∙ ap (λ y. take i xs ++ y ∷ []) (sym is))
+    ∙ filter-append (λ y. slot_of y == m) (take i xs) (x ∷ []) ∙ ap (λ l. strike (take i xs) m ++ l) (filter_drop (λ y. slot_of y == m) x [] other)
+    ∙ append-nil (strike (take i xs) m)
 
 -- the events of a slot, once more
 pub of_slot_twice : (m : ℕ) (h : List Event) → of_slot m (of_slot m h) ≡ of_slot m h

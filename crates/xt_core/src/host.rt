@@ -93,8 +93,9 @@ impl HostCore {
 
     /// Posts a job that is owed. Its name goes to the queue first: where that finds no memory, nothing changes.
     fn post(&mut self, name: &JobName) -> Reply
-        requires may { may_come self.old (AStep.Post name.now) ≡ true }
-        ensures { IsStepped (AStep.Post name.now) result self.new self.old }
+        requires { may_come self.old (AStep.Post name.now) ≡ true }
+        ensures stepped { IsStepped (AStep.Post name.now) result self.new self.old }
+        ensures range { name.now.slot < 16 }
     {
         match self.turns.put(*name) {
             Ok(()) => {
@@ -109,7 +110,8 @@ impl HostCore {
     fn turn(&mut self, step: &Step) -> Reply
         requires may { may_come self.old step.now ≡ true }
         requires other { post_of step.now ≡ None }
-        ensures { IsStepped step.now result self.new self.old }
+        ensures stepped { IsStepped step.now result self.new self.old }
+        ensures range { slot_of step.now < 16 }
     {
         let reply = self.cells[step.slot().index()].serve(step);
         if !is_no_memory(&reply) {
@@ -120,8 +122,9 @@ impl HostCore {
 
     /// Serves a step that may come.
     fn serve(&mut self, step: &Step) -> Reply
-        requires may { may_come self.old step.now ≡ true }
-        ensures { IsStepped step.now result self.new self.old }
+        requires { may_come self.old step.now ≡ true }
+        ensures stepped { IsStepped step.now result self.new self.old }
+        ensures range { slot_of step.now < 16 }
     {
         match step {
             Step::Post(name) => self.post(name),
@@ -149,7 +152,7 @@ impl HostCore {
     /// Takes a step that may come, and tells its turn: its reply, and what it offered, which is copied. The one error is want of
     /// memory for the copy, and then nothing changes.
     fn take(&mut self, step: &Step) -> Result<Turn, AllocError>
-        requires may { may_come self.old step.now ≡ true }
+        requires { may_come self.old step.now ≡ true }
         ensures { IfOk result (λ turn. IsSaid step.now turn self.new self.old) }
     {
         let slot = step.slot();
@@ -164,7 +167,7 @@ impl HostCore {
 
     /// Takes a step that may come, and notes its turn. The one error is want of memory for what is told.
     pub(crate) fn advance(&mut self, outcomes: &mut Outcomes, step: &Step) -> Result<(), AllocError>
-        requires may { may_come self.old step.now ≡ true }
+        requires { may_come self.old step.now ≡ true }
         ensures { OnOk result (IsMore step.now self.new self.old outcomes.new outcomes.old) }
     {
         let turn = self.take(step)?;

@@ -36,6 +36,7 @@ impl HostCore {
     /// `Disorder` at the first step that may not come after those before it, with its place from 0 and what those before it told,
     /// of which the same holds: where no slot was refused memory, exactly where the list is not orderly. `Memory`
     /// where what is told, or a copy of an offer, found none.
+    #[tactic(auto, using(crate::proofs::HostRunLemmas::start))]
     pub fn run(alloc: Global, steps: &[Step]) -> Result<Outcomes, RunFault>
         ensures alone { IfOk result (λ outcomes. Tells steps.now outcomes) }
         ensures struck { IfOk result (λ outcomes. AreStruckOrderly steps.now outcomes) }

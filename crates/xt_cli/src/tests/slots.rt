@@ -1,6 +1,6 @@
-//! Scripts of more than one slot.
+//! Worked scripts of several slots: what they print, and what the steps of one slot print by themselves.
 
-/// Two mounts do the same, line by line in turn, and their jobs are taken by each other's workers.
+/// The first script on two slots, line by line in turn.
 pub const ROW11_IN: &str = "\
     mount 0 65536 1024\n\
     mount 1 65536 1024\n\
@@ -23,7 +23,7 @@ pub const ROW11_IN: &str = "\
     end 1 0.1.ckpt.1 2 ok\n\
     end 0 1.1.ckpt.1 2 ok\n";
 
-/// Two mounts do the same, line by line in turn, and their jobs are taken by each other's workers: what is printed.
+/// The first script on two slots, line by line in turn: what is printed.
 pub const ROW11_OUT: &str = "\
     0 life 1\n\
     1 life 1\n\
@@ -52,7 +52,39 @@ pub const ROW11_OUT: &str = "\
     1 log aa*32.5843453100000001.00*7.01 ok\n\
     1 logsync ok\n";
 
-/// A job of another slot is in front of the queue.
+/// The first script on two slots, line by line in turn: what slot 0 prints by itself.
+pub const ROW11_0: &str = "\
+    0 life 1\n\
+    0 t1\n\
+    0 ok\n\
+    0 ok\n\
+    0 c1\n\
+    0 wait c1\n\
+    0 ok\n\
+    0 ok\n\
+    0 begun c1 2\n\
+    0 landed c1\n\
+    0 log 58435031.00*7.0100000001.00*7.07.ff*4.00*4.aa*4064 ok\n\
+    0 log aa*32.5843453100000001.00*7.01 ok\n\
+    0 logsync ok\n";
+
+/// The first script on two slots, line by line in turn: what slot 1 prints by itself.
+pub const ROW11_1: &str = "\
+    1 life 1\n\
+    1 t1\n\
+    1 ok\n\
+    1 ok\n\
+    1 c1\n\
+    1 wait c1\n\
+    1 ok\n\
+    1 ok\n\
+    1 begun c1 2\n\
+    1 landed c1\n\
+    1 log 58435031.00*7.0100000001.00*7.07.ff*4.00*4.aa*4064 ok\n\
+    1 log aa*32.5843453100000001.00*7.01 ok\n\
+    1 logsync ok\n";
+
+/// A worker takes a name that is not in front.
 pub const ROW12_IN: &str = "\
     mount 0 65536 1024\n\
     mount 1 65536 1024\n\
@@ -70,7 +102,7 @@ pub const ROW12_IN: &str = "\
     post 1.1.ckpt.1\n\
     take 0 1.1.ckpt.1\n";
 
-/// A job of another slot is in front of the queue: what is printed.
+/// A worker takes a name that is not in front: what is printed.
 pub const ROW12_OUT: &str = "\
     0 life 1\n\
     1 life 1\n\
@@ -88,7 +120,28 @@ pub const ROW12_OUT: &str = "\
     1 ok\n\
     disorder 15\n";
 
-/// A failed piece shuts one mount, and the mount beside it lands.
+/// A worker takes a name that is not in front: what slot 0 prints by itself.
+pub const ROW12_0: &str = "\
+    0 life 1\n\
+    0 t1\n\
+    0 ok\n\
+    0 ok\n\
+    0 c1\n\
+    0 wait c1\n\
+    0 ok\n";
+
+/// A worker takes a name that is not in front: what slot 1 prints by itself.
+pub const ROW12_1: &str = "\
+    1 life 1\n\
+    1 t1\n\
+    1 ok\n\
+    1 ok\n\
+    1 c1\n\
+    1 wait c1\n\
+    1 ok\n\
+    1 ok\n";
+
+/// A log device that fails, beside another slot.
 pub const ROW13_IN: &str = "\
     mount 0 65536 1024\n\
     mount 1 65536 1024\n\
@@ -115,7 +168,7 @@ pub const ROW13_IN: &str = "\
     end 1 1.1.ckpt.1 2 ok\n\
     1.1 force\n";
 
-/// A failed piece shuts one mount, and the mount beside it lands: what is printed.
+/// A log device that fails, beside another slot: what is printed.
 pub const ROW13_OUT: &str = "\
     0 life 1\n\
     1 life 1\n\
@@ -147,8 +200,43 @@ pub const ROW13_OUT: &str = "\
     1 logsync ok\n\
     1 done\n";
 
-/// A mount with 64 busy blocks beside one with none.
-pub const ROW16_IN: &str = "\
+/// A log device that fails, beside another slot: what slot 0 prints by itself.
+pub const ROW13_0: &str = "\
+    0 life 1\n\
+    0 t1\n\
+    0 ok\n\
+    0 ok\n\
+    0 c1\n\
+    0 wait c1\n\
+    0 ok\n\
+    0 ok\n\
+    0 begun c1 2\n\
+    0 failed c1\n\
+    0 log 58435031.00*7.0100000001.00*7.07.ff*4.00*4.aa*4064 ok\n\
+    0 log aa*32.5843453100000001.00*7.01 fail\n\
+    0 ok\n\
+    0 seen 1 LOG_IO_ERROR\n\
+    0 EIO\n";
+
+/// A log device that fails, beside another slot: what slot 1 prints by itself.
+pub const ROW13_1: &str = "\
+    1 life 1\n\
+    1 t1\n\
+    1 ok\n\
+    1 ok\n\
+    1 c1\n\
+    1 wait c1\n\
+    1 ok\n\
+    1 ok\n\
+    1 begun c1 2\n\
+    1 landed c1\n\
+    1 log 58435031.00*7.0100000001.00*7.07.ff*4.00*4.aa*4064 ok\n\
+    1 log aa*32.5843453100000001.00*7.01 ok\n\
+    1 logsync ok\n\
+    1 done\n";
+
+/// A slot with 64 busy blocks, beside another.
+pub const ROW16A_IN: &str = "\
     mount 0 65536 1024\n\
     mount 1 65536 1024\n\
     0.1 alloc 1 1 plain\n\
@@ -220,8 +308,8 @@ pub const ROW16_IN: &str = "\
     1.1 alloc 1 1 plain\n\
     1.1 get t1 64\n";
 
-/// A mount with 64 busy blocks beside one with none: what is printed.
-pub const ROW16_OUT: &str = "\
+/// A slot with 64 busy blocks, beside another: what is printed.
+pub const ROW16A_OUT: &str = "\
     0 life 1\n\
     1 life 1\n\
     0 t1\n\
@@ -293,7 +381,83 @@ pub const ROW16_OUT: &str = "\
     1 t1\n\
     1 ok\n";
 
-/// Sixteen mounts post two jobs each, and eight workers take them in turn.
+/// A slot with 64 busy blocks, beside another: what slot 0 prints by itself.
+pub const ROW16A_0: &str = "\
+    0 life 1\n\
+    0 t1\n\
+    0 ok\n\
+    0 ok\n\
+    0 ok\n\
+    0 ok\n\
+    0 ok\n\
+    0 ok\n\
+    0 ok\n\
+    0 ok\n\
+    0 ok\n\
+    0 ok\n\
+    0 ok\n\
+    0 ok\n\
+    0 ok\n\
+    0 ok\n\
+    0 ok\n\
+    0 ok\n\
+    0 ok\n\
+    0 ok\n\
+    0 ok\n\
+    0 ok\n\
+    0 ok\n\
+    0 ok\n\
+    0 ok\n\
+    0 ok\n\
+    0 ok\n\
+    0 ok\n\
+    0 ok\n\
+    0 ok\n\
+    0 ok\n\
+    0 ok\n\
+    0 ok\n\
+    0 ok\n\
+    0 ok\n\
+    0 ok\n\
+    0 ok\n\
+    0 ok\n\
+    0 ok\n\
+    0 ok\n\
+    0 ok\n\
+    0 ok\n\
+    0 ok\n\
+    0 ok\n\
+    0 ok\n\
+    0 ok\n\
+    0 ok\n\
+    0 ok\n\
+    0 ok\n\
+    0 ok\n\
+    0 ok\n\
+    0 ok\n\
+    0 ok\n\
+    0 ok\n\
+    0 ok\n\
+    0 ok\n\
+    0 ok\n\
+    0 ok\n\
+    0 ok\n\
+    0 ok\n\
+    0 ok\n\
+    0 ok\n\
+    0 ok\n\
+    0 ok\n\
+    0 ok\n\
+    0 ok\n\
+    0 ENOBUFS\n";
+
+/// A slot with 64 busy blocks, beside another: what slot 1 prints by itself.
+pub const ROW16A_1: &str = "\
+    1 life 1\n\
+    1 t1\n\
+    1 ok\n";
+
+/// Thirty-two names wait at once.
 pub const NAMES_IN: &str = "\
     mount 0 65536 1024\n\
     0.1 alloc 176 1 plain\n\
@@ -520,7 +684,7 @@ pub const NAMES_IN: &str = "\
     take 7 15.1.flush.2\n\
     flush 7 15.1.flush.2 ok ok\n";
 
-/// Sixteen mounts post two jobs each, and eight workers take them in turn: what is printed.
+/// Thirty-two names wait at once: what is printed.
 pub const NAMES_OUT: &str = "\
     0 life 1\n\
     0 t1\n\
@@ -810,3 +974,176 @@ pub const NAMES_OUT: &str = "\
     15 flushed 1\n\
     15 home 7 11.00*4095 ok\n\
     15 homesync ok\n";
+
+/// Thirty-two names wait at once: what slot 0 prints by itself.
+pub const NAMES_0: &str = "\
+    0 life 1\n\
+    0 t1\n\
+    0 ok\n\
+    0 ok\n\
+    0 c1\n\
+    0 wait c1\n\
+    0 ok\n\
+    0 ok\n\
+    0 ok\n\
+    0 ok\n\
+    0 begun c1 1\n\
+    0 landed c1\n\
+    0 log 58435031.00*7.0100000001.00*7.0700000001.00*4.11.00*127.5843453100000001.00*7.01 ok\n\
+    0 logsync ok\n\
+    0 ok\n\
+    0 flushed 1\n\
+    0 home 7 11.00*4095 ok\n\
+    0 homesync ok\n";
+
+/// Thirty-two names wait at once: what slot 15 prints by itself.
+pub const NAMES_15: &str = "\
+    15 life 1\n\
+    15 t1\n\
+    15 ok\n\
+    15 ok\n\
+    15 c1\n\
+    15 wait c1\n\
+    15 ok\n\
+    15 ok\n\
+    15 ok\n\
+    15 ok\n\
+    15 begun c1 1\n\
+    15 landed c1\n\
+    15 log 58435031.00*7.0100000001.00*7.0700000001.00*4.11.00*127.5843453100000001.00*7.01 ok\n\
+    15 logsync ok\n\
+    15 ok\n\
+    15 flushed 1\n\
+    15 home 7 11.00*4095 ok\n\
+    15 homesync ok\n";
+
+/// Three tenants, the log device of one of which fails.
+pub const TENANTS_IN: &str = "\
+    mount 0 65536 1024\n\
+    mount 1 65536 1024\n\
+    mount 2 65536 1024\n\
+    0.1 alloc 5000 1 plain\n\
+    1.1 alloc 5000 1 plain\n\
+    2.1 alloc 5000 1 plain\n\
+    0.1 get t1 7\n\
+    1.1 get t1 7\n\
+    2.1 get t1 9\n\
+    0.1 log t1 7 0 11*4096\n\
+    1.1 log t1 7 0 22*4096\n\
+    2.1 log t1 9 0 33*4096\n\
+    0.1 commit t1\n\
+    1.1 commit t1\n\
+    2.1 commit t1\n\
+    0.1 force\n\
+    1.1 force\n\
+    2.1 force\n\
+    post 1.1.ckpt.1\n\
+    post 0.1.ckpt.1\n\
+    post 2.1.ckpt.1\n\
+    take 0 1.1.ckpt.1\n\
+    take 1 0.1.ckpt.1\n\
+    begin 0 1.1.ckpt.1\n\
+    take 2 2.1.ckpt.1\n\
+    begin 1 0.1.ckpt.1\n\
+    begin 2 2.1.ckpt.1\n\
+    end 0 1.1.ckpt.1 1 none\n\
+    end 2 2.1.ckpt.1 2 ok\n\
+    end 1 0.1.ckpt.1 2 ok\n\
+    0.1 force\n\
+    1.1 force\n\
+    2.1 force\n\
+    show 1\n\
+    1.1 unmount\n\
+    0.1 alloc 5000 1 plain\n\
+    1.1 alloc 5000 1 plain\n\
+    peek 0\n\
+    peek 1\n";
+
+/// Three tenants, the log device of one of which fails: what is printed.
+pub const TENANTS_OUT: &str = "\
+    0 life 1\n\
+    1 life 1\n\
+    2 life 1\n\
+    0 t1\n\
+    1 t1\n\
+    2 t1\n\
+    0 ok\n\
+    1 ok\n\
+    2 ok\n\
+    0 ok\n\
+    1 ok\n\
+    2 ok\n\
+    0 c1\n\
+    1 c1\n\
+    2 c1\n\
+    0 wait c1\n\
+    1 wait c1\n\
+    2 wait c1\n\
+    1 ok\n\
+    0 ok\n\
+    2 ok\n\
+    1 ok\n\
+    0 ok\n\
+    1 begun c1 2\n\
+    2 ok\n\
+    0 begun c1 2\n\
+    2 begun c1 2\n\
+    1 failed c1\n\
+    1 log 58435031.00*7.0100000001.00*7.07.ff*4.00*4.22*4064 ok\n\
+    1 log 22*32.5843453100000001.00*7.01 fail\n\
+    2 landed c1\n\
+    2 log 58435031.00*7.0100000001.00*7.09.ff*4.00*4.33*4064 ok\n\
+    2 log 33*32.5843453100000001.00*7.01 ok\n\
+    2 logsync ok\n\
+    0 landed c1\n\
+    0 log 58435031.00*7.0100000001.00*7.07.ff*4.00*4.11*4064 ok\n\
+    0 log 11*32.5843453100000001.00*7.01 ok\n\
+    0 logsync ok\n\
+    0 done\n\
+    1 EIO\n\
+    2 done\n\
+    1 ok\n\
+    1 ok\n\
+    0 t2\n\
+    1 ENODEV\n\
+    0 seen 0 live\n\
+    1 seen 1 LOG_IO_ERROR\n";
+
+/// Three tenants, the log device of one of which fails: what slot 0 prints by itself.
+pub const TENANTS_0: &str = "\
+    0 life 1\n\
+    0 t1\n\
+    0 ok\n\
+    0 ok\n\
+    0 c1\n\
+    0 wait c1\n\
+    0 ok\n\
+    0 ok\n\
+    0 begun c1 2\n\
+    0 landed c1\n\
+    0 log 58435031.00*7.0100000001.00*7.07.ff*4.00*4.11*4064 ok\n\
+    0 log 11*32.5843453100000001.00*7.01 ok\n\
+    0 logsync ok\n\
+    0 done\n\
+    0 t2\n\
+    0 seen 0 live\n";
+
+/// Three tenants, the log device of one of which fails: what slot 1 prints by itself.
+pub const TENANTS_1: &str = "\
+    1 life 1\n\
+    1 t1\n\
+    1 ok\n\
+    1 ok\n\
+    1 c1\n\
+    1 wait c1\n\
+    1 ok\n\
+    1 ok\n\
+    1 begun c1 2\n\
+    1 failed c1\n\
+    1 log 58435031.00*7.0100000001.00*7.07.ff*4.00*4.22*4064 ok\n\
+    1 log 22*32.5843453100000001.00*7.01 fail\n\
+    1 EIO\n\
+    1 ok\n\
+    1 ok\n\
+    1 ENODEV\n\
+    1 seen 1 LOG_IO_ERROR\n";
