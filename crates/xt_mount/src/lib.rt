@@ -23,3 +23,4 @@ pub mod slot;
 mod space;
 
 pub use mount::{Mount, Stage};
+pub use slot::MountSlot;

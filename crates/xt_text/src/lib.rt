@@ -7,6 +7,7 @@ pub mod buffer;
 pub mod data_text;
 mod fields;
 mod home_answers;
+pub mod line;
 mod numbers;
 pub mod parse;
 pub mod print_reply;
