@@ -1,5 +1,5 @@
 -- A host after any history: a step may come exactly where it fits the steps that happened.
-use Rattle.std.proofs.Common.{◌≡◌, ◌≢◌, ◌∙◌, ◌<◌, ◌++◌, ◌∷◌, Bool, List, None, Option, [], ap, arith, false, inl, inr, length, refl, replicate, subst, suc, sym, true, zero, ℕ}
+use Rattle.std.proofs.Common.{◌≡◌, ◌∙◌, ◌<◌, ◌++◌, ◌∷◌, Bool, List, None, Option, [], ap, arith, false, inl, inr, length, refl, subst, sym, true, ℕ}
 use Rattle.std.proofs.lemmas.Bool.{cases_Bool, eq-eqb, false≢true, ne_eqb}
 use Rattle.std.proofs.lemmas.List.{append-nil, get_or-set_other, get_or-set_same}
 use Rattle.std.proofs.lemmas.List.Elements.{filter-append}
@@ -8,9 +8,8 @@ use Rattle.std.specs.Prelude.{MatchBool, cond, is_none, not, option_to_list, ◌
 use Rattle.xt_base.specs.Alone.{Said, alone, reason_of, said_of}
 use Rattle.xt_base.specs.Isolation.{Told, is_no_memory, is_refused, told_refused, told_taken, untold}
 use Rattle.xt_base.specs.Order.{Event, fits, is_first, suits, told}
-use Rattle.xt_base.specs.State.{Lone, empty}
+use Rattle.xt_base.specs.State.{empty}
 use Rattle.xt_base.specs.Steps.{slot_of}
-use Rattle.xt_base.specs.declared.names.JobName.{JobName}
 use Rattle.xt_base.specs.declared.steps.Reason.{Reason}
 use Rattle.xt_base.specs.declared.steps.Reply.{Reply}
 use Rattle.xt_base.specs.declared.steps.Step.{Step}

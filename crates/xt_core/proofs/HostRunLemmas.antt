@@ -1,16 +1,14 @@
 -- A run of the host: what it told is what each slot would have been told alone, and the steps of each slot are orderly by themselves.
-use Rattle.std.proofs.Common.{◌≡◌, ◌≢◌, ◌∙◌, ◌+◌, ◌<◌, ◌≤◌, ◌++◌, ◌∷◌, Bool, List, None, Option, Some, [], ap, cond, false, get_or, inl, inr, length, map, refl, subst, suc, sym, take, true, zero, ℕ}
+use Rattle.std.proofs.Common.{◌≡◌, ◌≢◌, ◌∙◌, ◌+◌, ◌<◌, ◌≤◌, ◌++◌, ◌∷◌, List, None, Option, [], ap, false, get_or, inl, inr, length, refl, subst, sym, take, true, ℕ}
 use Rattle.std.proofs.lemmas.Bool.{cases_Bool, false≢true}
 use Rattle.std.proofs.lemmas.List.{append-nil, take_all, take_more}
 use Rattle.std.proofs.lemmas.Option.{get_or_from_slice_get}
-use Rattle.std.specs.List.{slice_get}
-use Rattle.std.specs.Prelude.{MatchBool, if◌then◌else◌, ◌&&◌, ◌==◌}
+use Rattle.std.specs.Prelude.{if◌then◌else◌, ◌&&◌}
 use Rattle.xt_base.specs.Alone.{Said, after, alone, alone_run, reason_of, said_of, shut_after}
-use Rattle.xt_base.specs.Isolation.{BreaksAt, IsAlone, Tells, Told, event_of, events, is_no_memory, is_refused, shut_in, told_refused, told_taken, told_then, turns_of, untold}
+use Rattle.xt_base.specs.Isolation.{BreaksAt, IsAlone, Tells, Told, events, is_no_memory, is_refused, told_refused, told_taken, untold}
 use Rattle.xt_base.specs.Order.{Event, fits, of_slot, orderly, state_of, steps_of, told, told_from}
 use Rattle.xt_base.specs.State.{Lone, empty}
 use Rattle.xt_base.specs.Steps.{slot_of, strike}
-use Rattle.xt_base.specs.declared.names.JobName.{JobName}
 use Rattle.xt_base.specs.declared.steps.HomeOffer.{HomeOffer}
 use Rattle.xt_base.specs.declared.steps.LogOffer.{LogOffer}
 use Rattle.xt_base.specs.declared.steps.Reason.{Reason}
@@ -21,7 +19,7 @@ use Rattle.xt_core.proofs.HostLemmas.{by_false, by_true}
 use Rattle.xt_core.proofs.OrderLemmas.{events_more, of_slot_other, of_slot_own, orderly_more, strike_other, strike_own, told_more}
 use Rattle.xt_core.proofs.RunLemmas.{IsAfter, after_none, after_refused, after_taken, after_tells, breaks_fits, breaks_whole, by_slot, happened_now, run_alike, run_hands, still}
 use Rattle.xt_core.proofs.StruckLemmas.{fits_of_slot, of_slot_twice, orderly_take, strike_twice}
-use Rattle.xt_core.specs.Host.{Host, IsKept, IsNew, IsStepped, IsTaken, hand_at, lone_of, may_come}
+use Rattle.xt_core.specs.Host.{Host, IsKept, IsNew, IsTaken, hand_at, lone_of, may_come}
 use Rattle.xt_core.specs.Runs.{AreStruckOrderly, GivesSame, IsMore, IsSaid, IsSameFor}
 use Rattle.xt_core.specs.Turns.{queue_after}
 

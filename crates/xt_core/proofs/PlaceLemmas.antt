@@ -1,8 +1,8 @@
 -- Slots at their places, and what a step of one of them makes of the host.
-use Rattle.std.proofs.Common.{◌≡◌, ◌≢◌, ◌∙◌, ◌+◌, ◌<◌, ◌++◌, ◌∷◌, Bool, List, None, Option, Some, [], ap, arith, false, get_or, inl, inr, length, refl, subst, suc, sym, true, zero, ℕ}
-use Rattle.std.proofs.lemmas.Bool.{and_parts, cases_Bool, false≢true}
+use Rattle.std.proofs.Common.{◌≡◌, ◌≢◌, ◌∙◌, ◌+◌, ◌<◌, ◌++◌, ◌∷◌, List, None, Option, Some, [], ap, arith, false, get_or, inl, inr, length, refl, suc, sym, true, zero, ℕ}
+use Rattle.std.proofs.lemmas.Bool.{and_parts, cases_Bool}
 use Rattle.std.proofs.lemmas.List.{get_or-set_other, get_or-set_same, get_or_default, length-append, length-set}
-use Rattle.std.specs.Prelude.{MatchBool, slice_index_or, slice_set, ◌&&◌}
+use Rattle.std.specs.Prelude.{slice_index_or, slice_set}
 use Rattle.xt_base.specs.Alone.{alone, on_mount, turn, with_mount}
 use Rattle.xt_base.specs.Isolation.{is_no_memory}
 use Rattle.xt_base.specs.Order.{post_of, suits}
@@ -17,7 +17,7 @@ use Rattle.xt_base.specs.declared.steps.Step.TheVariants.{Begin, Call, End, Flus
 use Rattle.xt_core.proofs.HostLemmas.{by_false, by_true, to_false, to_true}
 use Rattle.xt_core.proofs.RunLemmas.{by_slot}
 use Rattle.xt_core.specs.Cells.{Cell, IsTurned, with_lone}
-use Rattle.xt_core.specs.Host.{Host, IsKept, IsNew, IsStepped, IsTaken, may_come}
+use Rattle.xt_core.specs.Host.{Host, IsKept, IsStepped, IsTaken, may_come}
 use Rattle.xt_core.specs.InPlace.{AreInPlace, AreUnused, cell_at, states_of, unused}
 use Rattle.xt_core.specs.Turns.{InTurn, hand_after, hand_of, keeps_turn, queue_after, queue_left}
 

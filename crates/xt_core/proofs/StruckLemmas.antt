@@ -17,7 +17,7 @@ use Rattle.xt_core.specs.Turns.{hand_after, keeps_turn, queue_after}
 use Rattle.xt_base.specs.declared.names.JobName.{JobName}
 use Rattle.xt_base.specs.declared.steps.Reply.{Reply}
 use Rattle.xt_base.specs.declared.steps.Step.{Step}
-use Rattle.xt_base.specs.declared.steps.Step.TheVariants.{Begin, Call, End, Flush, Mount, Peek, Post, Show, Take}
+use Rattle.xt_base.specs.declared.steps.Step.TheVariants.{Begin, End, Flush, Post, Take}
 
 -- ---- a beginning
 begun_from : (n : ℕ) (h : List Event) (xs : List Step) → orderly_from h xs ≡ true → orderly_from h (take n xs) ≡ true

@@ -1,5 +1,5 @@
 -- Runs of the host: what they told of each slot, beside what `Tells` and `BreaksAt` have.
-use Rattle.std.specs.Prelude.{List, MatchBool, [], false, if◌then◌else◌, take, true, ℕ, ◌<◌, ◌≡◌}
+use Rattle.std.specs.Prelude.{List, [], false, if◌then◌else◌, take, true, ℕ, ◌<◌, ◌≡◌}
 use Rattle.xt_base.specs.Alone.{Said, alone, reason_of}
 use Rattle.xt_base.specs.Isolation.{BreaksAt, Tells, Told, is_no_memory, is_refused, shut_in, told_then, turns_of}
 use Rattle.xt_base.specs.Order.{orderly}
