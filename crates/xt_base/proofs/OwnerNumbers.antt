@@ -157,10 +157,10 @@ module _ (s : State) (h : IsSound s) (g : AreGiven s) where
       (λ passes.
       fact_either AreGiven (is_absent u b s) (answered u b trans.leg s answer) here (λ absent. answered_given u b trans.leg answer below) (λ resident. locked_given u b (own_count u (at b s.owners)) below)))
   given_call (Request.View u b) answer dropped =
-      with_open u (view u b s) (λ trans below. fact_either AreGiven (is_own s u b) (gives (Reply.Data (seen b trans.leg s.frames)) s) (gives (Refused Invalid) s) (λ own. g) (λ other. g))
+      with_open u (view u b s) (λ trans below. fact_either AreGiven (is_own s u b) (gives (Reply.Data (seen s.form.size b trans.leg s.frames)) s) (gives (Refused Invalid) s) (λ own. g) (λ other. g))
   given_call (Request.Log first u b bytes) answer dropped =
       with_open u (log u b first bytes s)
-      (λ trans below. fact_unless AreGiven (first_of (log_refusals u b first bytes trans s)) s (gives Okay (not_fresh b (with_leg u trans (logged_leg b first bytes s.frames trans.leg) s))) g (λ passes. g))
+      (λ trans below. fact_unless AreGiven (first_of (log_refusals u b first bytes trans s)) s (gives Okay (not_fresh b (with_leg u trans (logged_leg s.form.size b first bytes s.frames trans.leg) s))) g (λ passes. g))
   given_call (Request.Hold u b) answer dropped =
       with_open u (hold u b s)
       (λ trans below.

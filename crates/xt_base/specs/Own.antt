@@ -3,10 +3,11 @@ use Rattle.std.specs.Prelude.{IfSome, List, Option, length, ℕ, ◌≡◌, ◌�
 use Rattle.xt_base.specs.Jobs.{flight_pieces}
 use Rattle.xt_base.specs.Sound.{Each}
 use Rattle.xt_base.specs.State.{Lone, State}
+use Rattle.xt_base.specs.declared.sizes.TheConstants.{PIECE_BYTES}
 
--- pieces of at most 4,096 bytes each
+-- pieces that are none too long
 abbrev pub AreShort : List (List ℕ) → Type 0
-AreShort ps = Each (λ p. length p ≤ 4096) ps
+AreShort ps = Each (λ p. length p ≤ PIECE_BYTES) ps
 
 -- the mount is of this slot, and of its last life, and the pieces in flight are short
 abbrev pub IsOwnIn : ℕ → ℕ → Option State → Type 0

@@ -2,6 +2,7 @@
 
 ghost use Rattle.std.specs.Prelude.{◌≡◌, [], ℕ, Bool, List, true, false};
 ghost use Rattle.xt_base.specs.Calls.{alloc, alone_with, is_own};
+ghost use Rattle.xt_base.specs.Form.{Form as AnyForm};
 ghost use Rattle.xt_base.specs.Jobs.{begin as begin_job, end as end_job, flush as flush_job, posted};
 ghost use Rattle.xt_base.specs.Laws.{AreGiven, LooksAlike, after_calls, is_look, names, uses};
 ghost use Rattle.xt_base.specs.Maps.{is_in};
@@ -41,7 +42,7 @@ pub fn clean_cancel()
 /// No block has a transaction's number before it is given: so it is in a new mount, and every
 /// call and every job keeps it so.
 pub fn numbers_are_given()
-    ensures first { (slot life log_bytes blocks : ℕ) → AreGiven (mount_of slot life log_bytes blocks) }
+    ensures first { (slot life log_bytes blocks : ℕ) (form : AnyForm) → AreGiven (mount_of slot life log_bytes blocks form) }
     ensures calls { (s : State) (request : AnyRequest) (answer : AnyAnswer) (dropped : Dropped) → IsSound s → AreGiven s → AreGiven (alone_with dropped request answer s).state }
     ensures posts { (s : State) (kind : AnyKind) → AreGiven s → AreGiven (posted kind s) }
     ensures begins { (s : State) → AreGiven s → AreGiven (begin_job s).state }
