@@ -15,7 +15,7 @@ use Rattle.xt_base.proofs.SoundParts.{busy_owned, mine_if}
 use Rattle.xt_base.proofs.SoundSteps.{is_none_not, passes_first}
 use Rattle.xt_base.proofs.StillLemmas.{fact_either, fact_if, fact_unless}
 use Rattle.xt_base.specs.Calls.{Outcome, alloc, alloc_refusals, allocated, alone_with, answered, asks_ckpt, asks_flush, at_end, brought, cancel, first_of, get, get_refusals, gives, is_absent, is_elsewhere, is_fresh, is_own, is_resident, locked, new_trans, read, read_refusals, released, relse, seen, unless, unowned, view, with_leg, with_owner, with_trans, without_hold}
-use Rattle.xt_base.specs.Laws.{AreGiven, after_calls, is_look}
+use Rattle.xt_base.specs.Laws.{after_calls, is_look}
 use Rattle.xt_base.specs.Legs.{clean_leg, is_stale, own_count, owned_by, owner_aborted}
 use Rattle.xt_base.specs.Maps.{at, is_in, put, without}
 use Rattle.xt_base.specs.Settle.{settled}
@@ -320,12 +320,12 @@ module _ (s : State) (h : IsSound s) (unit count : ℕ) (perm : Bool) (looks : L
       subst (λ o. IsWithoutTrace s (with_trans o n (cancel [] t n)).state) (sym (there t unit count perm s n run.0 run.1)) (cancelled t unit count perm s n run.0 run.1 below)
 
   -- after an alloc, looks and a cancel, there is no trace
-  pub clean_cancel : AreGiven s → (t : ℕ) → (alloc unit count perm s).reply ≡ Reply.Trans t → Each (λ x. is_look t x.0 ≡ true) looks
+  pub clean_cancel : (t : ℕ) → (alloc unit count perm s).reply ≡ Reply.Trans t → Each (λ x. is_look t x.0 ≡ true) looks
       → IsWithoutTrace s (alone_with [] (Request.Cancel t) answer (after_calls looks (alloc unit count perm s).state)).state
-  clean_cancel numbers t given all =
+  clean_cancel t given all =
       let outcome : alloc unit count perm s ≡ allocated unit count perm s = alloc_given unit count t perm s given in
       let same : s.last_trans + 1 ≡ t = trans_replied (s.last_trans + 1) t (sym (ap (λ (o : Outcome). o.reply) outcome) ∙ given) in
       let m : State = (alloc unit count perm s).state in
       let sound : IsSound m = sound_call [] (Request.Alloc unit count perm) answer s h in
       subst (λ (x : ℕ). Each (λ y. is_look x y.0 ≡ true) looks → IsWithoutTrace s (alone_with [] (Request.Cancel x) answer (after_calls looks m)).state) same
-      (from_start m (ap (λ (o : Outcome). o.state) outcome) sound (none_given s numbers)) all
+      (from_start m (ap (λ (o : Outcome). o.state) outcome) sound (none_given s.last_trans s.owners h.given)) all

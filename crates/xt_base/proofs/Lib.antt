@@ -10,14 +10,16 @@ pub mod CostLemmas
 pub mod BusyLemmas
 pub mod LegLemmas
 pub mod SoundParts
+pub mod OwnerNumbers
+pub mod WrittenLemmas
 pub mod SoundSteps
 pub mod SoundBuffers
 pub mod SoundLegs
 pub mod SoundJobs
 pub mod SoundCalls
 pub mod SoundBounds
+pub mod DeviceLemmas
 pub mod AlikeLemmas
 pub mod StillLemmas
 pub mod StillCalls
-pub mod OwnerNumbers
 pub mod CancelLemmas

@@ -1,5 +1,6 @@
 -- Each call keeps a mount sound.
-use Rattle.std.proofs.Common.{◌≡◌, None, Option, Some, refl, ℕ}
+use Rattle.std.proofs.Common.{◌≡◌, ◌≤◌, None, Option, Some, refl, ℕ}
+use Rattle.xt_base.proofs.RisingLemmas.{each_at}
 use Rattle.xt_base.proofs.SoundBuffers.{sound_get_call, sound_hold, sound_join, sound_log_call, sound_read, sound_release, sound_relse, sound_unhold}
 use Rattle.xt_base.proofs.SoundJobs.{sound_force_to}
 use Rattle.xt_base.proofs.SoundLegs.{sound_cancel, sound_inval, sound_roll}
@@ -31,17 +32,21 @@ with_some (Some trans) s f h each = each trans refl
 pub sound_with_trans : (t : ℕ) (s : State) (f : Transaction → Outcome) → IsSound s → ((trans : Transaction) → at t s.transactions ≡ Some trans → IsSound (f trans).state) → IsSound (with_trans (at t s.transactions) s f).state
 sound_with_trans t s f h each = with_some (at t s.transactions) s f h each
 
+-- an open transaction has a number that was given
+given_number : (t : ℕ) (s : State) (trans : Transaction) → IsSound s → at t s.transactions ≡ Some trans → t ≤ s.last_trans
+given_number t s trans h is = each_at (λ e. e.0 ≤ s.last_trans) t trans s.transactions is h.numbers
+
 -- any call, whatever the device answers and whatever finds no memory as it settles
 pub sound_call : (dropped : Dropped) (request : Request) (answer : Answer) (s : State) → IsSound s → IsSound (alone_with dropped request answer s).state
 sound_call dropped (Request.Alloc unit count perm) answer s h = sound_alloc unit count perm s h
-sound_call dropped (Request.Get t b) answer s h = sound_with_trans t s (λ trans. get t b s) h (λ trans is. sound_get_call t b s h)
-sound_call dropped (Request.Read t b) answer s h = sound_with_trans t s (read t b answer s) h (λ trans is. sound_read t b answer s trans h)
+sound_call dropped (Request.Get t b) answer s h = sound_with_trans t s (λ trans. get t b s) h (λ trans is. sound_get_call t b s h (given_number t s trans h is))
+sound_call dropped (Request.Read t b) answer s h = sound_with_trans t s (read t b answer s) h (λ trans is. sound_read t b answer s trans h (given_number t s trans h is))
 sound_call dropped (Request.View t b) answer s h = sound_with_trans t s (view t b s) h (λ trans is. sound_view t b s trans h)
 sound_call dropped (Request.Log first t b bytes) answer s h = sound_with_trans t s (log t b first bytes s) h (λ trans is. sound_log_call t b first bytes s trans h is)
 sound_call dropped (Request.Hold t b) answer s h = sound_with_trans t s (hold t b s) h (λ trans is. sound_hold t b s trans h is)
 sound_call dropped (Request.Unhold t b) answer s h = sound_with_trans t s (unhold t b s) h (λ trans is. sound_unhold t b s trans h is)
 sound_call dropped (Request.Relse t b) answer s h = sound_with_trans t s (relse dropped t b s) h (λ trans is. sound_relse dropped t b s trans h is)
-sound_call dropped (Request.Join t b) answer s h = sound_with_trans t s (join t b s) h (λ trans is. sound_join t b s trans h)
+sound_call dropped (Request.Join t b) answer s h = sound_with_trans t s (join t b s) h (λ trans is. sound_join t b s trans h (given_number t s trans h is))
 sound_call dropped (Request.Release b) answer s h = sound_release dropped b s h
 sound_call dropped (Request.Inval t b) answer s h = sound_with_trans t s (inval t b s) h (λ trans is. sound_inval t b s trans h is)
 sound_call dropped (Request.Commit t) answer s h = sound_with_trans t s (commit dropped t s) h (λ trans is. sound_commit dropped t s trans h is)

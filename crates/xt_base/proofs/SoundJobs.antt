@@ -6,12 +6,13 @@ use Rattle.xt_base.proofs.KeyLemmas.{is_in_filter}
 use Rattle.xt_base.proofs.RisingLemmas.{each_map}
 use Rattle.xt_base.proofs.SoundParts.{parts_cleaned}
 use Rattle.xt_base.proofs.SoundSteps.{left_true, listed_parts, sound_asks_ckpt, sound_either, sound_jobs, sound_settling, sound_unless, unlisted_by}
+use Rattle.xt_base.proofs.WrittenLemmas.{written_cleaned}
 use Rattle.xt_base.specs.Calls.{Outcome, asks_ckpt, first_of, force_to, force_to_refusals, gives, is_flight}
 use Rattle.xt_base.specs.Jobs.{cleaned, finished, flush, flush_plan, flushed, gone, renewed, unflushed}
 use Rattle.xt_base.specs.Maps.{has, is_in}
 use Rattle.xt_base.specs.Settle.{Dropped}
 use Rattle.xt_base.specs.Sound.{IsReady, IsSound, IsUnwritten}
-use Rattle.xt_base.specs.Space.{flight_items, is_busy, is_listed, is_needed}
+use Rattle.xt_base.specs.Space.{flight_items, is_busy, is_listed}
 use Rattle.xt_base.specs.State.{Items, State}
 use Rattle.xt_base.specs.declared.names.JobKind.{JobKind}
 use Rattle.xt_base.specs.declared.steps.HomeAnswers.{HomeAnswers}
@@ -49,7 +50,7 @@ sound_flushed dropped plan answers s h =
     let r = h.ready in
     let ready : IsReady l n.jobs = record { numbered = r.numbered; bounded = r.bounded; worth = r.worth; room = r.room } in
     sound_settling dropped n h.form h.log_small h.numbers
-    (parts_cleaned s.form.ends s.log_bytes s.owners s.transactions s.items h.parts (λ e. not (has blocks e.0)) (λ e. is_needed l.ail e.0)) h.kept.committed_rises h.kept.fresh_rises ready h.legs_left
+    (parts_cleaned s.form.ends s.log_bytes s.owners s.transactions s.items h.parts (λ e. not (has blocks e.0))) h.kept.committed_rises h.kept.fresh_rises ready h.legs_left
     (λ live.
     each_map (IsUnwritten s.owners s.transactions s.items) (λ b. is_busy n b ≡ true → IsUnwritten n.owners n.transactions n.items b) s.frames.fresh
     (λ b u busy.
@@ -58,6 +59,7 @@ sound_flushed dropped plan answers s h =
     unlisted_by (is_in b s.items.cil) (is_in b (flight_items s.items.flight)) (is_in b l.ail) off.0 off.1 (not_left (λ e. not (has blocks e.0)) s.items.ail b off.2) in
     record { owned = left_true (is_in b n.owners) (is_listed n.items b) unlisted busy; unlisted = unlisted; unchanged = u.unchanged })
     (h.fresh_owned live))
+    h.given (λ live. written_cleaned s.owners s.frames.committed s.items (h.written live) blocks)
 
 -- a flush, whatever the home device answered
 pub sound_flush : (dropped : Dropped) (answers : HomeAnswers) (s : State) → IsSound s → IsSound (flush dropped answers s).state

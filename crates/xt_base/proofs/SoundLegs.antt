@@ -5,9 +5,11 @@ use Rattle.std.proofs.lemmas.Bool.{and_cases, cases_Bool, eq-eqb, false≢true, 
 use Rattle.std.specs.Prelude.{if◌then◌else◌, is_none, is_some, nat_lt, not, ◌==◌}
 use Rattle.xt_base.proofs.KeyLemmas.{rises_keys_filter}
 use Rattle.xt_base.proofs.LegLemmas.{rises_with_edits, rises_with_lost}
+use Rattle.xt_base.proofs.OwnerNumbers.{given_aborted, given_ended}
 use Rattle.xt_base.proofs.RisingLemmas.{each_at, each_filter, each_map, each_put, each_set_at, each_without, rises_filter, rises_put}
 use Rattle.xt_base.proofs.SoundParts.{cost_added, granted_less, parts_aborted, parts_given_up, parts_rolled}
 use Rattle.xt_base.proofs.SoundSteps.{is_none_not, is_none_some, left_true, listed_parts, not_marked, passes_first, ready_ended, shut_for_some, sound_asks_ckpt, sound_asks_flush, sound_changed, sound_either, sound_settling, sound_unless, unlisted_by}
+use Rattle.xt_base.proofs.WrittenLemmas.{written_clean, written_ended}
 use Rattle.xt_base.specs.Calls.{Outcome, asks_ckpt, asks_flush, cancel, closed, commit_number, committed_of, first_of, gives, held_of, inval, inval_refusals, invalidated, io_of, is_no_room, is_own, legs_after, not_fresh, roll, shut_down, shut_if, ungranted, with_leg, with_legs}
 use Rattle.xt_base.specs.Legs.{aborted, change_of, clean_leg, ended, is_dirty, is_lost, is_stale, with_lost}
 use Rattle.xt_base.specs.Maps.{at, is_in, without_member}
@@ -68,7 +70,8 @@ module _ (dropped : Dropped) (t : ℕ) (s : State) (trans : Transaction) (h : Is
   sound_dirty_cancel =
       sound_settling dropped (shut_down CorruptIncore (closed t (aborted t trans.leg s))) h.form h.log_small (each_without (λ e. e.0 ≤ s.last_trans) t s.transactions h.numbers) (parts_aborted s.form.ends s.log_bytes s.owners s.transactions s.items h.parts t trans is)
       (rises_filter 0 (λ e. not (is_lost trans.leg e.0)) s.frames.committed h.kept.committed_rises) (rises_with_lost trans.leg.changes trans.leg s.frames.fresh h.kept.fresh_rises) h.ready
-      (λ live. absurd (shut_for_some CorruptIncore s.shut live)) (λ live. absurd (shut_for_some CorruptIncore s.shut live))
+      (λ live. absurd (shut_for_some CorruptIncore s.shut live)) (λ live. absurd (shut_for_some CorruptIncore s.shut live)) (given_aborted s.last_trans t trans.leg s.owners h.given)
+      (λ live. absurd (shut_for_some CorruptIncore s.shut live))
 
   -- a clean leg is given up
   pub sound_clean_cancel : trans.leg.changes ≡ [] → IsSound (settled dropped (closed t (aborted t trans.leg s)))
@@ -87,6 +90,8 @@ module _ (dropped : Dropped) (t : ℕ) (s : State) (trans : Transaction) (h : Is
         unchanged = each_without (λ e. is_in b e.1.leg.changes ≡ false) t s.transactions u.unchanged;
       })
       (h.fresh_owned live)))
+      (given_aborted s.last_trans t trans.leg s.owners h.given)
+      (λ live. written_clean s.owners s.frames.committed s.items (h.written live) t trans h.parts.owners_rise (each_at (IsFair s.form.ends s.owners) t trans s.transactions is h.parts.fair) clean)
 
   cancel_sound : (dirty : Bool) → is_dirty trans.leg ≡ dirty → IsSound (settled dropped (shut_if dirty CorruptIncore (closed t (aborted t trans.leg s))))
   cancel_sound true has_changes = sound_dirty_cancel
@@ -131,7 +136,7 @@ module _ (dropped : Dropped) (t : ℕ) (s : State) (trans : Transaction) (h : Is
   sound_given_up shut =
       sound_settling dropped (with_legs t 0 trans (aborted t trans.leg s)) h.form h.log_small (each_set_at (λ e. e.0 ≤ s.last_trans) t (record trans { legs = 0; leg = clean_leg }) s.transactions (each_at (λ e. e.0 ≤ s.last_trans) t trans s.transactions is h.numbers) h.numbers) (parts_given_up s.form.ends s.log_bytes s.owners s.transactions s.items h.parts t trans is)
       (rises_filter 0 (λ e. not (is_lost trans.leg e.0)) s.frames.committed h.kept.committed_rises) (rises_with_lost trans.leg.changes trans.leg s.frames.fresh h.kept.fresh_rises) h.ready
-      (λ live. absurd (is_none_some s.shut live shut)) (λ live. absurd (is_none_some s.shut live shut))
+      (λ live. absurd (is_none_some s.shut live shut)) (λ live. absurd (is_none_some s.shut live shut)) (given_aborted s.last_trans t trans.leg s.owners h.given) (λ live. absurd (is_none_some s.shut live shut))
 
   -- the log has room for what is granted after a roll
   room_after : is_none s.shut ≡ true → is_no_room t trans s ≡ false → used (ungranted t trans s) + trans.unit * legs_after trans.legs ≤ s.log_bytes
@@ -175,6 +180,8 @@ module _ (dropped : Dropped) (t : ℕ) (s : State) (trans : Transaction) (h : Is
         unchanged = each_set_at (λ e. is_in b e.1.leg.changes ≡ false) t (record trans { legs = legs; leg = clean_leg }) s.transactions refl u.unchanged;
       })
       (h.fresh_owned l))
+      (given_ended s.last_trans t trans.leg s.items.open_number s.owners h.given)
+      (λ l. written_ended s.owners s.frames.committed s.items (h.written l) t trans h.parts.owners_rise (each_at (IsFair s.form.ends s.owners) t trans s.transactions is h.parts.fair) h.parts.flying)
 
   -- a roll
   pub sound_roll : IsSound (roll dropped t s trans).state

@@ -7,8 +7,8 @@ use Rattle.xt_base.proofs.CostLemmas.{cost-with_marks}
 use Rattle.xt_base.proofs.KeyLemmas.{at_filter, is_in_filter, is_in_filter_map, is_in_first, is_in_later, is_in_put_cases, is_in_without}
 use Rattle.xt_base.proofs.LegLemmas.{is_in_with_marks, keeps_owner_aborted, keeps_owner_after, own_itself, own_one, own_trans, owned_there, owns_aborted, owns_after, rises_with_marks}
 use Rattle.xt_base.proofs.MapLemmas.{at_put_other, at_put_same, at_without_other}
-use Rattle.xt_base.proofs.RisingLemmas.{each_at, each_both, each_filter, each_in, each_map, each_other, each_put, each_set_at, each_set_other, rises_filter, rises_filter_map, rises_put, rises_set_at, rises_without, sum_filter_le, sum_put_le, sum_set, sum_set_at, sum_without, weight_at}
-use Rattle.xt_base.specs.Jobs.{activated, landed_items, waits_on}
+use Rattle.xt_base.proofs.RisingLemmas.{each_at, each_both, each_filter, each_in, each_map, each_other, each_passes, each_put, each_set_at, each_set_other, rises_filter, rises_filter_map, rises_put, rises_set_at, rises_without, sum_filter_le, sum_put_le, sum_set, sum_set_at, sum_without, weight_at}
+use Rattle.xt_base.specs.Jobs.{activated, landed_items, waits_on, with_active}
 use Rattle.xt_base.specs.Legs.{clean_leg, own_count, owner_aborted, owner_after, with_marks}
 use Rattle.xt_base.specs.Maps.{at, is_in, put, set_at, without}
 use Rattle.xt_base.specs.Sound.{AllBelow, AreSound, Each, IsBetween, IsFair, IsRising, Owns}
@@ -131,6 +131,7 @@ parts_empty ends log_bytes = record {
   ail_rises = tt;
   landed_rises = tt;
   landed_below = tt;
+  landed_needed = tt;
   flying = tt;
   fair = tt;
 }
@@ -189,6 +190,7 @@ module _ (ends log_bytes : ℕ) (owners : List (ℕ × Owner)) (ts : List (ℕ �
     ail_rises = h.ail_rises;
     landed_rises = h.landed_rises;
     landed_below = h.landed_below;
+    landed_needed = h.landed_needed;
     flying = h.flying;
     fair = each_put (IsFair ends owners) t trans ts fair h.fair;
   }
@@ -208,6 +210,7 @@ module _ (ends log_bytes : ℕ) (owners : List (ℕ × Owner)) (ts : List (ℕ �
         ail_rises = h.ail_rises;
         landed_rises = h.landed_rises;
         landed_below = h.landed_below;
+        landed_needed = h.landed_needed;
         flying = h.flying;
         fair = each_set_at (IsFair ends owners) t (record trans { leg = leg }) ts fair h.fair;
       }
@@ -254,6 +257,7 @@ module _ (ends log_bytes : ℕ) (owners : List (ℕ × Owner)) (ts : List (ℕ �
           ail_rises = h.ail_rises;
           landed_rises = h.landed_rises;
           landed_below = h.landed_below;
+          landed_needed = h.landed_needed;
           flying = h.flying;
           fair = each_map (IsFair ends owners) (IsFair ends (put b (Trans t count) owners)) ts (λ e fair. fair_with owners (put b (Trans t count) owners) e (λ q own. owns_locked e.0 q own) fair) h.fair;
         }
@@ -304,6 +308,7 @@ module _ (ends log_bytes : ℕ) (owners : List (ℕ × Owner)) (ts : List (ℕ �
           ail_rises = h.ail_rises;
           landed_rises = h.landed_rises;
           landed_below = h.landed_below;
+          landed_needed = h.landed_needed;
           flying = h.flying;
           fair = fair;
         }
@@ -353,6 +358,7 @@ module _ (ends log_bytes : ℕ) (owners : List (ℕ × Owner)) (ts : List (ℕ �
           ail_rises = h.ail_rises;
           landed_rises = h.landed_rises;
           landed_below = h.landed_below;
+          landed_needed = h.landed_needed;
           flying = between_committed l.flight l (with_marks trans.leg.changes l.cil) h.flying;
           fair = fair;
         }
@@ -401,14 +407,16 @@ module _ (ends log_bytes : ℕ) (owners : List (ℕ × Owner)) (ts : List (ℕ �
         ail_rises = h.ail_rises;
         landed_rises = h.landed_rises;
         landed_below = h.landed_below;
+        landed_needed = h.landed_needed;
         flying = h.flying;
         fair = each_map (λ e. IsFair ends owners e × IsApart b e) (IsFair ends ns) ts (λ e both. fair_without b owners e both.0 both.1) (each_both (IsFair ends owners) (IsApart b) ts h.fair apart);
       }
 
   -- ---- blocks leave the active list
   -- blocks leave the active list, and landed checkpoints count no more
-  pub parts_cleaned : (p q : ℕ × ℕ → Bool) → AreSound ends log_bytes owners ts (record l { ail = filter p l.ail; landed = filter q l.landed })
-  parts_cleaned p q =
+  pub parts_cleaned : (p : ℕ × ℕ → Bool) → AreSound ends log_bytes owners ts (with_active (filter p l.ail) l.landed l)
+  parts_cleaned p =
+      let q : ℕ × ℕ → Bool = λ e. is_needed (filter p l.ail) e.0 in
       let n : Items = record l { ail = filter p l.ail; landed = filter q l.landed } in
       let active : IsRising n.ail = rises_filter 0 p l.ail h.ail_rises in
       let space = h.space in
@@ -429,6 +437,7 @@ module _ (ends log_bytes : ℕ) (owners : List (ℕ × Owner)) (ts : List (ℕ �
         ail_rises = active;
         landed_rises = rises_filter 0 q l.landed h.landed_rises;
         landed_below = each_filter (λ e. e.0 < l.open_number) q l.landed h.landed_below;
+        landed_needed = each_passes q l.landed;
         flying = between_cleaned l.flight l (filter p l.ail) q h.flying;
         fair = h.fair;
       }
@@ -457,6 +466,7 @@ module _ (ends log_bytes : ℕ) (owners : List (ℕ × Owner)) (ts : List (ℕ �
         ail_rises = h.ail_rises;
         landed_rises = h.landed_rises;
         landed_below = each_map (λ e. e.0 < l.open_number) (λ e. e.0 < l.open_number + 1) l.landed (λ e less. omega (arith, less)) h.landed_below;
+        landed_needed = h.landed_needed;
         flying = (omega arith, h.landed_below);
         fair = h.fair;
       }
@@ -484,6 +494,7 @@ module _ (ends log_bytes : ℕ) (owners : List (ℕ × Owner)) (ts : List (ℕ �
         ail_rises = h.ail_rises;
         landed_rises = h.landed_rises;
         landed_below = h.landed_below;
+        landed_needed = h.landed_needed;
         flying = tt;
         fair = h.fair;
       }
@@ -521,6 +532,7 @@ module _ (ends log_bytes : ℕ) (owners : List (ℕ × Owner)) (ts : List (ℕ �
         landed_below =
             each_filter (λ e. e.0 < l.open_number) (λ e. is_needed ail e.0) (put f.number (cost ends f.items) l.landed)
             (each_put (λ e. e.0 < l.open_number) f.number (cost ends f.items) l.landed between.0 h.landed_below);
+        landed_needed = each_passes (λ e. is_needed ail e.0) (put f.number (cost ends f.items) l.landed);
         flying = tt;
         fair = each_map (IsFair ends owners) (IsFair ends ns) ts (λ e fair. fair_with owners ns e (λ b own. owns_landed f.number e.0 b owners own) fair) h.fair;
       }

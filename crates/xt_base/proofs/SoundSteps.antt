@@ -1,14 +1,16 @@
 -- Each step of a mount keeps it sound: one lemma for each request and job.
-use Rattle.std.proofs.Common.{◌≡◌, ◌≢◌, ◌∙◌, ◌⊎◌, ◌+◌, ◌*◌, ◌<◌, ◌≤◌, ◌∷◌, Bool, List, None, Option, Some, [], ap, arith, false, inl, inr, length, refl, sym, true, ℕ}
+use Rattle.std.proofs.Common.{◌≡◌, ◌≢◌, ◌∙◌, ◌⊎◌, ◌+◌, ◌*◌, ◌<◌, ◌≤◌, ◌∷◌, Bool, List, None, Option, Some, [], ap, arith, false, inl, inr, length, refl, subst, sym, true, ℕ}
 use Rattle.std.proofs.Math.Nat.{le-mul_of_pos_right}
-use Rattle.std.proofs.lemmas.Bool.{false≢true, and_cases, and_parts, eqb-false, false_from_ne_true, leb-false, ltb-false, ne_eqb, not-false, not-true, or_parts}
+use Rattle.std.proofs.lemmas.Bool.{false≢true, and_cases, and_parts, eqb-false, false_from_ne_true, leb-false, ltb-false, ne_eqb, not-false, not-true, or_parts, or_right}
 use Rattle.std.specs.Prelude.{filter, if◌then◌else◌, is_none, is_some, nat_le, nat_lt, not, sum_by, ◌&&◌, ◌/◌, ◌==◌, ◌||◌}
 use Rattle.xt_base.proofs.BusyLemmas.{is_busy_in}
 use Rattle.xt_base.proofs.KeyLemmas.{each_with_member, each_without_member, is_in_put, is_in_put_old, rises_keys_filter, rises_keys_with}
 use Rattle.xt_base.proofs.LegLemmas.{charge_alike, covered_edit, is_in_with_marks, length_with_marks_ge, owned_there, rises_with_edits, rises_with_lost}
 use Rattle.xt_base.proofs.MapLemmas.{at_put_same}
 use Rattle.xt_base.proofs.RisingLemmas.{each_at, each_both, each_filter, each_in, each_map, each_passes, each_put, each_set_at, each_without, rises_filter, rises_put}
+use Rattle.xt_base.proofs.OwnerNumbers.{IsGiven, given_aborted, given_ended, given_locked, given_more}
 use Rattle.xt_base.proofs.SoundParts.{busy_active, busy_by, busy_committed, busy_flying, busy_owned, is_in_activated, none_else, parts_aborted, parts_empty, parts_ended, parts_failed, parts_flown, parts_landed, parts_leg, parts_locked, parts_opened}
+use Rattle.xt_base.proofs.WrittenLemmas.{free_not_cancelled, written_ended, written_flown, written_landed, written_less, written_locked, written_none}
 use Rattle.xt_base.specs.declared.steps.Reply.TheVariants.{Failed, Landed, Nothing, Okay, Refused, Wait}
 use Rattle.xt_base.specs.Calls.{Outcome, commit_number, committed_of, gives, held_of, io_of, alloc, alloc_refusals, allocated, asks_ckpt, asks_flush, at_end, brought, busied, closed, commit, edited, first_of, force, get_refusals, is_elsewhere, is_fresh, is_own, locked, log_refusals, logged_leg, made_fresh, new_trans, not_fresh, overwritten, push, seen, shut_down, shut_for, shutdown, unless, waits_for, with_leg, with_owner}
 use Rattle.xt_base.specs.Chunks.{marks, union}
@@ -17,7 +19,7 @@ use Rattle.xt_base.specs.Jobs.{activated, begin, begun, end, end_of, failed, fin
 use Rattle.xt_base.specs.Legs.{aborted, change_of, ended, is_dirty, is_lost, is_stale, own_count, with_marks}
 use Rattle.xt_base.specs.Maps.{at, is_in, put, set_at, without_member}
 use Rattle.xt_base.specs.Settle.{Dropped, settled}
-use Rattle.xt_base.specs.Sound.{AreKept, AreNumbered, AreSound, Each, IsCovered, IsFair, IsReady, IsRising, IsSound, IsUnwritten, Owns, RisesFromKeys}
+use Rattle.xt_base.specs.Sound.{AreGiven, AreKept, AreNumbered, AreSound, AreWritten, Each, IsBetween, IsCovered, IsFair, IsReady, IsRising, IsSound, IsUnwritten, Owns, RisesFromKeys, is_cancelled}
 use Rattle.xt_base.specs.Space.{busy_count, change_cost, charge, cost, flight_items, greatest, is_busy, is_listed, used}
 use Rattle.xt_base.specs.State.{Change, Flight, Frames, Items, Jobs, Leg, State, Transaction, mount_of}
 use Rattle.xt_base.specs.declared.names.JobKind.{JobKind}
@@ -129,6 +131,8 @@ sound_shut_down reason s h = record {
   ready = h.ready;
   legs_left = λ live. absurd (shut_for_some reason s.shut live);
   fresh_owned = λ live. absurd (shut_for_some reason s.shut live);
+  given = h.given;
+  written = λ live. absurd (shut_for_some reason s.shut live);
 }
 
 ready_jobs : (l : Items) (j k : Jobs) → k.ckpt ≡ j.ckpt → IsReady l j → IsReady l k
@@ -150,6 +154,8 @@ sound_jobs k s same h = record {
   ready = ready_jobs s.items s.jobs k same h.ready;
   legs_left = h.legs_left;
   fresh_owned = h.fresh_owned;
+  given = h.given;
+  written = h.written;
 }
 
 -- a checkpoint is asked
@@ -186,6 +192,8 @@ sound_mount slot life log_bytes blocks form is small = record {
   ready = record { numbered = omega arith; bounded = omega arith; worth = λ out none. absurd (cc out); room = λ out none. absurd (cc out) };
   legs_left = λ live. tt;
   fresh_owned = λ live. tt;
+  given = tt;
+  written = λ live. written_none;
 }
 
 -- ---- settling
@@ -193,8 +201,8 @@ sound_mount slot life log_bytes blocks form is small = record {
 pub sound_settling : (dropped : Dropped) (s : State) → IsForm s.form → s.log_bytes ≤ MOST_LOG → AreNumbered s.last_trans s.transactions → AreSound s.form.ends s.log_bytes s.owners s.transactions s.items → IsRising s.frames.committed → RisesFromKeys 0 s.frames.fresh → IsReady s.items s.jobs
     → (is_none s.shut ≡ true → Each (λ e. 1 ≤ e.1.legs) s.transactions)
     → (is_none s.shut ≡ true → Each (λ b. is_busy s b ≡ true → IsUnwritten s.owners s.transactions s.items b) s.frames.fresh)
-    → IsSound (settled dropped s)
-sound_settling dropped s form small numbers parts committed fresh ready legs unwritten = record {
+    → AreGiven s.last_trans s.owners → (is_none s.shut ≡ true → AreWritten s.owners s.frames.committed s.items) → IsSound (settled dropped s)
+sound_settling dropped s form small numbers parts committed fresh ready legs unwritten given written = record {
   form = form;
   log_small = small;
   numbers = numbers;
@@ -211,13 +219,15 @@ sound_settling dropped s form small numbers parts committed fresh ready legs unw
       each_map (λ b. (is_busy s b ≡ true → IsUnwritten s.owners s.transactions s.items b) × (is_busy s b ≡ true)) (IsUnwritten s.owners s.transactions s.items) (filter (is_busy s) s.frames.fresh) (λ b both. both.0 both.1)
       (each_both (λ b. is_busy s b ≡ true → IsUnwritten s.owners s.transactions s.items b) (λ b. is_busy s b ≡ true) (filter (is_busy s) s.frames.fresh)
       (each_filter (λ b. is_busy s b ≡ true → IsUnwritten s.owners s.transactions s.items b) (is_busy s) s.frames.fresh (unwritten live)) (each_passes (is_busy s) s.frames.fresh));
+  given = given;
+  written = λ live. written_less s.owners s.frames.committed s.items (written live) (is_busy s) (λ b there. or_right (is_in b s.owners) (is_listed s.items b) there);
 }
 
 -- a sound mount settles
 pub sound_settled : (dropped : Dropped) (s : State) → IsSound s → IsSound (settled dropped s)
 sound_settled dropped s h =
     sound_settling dropped s h.form h.log_small h.numbers h.parts h.kept.committed_rises h.kept.fresh_rises h.ready h.legs_left
-    (λ live. each_map (IsUnwritten s.owners s.transactions s.items) (λ b. is_busy s b ≡ true → IsUnwritten s.owners s.transactions s.items b) s.frames.fresh (λ b u busy. u) (h.fresh_owned live))
+    (λ live. each_map (IsUnwritten s.owners s.transactions s.items) (λ b. is_busy s b ≡ true → IsUnwritten s.owners s.transactions s.items b) s.frames.fresh (λ b u busy. u) (h.fresh_owned live)) h.given h.written
 
 -- ---- alloc
 -- a transaction opens, where its grant finds room
@@ -238,6 +248,8 @@ sound_allocated unit count perm s h some room = record {
         unchanged = each_put (λ e. is_in b e.1.leg.changes ≡ false) (s.last_trans + 1) (new_trans unit count perm) s.transactions refl u.unchanged;
       })
       (h.fresh_owned live);
+  given = given_more s.last_trans s.owners h.given;
+  written = h.written;
 }
 
 -- an alloc, refused or not
@@ -283,6 +295,8 @@ sound_posted kind s h owed = record {
   ready = ready_posted kind s h.ready (and_parts (is_none s.shut) (is_wanted kind s) (and_parts _ _ (and_parts _ _ owed).0).0).1;
   legs_left = h.legs_left;
   fresh_owned = h.fresh_owned;
+  given = h.given;
+  written = h.written;
 }
 
 serial_there : (n : ℕ) (o : Option ℕ) → is_serial n o ≡ true → is_some o ≡ true
@@ -315,7 +329,13 @@ sound_finished s h = record {
   ready = ready_finished s.items s.items s.jobs refl h.ready;
   legs_left = h.legs_left;
   fresh_owned = h.fresh_owned;
+  given = h.given;
+  written = h.written;
 }
+
+-- the flight comes before the open checkpoint
+flies_below : (l : Items) (f : Flight) → l.flight ≡ Some f → IsBetween l.flight l → f.number < l.open_number
+flies_below l f is between = (subst (λ o. IsBetween o l) is between).0
 
 module _ (s : State) (h : IsSound s) where
   -- the frames of a step after which each busy block is busy still
@@ -352,6 +372,8 @@ module _ (s : State) (h : IsSound s) where
             let off = listed_parts (is_in b s.items.cil) (is_in b (flight_items s.items.flight)) (is_in b s.items.ail) u.unlisted in
             record { owned = u.owned; unlisted = unlisted_by false (is_in b s.items.cil) (is_in b s.items.ail) refl off.0 off.2; unchanged = u.unchanged })
             (h.fresh_owned live);
+        given = h.given;
+        written = λ live. written_flown s.owners s.frames.committed s.items (h.written live) pieces none;
       }
 
   -- the begin of a checkpoint job that waits
@@ -368,7 +390,7 @@ module _ (s : State) (h : IsSound s) where
   sound_failed dropped =
       sound_settling dropped (finished JobKind.Ckpt (shut_down LogIoError (record s { items = record s.items { flight = None } }))) h.form h.log_small h.numbers
       (parts_failed s.form.ends s.log_bytes s.owners s.transactions s.items h.parts) h.kept.committed_rises h.kept.fresh_rises (ready_finished s.items (record s.items { flight = None }) s.jobs refl h.ready)
-      (λ live. absurd (shut_for_some LogIoError s.shut live)) (λ live. absurd (shut_for_some LogIoError s.shut live))
+      (λ live. absurd (shut_for_some LogIoError s.shut live)) (λ live. absurd (shut_for_some LogIoError s.shut live)) h.given (λ live. absurd (shut_for_some LogIoError s.shut live))
 
   -- the flight is on the log
   pub sound_landed : (dropped : Dropped) (f : Flight) → s.items.flight ≡ Some f → IsSound (landed dropped f s)
@@ -385,6 +407,8 @@ module _ (s : State) (h : IsSound s) where
       let unlisted : is_listed n b ≡ false = unlisted_by (is_in b s.items.cil) false (is_in b n.ail) off.0 refl inactive in
       record { owned = left_true (is_in b ns) (is_listed n b) unlisted busy; unlisted = unlisted; unchanged = u.unchanged })
       (h.fresh_owned live))
+      (each_filter (IsGiven s.last_trans) (λ e. not (waits_on f.number e.1)) s.owners h.given)
+      (λ live. written_landed s.owners s.frames.committed s.items (h.written live) s.form.ends f is (flies_below s.items f is h.parts.flying) h.parts.owners_rise (subst (λ o. IsRising (flight_items o)) is h.parts.flight_rises) h.parts.ail_rises)
 
   end_sound : (dropped : Dropped) (answers : LogAnswers) (o : Option Flight) → s.items.flight ≡ o → IsSound (end_of dropped answers s o).state
   end_sound dropped answers None is = h
@@ -396,8 +420,8 @@ module _ (s : State) (h : IsSound s) where
   sound_end dropped answers = end_sound dropped answers s.items.flight refl
 
 -- ---- get
--- a block that no other transaction has
-module _ (t b count : ℕ) (s : State) (h : IsSound s) (free : (u : ℕ) → Owns s.owners u b → t ≡ u) where
+-- a block that no other transaction has and that was not invalidated
+module _ (t b count : ℕ) (s : State) (h : IsSound s) (below : t ≤ s.last_trans) (live : is_cancelled (at b s.owners) ≡ false) (free : (u : ℕ) → Owns s.owners u b → t ≡ u) where
   owned_more : (q : ℕ) → is_busy s q ≡ true → is_busy (with_owner b (Trans t count) s) q ≡ true
   owned_more q busy =
       let ns : List (ℕ × Owner) = put b (Trans t count) s.owners in
@@ -412,8 +436,9 @@ module _ (t b count : ℕ) (s : State) (h : IsSound s) (free : (u : ℕ) → Own
 
   -- with these frames
   pub sound_owner : (frames : Frames) → (is_busy s b ≡ true) ⊎ (busy_count s < 64) → AreKept (is_busy (with_owner b (Trans t count) s)) frames
-      → (is_none s.shut ≡ true → Each (IsUnwritten (put b (Trans t count) s.owners) s.transactions s.items) frames.fresh) → IsSound (with_owner b (Trans t count) (record s { frames = frames }))
-  sound_owner frames room kept unwritten = record {
+      → (is_none s.shut ≡ true → Each (IsUnwritten (put b (Trans t count) s.owners) s.transactions s.items) frames.fresh) → ((q : ℕ) → is_in q s.frames.committed ≡ true → is_in q frames.committed ≡ true)
+      → IsSound (with_owner b (Trans t count) (record s { frames = frames }))
+  sound_owner frames room kept unwritten more = record {
     form = h.form;
     log_small = h.log_small;
     numbers = h.numbers;
@@ -422,13 +447,15 @@ module _ (t b count : ℕ) (s : State) (h : IsSound s) (free : (u : ℕ) → Own
     ready = h.ready;
     legs_left = h.legs_left;
     fresh_owned = unwritten;
+    given = given_locked s.last_trans b t count s.owners below h.given;
+    written = λ on. written_locked s.owners s.frames.committed s.items (h.written on) t b count frames.committed live more;
   }
 
   -- a busy block
   pub sound_owner_busy : is_busy s b ≡ true → IsSound (with_owner b (Trans t count) s)
   sound_owner_busy busy =
       sound_owner s.frames (inl busy) (kept_on s h (with_owner b (Trans t count) s) owned_more)
-      (λ live. each_map (IsUnwritten s.owners s.transactions s.items) (IsUnwritten (put b (Trans t count) s.owners) s.transactions s.items) s.frames.fresh unwritten_more (h.fresh_owned live))
+      (λ live. each_map (IsUnwritten s.owners s.transactions s.items) (IsUnwritten (put b (Trans t count) s.owners) s.transactions s.items) s.frames.fresh unwritten_more (h.fresh_owned live)) (λ q there. there)
 
   -- a block with a content
   pub sound_owner_content : (content : List ℕ) → (is_busy s b ≡ true) ⊎ (busy_count s < 64) → IsSound (with_owner b (Trans t count) (busied b content s))
@@ -443,6 +470,7 @@ module _ (t b count : ℕ) (s : State) (h : IsSound s) (free : (u : ℕ) → Own
         fresh_busy = kept.fresh_busy;
       })
       (λ live. each_map (IsUnwritten s.owners s.transactions s.items) (IsUnwritten (put b (Trans t count) s.owners) s.transactions s.items) s.frames.fresh unwritten_more (h.fresh_owned live))
+      (λ q there. is_in_put_old q b content s.frames.committed there)
 
   -- a block that is neither
   pub sound_owner_fresh : is_busy s b ≡ false → busy_count s < 64 → IsSound (with_owner b (Trans t count) (made_fresh b s))
@@ -463,7 +491,7 @@ module _ (t b count : ℕ) (s : State) (h : IsSound s) (free : (u : ℕ) → Own
         fresh_busy = each_with_member (λ q. is_busy n q ≡ true) b s.frames.fresh owned_now kept.fresh_busy;
       })
       (λ live. each_with_member (IsUnwritten (put b (Trans t count) s.owners) s.transactions s.items) b s.frames.fresh new
-      (each_map (IsUnwritten s.owners s.transactions s.items) (IsUnwritten (put b (Trans t count) s.owners) s.transactions s.items) s.frames.fresh unwritten_more (h.fresh_owned live)))
+      (each_map (IsUnwritten s.owners s.transactions s.items) (IsUnwritten (put b (Trans t count) s.owners) s.transactions s.items) s.frames.fresh unwritten_more (h.fresh_owned live))) (λ q there. there)
 
   brought_sound : (idle : Option (List ℕ)) → is_busy s b ≡ false → busy_count s < 64 → IsSound (with_owner b (Trans t count) (brought b idle s))
   brought_sound None other room = sound_owner_fresh other room
@@ -474,19 +502,20 @@ module _ (t b count : ℕ) (s : State) (h : IsSound s) (free : (u : ℕ) → Own
   first_sound false is room = brought_sound (at b s.frames.idle) is (leb-false 64 (busy_count s) room)
 
 -- a block that a transaction has is locked once more, another is locked first
-pub sound_locked : (t b : ℕ) (own : Option ℕ) (s : State) → IsSound s → own_count t (at b s.owners) ≡ own → is_elsewhere s t b ≡ false → (not (is_busy s b) && nat_le 64 (busy_count s)) ≡ false → IsSound (locked t b own s)
-sound_locked t b (Some count) s h is free room = sound_owner_busy t b (count + 1) s h (none_else t b s.owners free) (busy_owned s.owners s.items b (owned_there t b s.owners (ap is_some is)))
-sound_locked t b None s h is free room = first_sound t b 0 s h (none_else t b s.owners free) (is_busy s b) refl room
+pub sound_locked : (t b : ℕ) (own : Option ℕ) (s : State) → IsSound s → t ≤ s.last_trans → own_count t (at b s.owners) ≡ own → is_elsewhere s t b ≡ false → (not (is_busy s b) && nat_le 64 (busy_count s)) ≡ false → IsSound (locked t b own s)
+sound_locked t b (Some count) s h below is free room =
+    sound_owner_busy t b (count + 1) s h below (free_not_cancelled t (at b s.owners) free) (none_else t b s.owners free) (busy_owned s.owners s.items b (owned_there t b s.owners (ap is_some is)))
+sound_locked t b None s h below is free room = first_sound t b 0 s h below (free_not_cancelled t (at b s.owners) free) (none_else t b s.owners free) (is_busy s b) refl room
 
 -- a get that nothing refuses
-pub sound_get : (t b : ℕ) (s : State) → IsSound s → None ≡ first_of (get_refusals t b s) → IsSound (locked t b (own_count t (at b s.owners)) s)
-sound_get t b s h passes =
+pub sound_get : (t b : ℕ) (s : State) → IsSound s → t ≤ s.last_trans → None ≡ first_of (get_refusals t b s) → IsSound (locked t b (own_count t (at b s.owners)) s)
+sound_get t b s h below passes =
     let first = passes_first (nat_le s.blocks b) Invalid ((is_some s.shut, Io) ∷ (at_end (own_count t (at b s.owners)), Invalid) ∷ (is_elsewhere s t b, Again) ∷ (not (is_busy s b) && nat_le 64 (busy_count s), NoBufs) ∷ []) passes in
     let second = passes_first (is_some s.shut) Io ((at_end (own_count t (at b s.owners)), Invalid) ∷ (is_elsewhere s t b, Again) ∷ (not (is_busy s b) && nat_le 64 (busy_count s), NoBufs) ∷ []) first.1 in
     let third = passes_first (at_end (own_count t (at b s.owners))) Invalid ((is_elsewhere s t b, Again) ∷ (not (is_busy s b) && nat_le 64 (busy_count s), NoBufs) ∷ []) second.1 in
     let fourth = passes_first (is_elsewhere s t b) Again ((not (is_busy s b) && nat_le 64 (busy_count s), NoBufs) ∷ []) third.1 in
     let fifth = passes_first (not (is_busy s b) && nat_le 64 (busy_count s)) NoBufs [] fourth.1 in
-    sound_locked t b (own_count t (at b s.owners)) s h refl fourth.0 fifth.0
+    sound_locked t b (own_count t (at b s.owners)) s h below refl fourth.0 fifth.0
 
 -- ---- log
 -- a leg with one more edit, which is charged within the unit
@@ -532,6 +561,8 @@ sound_changed t b c holds s trans h is fair =
                 (apart_put k b c trans.leg.changes both.1 (each_at (λ e. is_in k e.1.leg.changes ≡ false) t trans s.transactions is both.0.unchanged)) both.0.unchanged;
           })
           (each_without_member (IsUnwritten s.owners s.transactions s.items) b s.frames.fresh (h.fresh_owned live));
+      given = h.given;
+      written = h.written;
     }
 
 -- a block that a transaction has is edited, within its unit
@@ -574,7 +605,7 @@ module _ (dropped : Dropped) (t : ℕ) (s : State) (trans : Transaction) (h : Is
   sound_aborted shut =
       sound_settling dropped (closed t (aborted t trans.leg s)) h.form h.log_small (each_without (λ e. e.0 ≤ s.last_trans) t s.transactions h.numbers) (parts_aborted s.form.ends s.log_bytes s.owners s.transactions s.items h.parts t trans is)
       (rises_filter 0 (λ e. not (is_lost trans.leg e.0)) s.frames.committed h.kept.committed_rises) (rises_with_lost trans.leg.changes trans.leg s.frames.fresh h.kept.fresh_rises) h.ready
-      (λ live. absurd (is_none_some s.shut live shut)) (λ live. absurd (is_none_some s.shut live shut))
+      (λ live. absurd (is_none_some s.shut live shut)) (λ live. absurd (is_none_some s.shut live shut)) (given_aborted s.last_trans t trans.leg s.owners h.given) (λ live. absurd (is_none_some s.shut live shut))
 
   -- a leg that is committed
   pub sound_ended : charge s.form.ends trans.leg.changes ≤ trans.unit * trans.legs → IsSound (settled dropped (closed t (ended t trans.leg s)))
@@ -595,6 +626,8 @@ module _ (dropped : Dropped) (t : ℕ) (s : State) (trans : Transaction) (h : Is
         unchanged = each_without (λ e. is_in b e.1.leg.changes ≡ false) t s.transactions u.unchanged;
       })
       (h.fresh_owned live))
+      (given_ended s.last_trans t trans.leg s.items.open_number s.owners h.given)
+      (λ live. written_ended s.owners s.frames.committed s.items (h.written live) t trans h.parts.owners_rise (each_at (IsFair s.form.ends s.owners) t trans s.transactions is h.parts.fair) h.parts.flying)
 
   -- a commit, on a live mount or a shut one
   pub sound_commit : IsSound (commit dropped t s trans).state

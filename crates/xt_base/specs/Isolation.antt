@@ -1,5 +1,5 @@
 -- What a run of many slots told, and that each slot was told what it would have been told alone.
-use Rattle.std.specs.List.{slice_get}
+use Rattle.std.specs.List.{list_any, slice_get}
 use Rattle.std.specs.Prelude.{Bool, List, None, Option, [], false, filter, if◌then◌else◌, length, map, replicate, slice_index_or, slice_set, take, true, ℕ, ◌+◌, ◌<◌, ◌==◌, ◌∷◌, ◌≡◌, ◌≢◌, ◌⊎◌, ◌++◌, Some}
 use Rattle.xt_base.specs.Alone.{Said, alone_run, shut_after}
 use Rattle.xt_base.specs.Order.{Event, fits, orderly, orderly_for}
@@ -45,6 +45,10 @@ abbrev pub is_no_memory : Reply → Bool
 is_no_memory (Refused e) = is_memory e
 is_no_memory other = false
 
+-- whether some turn of a slot was ENOMEM
+abbrev pub wanted_memory : ℕ → List Said → Bool
+wanted_memory m turns = list_any (λ t. is_no_memory t.reply) (turns_of m turns)
+
 -- a step with its reply; a step that was answered ENOMEM did not happen
 abbrev pub event_of : Step → Said → List Event
 event_of x t = if is_no_memory t.reply then [] else record { step = x; reply = t.reply } ∷ []
@@ -72,10 +76,11 @@ pub record IsAlone (m : ℕ) (steps : List Step) (o : Told) : Type 0 where
   pub turns : turns_of m o.turns ≡ alone_run (strike steps m)
   pub shut : shut_in m o ≡ shut_after (strike steps m)
 
--- a run of these steps told this: a turn for each step; each slot that was not refused memory was told what it would have been told alone,
--- and its steps were orderly for it; and the whole list is orderly where no slot was refused memory
+-- a run of these steps told this: a turn for each step; a slot was refused memory exactly where one of its turns is ENOMEM; each slot that was not
+-- was told what it would have been told alone, and its steps were orderly for it; and the whole list is orderly where no slot was refused memory
 pub record Tells (steps : List Step) (o : Told) : Type 0 where
   pub slots : map (λ t. t.slot) o.turns ≡ map slot_of steps
+  pub refused : (m : ℕ) → is_refused m o ≡ wanted_memory m o.turns
   pub alone : (m : ℕ) → is_refused m o ≡ false → IsAlone m steps o
   pub for_slot : (m : ℕ) → is_refused m o ≡ false → orderly_for m (events steps o.turns) ≡ true
   pub whole : ((m : ℕ) → is_refused m o ≡ false) → orderly steps ≡ true

@@ -1,9 +1,8 @@
 -- Words of the laws: what looks alike to a transaction, and which requests name it.
-use Rattle.std.specs.Prelude.{Bool, List, [], false, true, ℕ, ◌&&◌, ◌==◌, ◌∷◌, ◌≡◌, ◌≤◌}
+use Rattle.std.specs.Prelude.{Bool, List, None, Option, Some, [], false, filter, nat_le, true, ℕ, ◌&&◌, ◌==◌, ◌∷◌, ◌≡◌}
 use Rattle.xt_base.specs.Calls.{alone_with, is_fresh, is_own}
-use Rattle.xt_base.specs.Legs.{own_count, owned_by}
+use Rattle.xt_base.specs.Legs.{own_count}
 use Rattle.xt_base.specs.Maps.{at}
-use Rattle.xt_base.specs.Sound.{Each}
 use Rattle.xt_base.specs.State.{State}
 use Rattle.xt_base.specs.Text.{content_at}
 use Rattle.xt_base.specs.declared.steps.Answer.{Answer}
@@ -43,10 +42,6 @@ names t (Request.Roll u) = u == t
 names t (Request.Cancel u) = u == t
 names t other = false
 
--- each transaction that has a block has a number that was given
-abbrev pub AreGiven : State → Type 0
-AreGiven s = Each (λ e. (t : ℕ) → owned_by t e.1 ≡ true → t ≤ s.last_trans) s.owners
-
 -- the calls by which a transaction only looks: get, read, view, relse
 abbrev pub is_look : ℕ → Request → Bool
 is_look t (Request.Get u b) = u == t
@@ -59,3 +54,12 @@ is_look t other = false
 abbrev pub after_calls : List (Request × Answer) → State → State
 after_calls [] s = s
 after_calls (c ∷ cs) s = after_calls cs (alone_with [] c.0 c.1 s).state
+
+-- whether a checkpoint has at least this number; none has where there is no number
+abbrev pub is_since : Option ℕ → ℕ → Bool
+is_since None number = false
+is_since (Some least) number = nat_le least number
+
+-- the landed checkpoints from a number on
+abbrev pub landed_since : Option ℕ → List (ℕ × ℕ) → List (ℕ × ℕ)
+landed_since least landed = filter (λ e. is_since least e.0) landed

@@ -1,12 +1,14 @@
--- What holds of every mount: its log space is within the log, few blocks are busy, its maps rise, and what is granted covers what is changed.
-use Rattle.std.specs.Prelude.{Bool, List, None, Option, Some, [], false, is_none, is_some, length, suc, sum_by, true, ℕ, ◌+◌, ◌<◌, ◌∷◌, ◌≡◌, ◌≤◌}
+-- What holds of every mount: its log space is within the log, few blocks are busy, its maps rise, what is granted covers what is changed,
+-- and what is listed has a committed content.
+use Rattle.std.specs.Prelude.{Bool, List, None, Option, Some, [], false, is_none, is_some, length, suc, sum_by, true, ℕ, ◌+◌, ◌<◌, ◌||◌, ◌∷◌, ◌≡◌, ◌≤◌, ◌⊎◌}
 use Rattle.xt_base.specs.Form.{IsForm}
-use Rattle.xt_base.specs.Legs.{own_count}
+use Rattle.xt_base.specs.Legs.{own_count, owned_by}
 use Rattle.xt_base.specs.Maps.{at, has, is_in}
-use Rattle.xt_base.specs.Space.{charge, cost, count_beside, flight_items, granted, greatest, is_busy, is_listed}
+use Rattle.xt_base.specs.Space.{charge, cost, count_beside, flight_items, granted, greatest, is_busy, is_listed, is_needed}
 use Rattle.xt_base.specs.State.{Change, Flight, Frames, Items, Jobs, State, Transaction}
 use Rattle.xt_base.specs.declared.sizes.TheConstants.{BUSY_BLOCKS, MOST_LOG}
 use Rattle.xt_base.specs.declared.steps.Owner.{Owner}
+use Rattle.xt_base.specs.declared.steps.Owner.TheVariants.{Stale}
 
 module _ {V : Type 0} where
   -- the keys rise, the first from n on
@@ -65,6 +67,7 @@ pub record AreSound (ends log_bytes : ℕ) (owners : List (ℕ × Owner)) (trans
   pub ail_rises : IsRising l.ail
   pub landed_rises : IsRising l.landed
   pub landed_below : AllBelow l.open_number l.landed
+  pub landed_needed : Each (λ e. is_needed l.ail e.0 ≡ true) l.landed
   pub flying : IsBetween l.flight l
   pub fair : Each (IsFair ends owners) transactions
 
@@ -92,6 +95,29 @@ pub record IsUnwritten (owners : List (ℕ × Owner)) (transactions : List (ℕ 
 abbrev pub AreNumbered : ℕ → List (ℕ × Transaction) → Type 0
 AreNumbered last transactions = Each (λ e. e.0 ≤ last) transactions
 
+-- each transaction that has a block has a number up to the last one given
+abbrev pub AreGiven : ℕ → List (ℕ × Owner) → Type 0
+AreGiven last owners = Each (λ e. (t : ℕ) → owned_by t e.1 ≡ true → t ≤ last) owners
+
+-- whether a block was invalidated, and waits for a checkpoint
+abbrev pub is_cancelled : Option Owner → Bool
+is_cancelled (Some (Stale n)) = true
+is_cancelled other = false
+
+-- the checkpoint in flight has this number and cancels the block, which is not committed anew
+abbrev pub IsCancelledIn : Option Flight → List (ℕ × List ℕ) → ℕ → ℕ → Type 0
+IsCancelledIn None cil b n = ⊥
+IsCancelledIn (Some f) cil b n = (n ≡ f.number) × (at b f.items ≡ Some []) × (is_in b cil ≡ false)
+
+-- the checkpoint of this number, open or in flight, cancels the block
+abbrev pub IsCancelled : Items → ℕ → ℕ → Type 0
+IsCancelled l b n = ((n ≡ l.open_number) × (at b l.cil ≡ Some [])) ⊎ IsCancelledIn l.flight l.cil b n
+
+-- each block on a list has a committed content, or was invalidated and waits for a checkpoint; and that checkpoint cancels it
+pub record AreWritten (owners : List (ℕ × Owner)) (committed : List (ℕ × List ℕ)) (l : Items) : Type 0 where
+  pub listed : (b : ℕ) → is_listed l b ≡ true → (is_in b committed || is_cancelled (at b owners)) ≡ true
+  pub cancelled : (b n : ℕ) → at b owners ≡ Some (Stale n) → IsCancelled l b n
+
 -- what holds of every mount
 pub record IsSound (s : State) : Type 0 where
   pub form : IsForm s.form
@@ -104,3 +130,6 @@ pub record IsSound (s : State) : Type 0 where
   pub legs_left : is_none s.shut ≡ true → Each (λ e. 1 ≤ e.1.legs) s.transactions
   -- on a live mount; where one is shut, a leg that was given up may leave a listed block fresh
   pub fresh_owned : is_none s.shut ≡ true → Each (IsUnwritten s.owners s.transactions s.items) s.frames.fresh
+  pub given : AreGiven s.last_trans s.owners
+  -- on a live mount, so that no text and no flush has bytes that nobody wrote; where one is shut, contents of listed blocks may be lost
+  pub written : is_none s.shut ≡ true → AreWritten s.owners s.frames.committed s.items

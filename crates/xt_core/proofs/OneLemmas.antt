@@ -5,7 +5,7 @@ use Rattle.std.proofs.lemmas.List.{get_or-set_other, take_more}
 use Rattle.std.proofs.lemmas.Option.{get_or_from_slice_get}
 use Rattle.std.specs.Prelude.{slice_index_or, if◌then◌else◌, ◌&&◌, ◌==◌}
 use Rattle.xt_base.proofs.RisingLemmas.{each_map}
-use Rattle.xt_core.proofs.RunLemmas.{IsAfter, IsBelow, after_none, after_refused, after_taken, after_tells, breaks_fits, breaks_whole, by_slot, each_append}
+use Rattle.xt_core.proofs.RunLemmas.{IsAfter, IsBelow, after_none, after_refused, after_taken, after_tells, breaks_fits, breaks_whole, by_slot, each_append, none_refused}
 use Rattle.xt_core.proofs.TurnLemmas.{turn_hands}
 use Rattle.xt_base.specs.Alone.{Said, alone, reason_of, said_of}
 use Rattle.xt_base.specs.Isolation.{BreaksOne, BreaksOrder, IsOneSlot, TellsOne, Told, events, first_slot, is_no_memory, is_refused, told_refused, told_taken, untold}
@@ -48,6 +48,7 @@ run_alike done h o queue hand lone lone' e a = record {
   slots = a.slots;
   shut_room = a.shut_room;
   refused_room = a.refused_room;
+  wanted = a.wanted;
   happened = a.happened;
   turn = a.turn;
   below = λ m. subst (IsBelow m h) (e m) (a.below m);
@@ -67,6 +68,7 @@ run_hands done h o queue hand hand' lone e a = record {
   slots = a.slots;
   shut_room = a.shut_room;
   refused_room = a.refused_room;
+  wanted = a.wanted;
   happened = a.happened;
   turn = turn_hands h queue hand hand' a.turn e;
   below = a.below;
@@ -83,14 +85,6 @@ run_hands done h o queue hand hand' lone e a = record {
 -- the events are those of what was told
 happened_now : (done : List Step) (h : List Event) (o : Told) (queue : List JobName) (hand : ℕ → Option JobName) (lone : ℕ → Lone) → IsAfter done h o queue hand lone → IsAfter done (events done o.turns) o queue hand lone
 happened_now done h o queue hand lone a = subst (λ g. IsAfter done g o queue hand lone) (sym a.happened) a
-
-never : (n m : ℕ) → slice_index_or (replicate n false) m false ≡ false
-never zero m = refl
-never (suc n) zero = refl
-never (suc n) (suc m) = never n m
-
-none_refused : (m : ℕ) → is_refused m untold ≡ false
-none_refused m = never 16 m
 
 -- before any step, with free hands
 pub one_none : (k : ℕ) (hand : ℕ → Option JobName) → ((w : ℕ) → hand w ≡ None) → IsOneRun k [] untold [] hand empty

@@ -3,9 +3,11 @@ use Rattle.std.proofs.Common.{◌≡◌, ◌≢◌, ◌∙◌, ◌++◌, ◌∷�
 use Rattle.std.proofs.lemmas.Bool.{eq-eqb, ne_eqb}
 use Rattle.std.proofs.lemmas.List.{append-nil}
 use Rattle.std.proofs.lemmas.List.Elements.{filter-append}
-use Rattle.std.specs.Prelude.{filter, ◌&&◌, ◌==◌}
+use Rattle.std.proofs.lemmas.List.Folds.{list_any-append}
+use Rattle.std.specs.List.{list_any}
+use Rattle.std.specs.Prelude.{filter, ◌&&◌, ◌==◌, ◌||◌}
 use Rattle.xt_base.specs.Alone.{Said, after, alone, alone_from, said_of}
-use Rattle.xt_base.specs.Isolation.{event_of, events, turns_of}
+use Rattle.xt_base.specs.Isolation.{event_of, events, is_no_memory, turns_of, wanted_memory}
 use Rattle.xt_base.specs.Order.{Event, fits, fits_for, of_slot, orderly_for_from, orderly_from, told, told_from}
 use Rattle.xt_base.specs.State.{Lone}
 use Rattle.xt_base.specs.Steps.{slot_of, strike}
@@ -52,6 +54,22 @@ turns_own ts t m same = filter_one (λ u. u.slot == m) ts t (eq-eqb t.slot m sam
 -- another slot's turn
 pub turns_other : (ts : List Said) (t : Said) (m : ℕ) → t.slot ≢ m → turns_of m (ts ++ t ∷ []) ≡ turns_of m ts
 turns_other ts t m other = filter_none (λ u. u.slot == m) ts t (ne_eqb t.slot m other)
+
+-- ---- want of memory
+or_last : (a b : Bool) → (a || (b || false)) ≡ (a || b)
+or_last true b = refl
+or_last false true = refl
+or_last false false = refl
+
+-- a slot's own turn may be ENOMEM
+pub wanted_own : (ts : List Said) (t : Said) (m : ℕ) → t.slot ≡ m → wanted_memory m (ts ++ t ∷ []) ≡ (wanted_memory m ts || is_no_memory t.reply)
+wanted_own ts t m same =
+    ap (list_any (λ (u : Said). is_no_memory u.reply)) (turns_own ts t m same) ∙ list_any-append (λ (u : Said). is_no_memory u.reply) (turns_of m ts) (t ∷ [])
+    ∙ or_last (wanted_memory m ts) (is_no_memory t.reply)
+
+-- another slot's turn is nothing to it
+pub wanted_other : (ts : List Said) (t : Said) (m : ℕ) → t.slot ≢ m → wanted_memory m (ts ++ t ∷ []) ≡ wanted_memory m ts
+wanted_other ts t m other = ap (list_any (λ (u : Said). is_no_memory u.reply)) (turns_other ts t m other)
 
 -- ---- states and turns of a slot alone
 -- the state after one more step

@@ -2,14 +2,14 @@
 use Rattle.std.proofs.Common.{◌≡◌, ◌≢◌, ◌∙◌, ◌<◌, ◌++◌, ◌∷◌, Bool, List, None, Option, [], ap, arith, false, inl, inr, length, map, refl, replicate, subst, suc, sym, true, zero, ℕ}
 use Rattle.std.proofs.lemmas.Bool.{and_parts, cases_eq, eq-eqb, false≢true, ne_eqb}
 use Rattle.std.proofs.lemmas.List.{append-nil, get_or-set_other, get_or-set_same, length-set, map-append}
-use Rattle.std.specs.Prelude.{if◌then◌else◌, option_to_list, slice_index_or, slice_set, ◌&&◌}
+use Rattle.std.specs.Prelude.{if◌then◌else◌, option_to_list, slice_index_or, slice_set, ◌&&◌, ◌||◌}
 use Rattle.xt_core.proofs.FitsLemmas.{common_step, fits_is}
 use Rattle.xt_core.proofs.LifeLemmas.{IsGiven, IsLater, given_once_posted, later_step}
-use Rattle.xt_core.proofs.OrderLemmas.{after_more, alone_more, events_more, of_slot_other, of_slot_own, orderly_for_more, orderly_more, strike_other, strike_own, told_more, turns_other, turns_own}
+use Rattle.xt_core.proofs.OrderLemmas.{after_more, alone_more, events_more, of_slot_other, of_slot_own, orderly_for_more, orderly_more, strike_other, strike_own, told_more, turns_other, turns_own, wanted_other, wanted_own}
 use Rattle.xt_base.proofs.RisingLemmas.{each_map}
 use Rattle.xt_core.proofs.TurnLemmas.{IsTurn, one_more, turn_hands, turn_none, turn_step}
 use Rattle.xt_base.specs.Alone.{Said, after, alone, alone_run, reason_of, said_of}
-use Rattle.xt_base.specs.Isolation.{Tells, Told, events, is_no_memory, is_refused, shut_in, told_refused, told_taken, turns_of, untold}
+use Rattle.xt_base.specs.Isolation.{Tells, Told, events, is_no_memory, is_refused, shut_in, told_refused, told_taken, turns_of, untold, wanted_memory}
 use Rattle.xt_base.specs.Order.{Event, fits, fits_for, keeps_common, keeps_own, of_slot, orderly, orderly_for, post_of, posted, state_of, steps_of, suits, told, told_from}
 use Rattle.xt_base.specs.Own.{IsOwnOf}
 use Rattle.xt_base.specs.Sound.{Each}
@@ -40,6 +40,7 @@ pub record IsAfter (done : List Step) (h : List Event) (o : Told) (queue : List 
   pub slots : map (λ t. t.slot) o.turns ≡ map slot_of done
   pub shut_room : length o.shut ≡ 16
   pub refused_room : length o.refused ≡ 16
+  pub wanted : (m : ℕ) → is_refused m o ≡ wanted_memory m o.turns
   pub happened : events done o.turns ≡ h
   pub turn : IsTurn h queue hand
   pub below : (m : ℕ) → IsBelow m h (lone m)
@@ -57,12 +58,22 @@ default_in zero m r = refl
 default_in (suc n) zero r = refl
 default_in (suc n) (suc m) r = default_in n m r
 
+never : (n m : ℕ) → slice_index_or (replicate n false) m false ≡ false
+never zero m = refl
+never (suc n) zero = refl
+never (suc n) (suc m) = never n m
+
+-- no slot was refused memory
+pub none_refused : (m : ℕ) → is_refused m untold ≡ false
+none_refused m = never 16 m
+
 -- before any step
 pub after_none : IsAfter [] [] untold [] (λ w. None) (λ m. empty)
 after_none = record {
   slots = refl;
   shut_room = refl;
   refused_room = refl;
+  wanted = none_refused;
   happened = refl;
   turn = turn_none;
   below = λ m. tt;
@@ -80,6 +91,7 @@ after_none = record {
 pub after_tells : (done : List Step) (h : List Event) (o : Told) (queue : List JobName) (hand : ℕ → Option JobName) (lone : ℕ → Lone) → IsAfter done h o queue hand lone → Tells done o
 after_tells done h o queue hand lone a = record {
   slots = a.slots;
+  refused = a.wanted;
   alone = λ m n. record {
     turns = a.turns m n;
     shut = a.shut m ∙ ap (λ (s : Lone). reason_of s.mounted) (a.state m n ∙ ap (λ xs. after xs empty) (a.steps m n));
@@ -92,6 +104,14 @@ after_tells done h o queue hand lone a = record {
 and_false : (b : Bool) → (b && false) ≡ false
 and_false true = refl
 and_false false = refl
+
+or_false : (b : Bool) → (b || false) ≡ b
+or_false true = refl
+or_false false = refl
+
+or_true : (b : Bool) → (b || true) ≡ true
+or_true true = refl
+or_true false = refl
 
 -- a fact of each of two lists
 pub each_append : {A : Type 0} (P : A → Type 0) (xs ys : List A) → Each P xs → Each P ys → Each P (xs ++ ys)
@@ -131,15 +151,16 @@ module _ (done : List Step) (h : List Event) (o : Told) (queue : List JobName) (
 
   -- ---- a step that was refused memory, and changed nothing else
   module _ (a : IsAfter done h o queue hand lone) (t : Said) (reason : Option Reason) (small : slot_of x < 16) (here : t.slot ≡ slot_of x) where
+    set_there : (m : ℕ) → slot_of x ≡ m → is_refused m (told_refused o t reason) ≡ true
+    set_there m same =
+        let within : slot_of x < length o.refused = omega (arith, a.refused_room, small) in
+        ap (λ k. slice_index_or (slice_set o.refused t.slot true) k false) (sym same) ∙ ap (λ k. slice_index_or (slice_set o.refused k true) (slot_of x) false) here
+        ∙ get_or-set_same o.refused (slot_of x) true false within
+
     still : (m : ℕ) → is_refused m (told_refused o t reason) ≡ false → (slot_of x ≢ m) × (is_refused m o ≡ false)
     still m n =
         elim (cases_eq (slot_of x) m) [
-          | inl same ↦
-              let within : slot_of x < length o.refused = omega (arith, a.refused_room, small) in
-              let set_there : slice_index_or (slice_set o.refused t.slot true) m false ≡ true =
-              ap (λ k. slice_index_or (slice_set o.refused t.slot true) k false) (sym same) ∙ ap (λ k. slice_index_or (slice_set o.refused k true) (slot_of x) false) here
-              ∙ get_or-set_same o.refused (slot_of x) true false within in
-              absurd (false≢true (sym n ∙ set_there))
+          | inl same ↦ absurd (false≢true (sym n ∙ set_there m same))
           | inr other ↦ (other, sym (get_or-set_other o.refused t.slot m true false (λ same. other (sym here ∙ sym same))) ∙ n)
         ]
 
@@ -150,6 +171,11 @@ module _ (done : List Step) (h : List Event) (o : Told) (queue : List JobName) (
       slots = slots_more t a.slots here;
       shut_room = length-set o.shut t.slot reason ∙ a.shut_room;
       refused_room = length-set o.refused t.slot true ∙ a.refused_room;
+      wanted = by_slot (slot_of x) (λ m. is_refused m (told_refused o t reason) ≡ wanted_memory m (o.turns ++ t ∷ []))
+          (set_there (slot_of x) refl ∙ sym (wanted_own o.turns t (slot_of x) here ∙ ap (λ b. wanted_memory (slot_of x) o.turns || b) refused ∙ or_true (wanted_memory (slot_of x) o.turns)))
+          (λ m other.
+          get_or-set_other o.refused t.slot m true false (λ same. other (sym here ∙ sym same)) ∙ a.wanted m
+          ∙ sym (wanted_other o.turns t m (λ same. other (sym here ∙ same))));
       happened =
           events_more done o.turns x t a.slots ∙ ap (λ b. events done o.turns ++ (if b then [] else record { step = x; reply = t.reply } ∷ [])) refused
           ∙ append-nil (events done o.turns) ∙ a.happened;
@@ -244,6 +270,9 @@ module _ (done : List Step) (h : List Event) (o : Told) (queue : List JobName) (
           slots = slots_more t a.slots here;
           shut_room = length-set o.shut t.slot reason ∙ a.shut_room;
           refused_room = a.refused_room;
+          wanted = by_slot (slot_of x) (λ m. is_refused m o ≡ wanted_memory m (o.turns ++ t ∷ []))
+              (a.wanted (slot_of x) ∙ sym (wanted_own o.turns t (slot_of x) here ∙ ap (λ b. wanted_memory (slot_of x) o.turns || b) went ∙ or_false (wanted_memory (slot_of x) o.turns)))
+              (λ m other. a.wanted m ∙ sym (wanted_other o.turns t m (λ same. other (sym here ∙ same))));
           happened =
               events_more done o.turns x t a.slots ∙ ap (λ b. events done o.turns ++ (if b then [] else record { step = x; reply = t.reply } ∷ [])) went
               ∙ ap (λ g. g ++ record { step = x; reply = t.reply } ∷ []) a.happened;
