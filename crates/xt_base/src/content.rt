@@ -2,6 +2,7 @@
 
 ghost use Rattle.std.specs.Prelude.{◌≡◌, ◌+◌, ◌≤◌, ◌<◌, ◌++◌, ◌↔◌, List, ℕ, length, take, drop, replicate, IfOk, IsSome, IfSome};
 
+use crate::form::Form;
 use crate::names::Block;
 use crate::sizes::{BLOCK_BYTES, BUSY_BLOCKS, DATA_BYTES};
 use std::alloc::{AllocError, Global};
@@ -25,11 +26,11 @@ impl Model for Content {
 }
 
 impl Content {
-    /// A block of zeros. The one error is want of memory.
-    pub fn zeros(alloc: Global) -> Result<Self, AllocError>
-        ensures { IfOk result (λ content. content ≡ replicate BLOCK_BYTES 0) }
+    /// A block of zeros, of the size that a form says. The one error is want of memory.
+    pub fn zeros(alloc: Global, form: Form) -> Result<Self, AllocError>
+        ensures { IfOk result (λ content. content ≡ replicate form.size 0) }
     {
-        let bytes = Box::new(alloc, vec![in alloc; 0u8; BLOCK_BYTES]?)?;
+        let bytes = Box::new(alloc, vec![in alloc; 0u8; form.block_bytes()]?)?;
         Ok(Content { bytes })
     }
 

@@ -8,7 +8,7 @@ use crate::sizes::{self, ENDS};
 use std::marker::Model;
 
 /// The form of a mount: the bytes of a block, the bytes that the text of a checkpoint has beside its items, and whether
-/// a text says the size of a block. One value of a mount and of its layers.
+/// a text says the size of a block. One value of a mount and of its layers. Today each block has 4,096 bytes.
 #[derive(Clone, Copy, Debug)]
 pub struct Form {
     size: u32,
@@ -17,13 +17,15 @@ pub struct Form {
 }
 
 impl Model for Form {
+    ghost use Rattle.std.specs.Prelude.{◌≡◌};
     ghost use Rattle.xt_base.specs.Form.{Form as FormValue, IsForm};
+    ghost use Rattle.xt_base.specs.declared.sizes.TheConstants.{BLOCK_BYTES};
 
     ghost Value = { FormValue };
 
     ghost view = { λ f. record { size = f.size; ends = f.ends; sized = f.sized } };
 
-    ghost invariant = { λ f. IsForm (record { size = f.size; ends = f.ends; sized = f.sized }) };
+    ghost invariant = { λ f. IsForm (record { size = f.size; ends = f.ends; sized = f.sized }) × (f.size ≡ BLOCK_BYTES) };
 
     ghost inverse = { λ v. record { size = v.size; ends = v.ends; sized = v.sized } };
 }
@@ -46,6 +48,14 @@ impl Form {
         ensures range { result ≤ BLOCK_BYTES }
     {
         self.size
+    }
+
+    /// The bytes of a block, as many as a content has today.
+    pub(crate) fn block_bytes(self) -> usize
+        ensures value { result ≡ self.size }
+        ensures today { result ≡ BLOCK_BYTES }
+    {
+        self.size as usize
     }
 
     /// The bytes that the text of a checkpoint has beside its items: 1 to 36.

@@ -6,6 +6,9 @@ pub const BLOCK_BYTES: usize = 4096;
 /// The most bytes of a piece, which is what a log device takes at a time.
 pub const PIECE_BYTES: usize = 4096;
 
+/// The most pieces of the text of a checkpoint.
+pub const TEXT_PIECES: usize = 65;
+
 /// The most bytes that a request carries.
 pub const DATA_BYTES: usize = 4096;
 
@@ -39,6 +42,9 @@ pub const SLOTS: usize = 16;
 
 /// The workers of the host's pool.
 pub const WORKERS: usize = 8;
+
+/// How many posted jobs may wait in the host's queue.
+pub const QUEUE_PLACES: usize = 32;
 
 /// What an item costs of the log beside its chunks, in bytes.
 pub const ITEM_COST: u64 = 16;

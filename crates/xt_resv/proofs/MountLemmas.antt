@@ -18,13 +18,13 @@ use Rattle.xt_resv.specs.Mounts.{flight_of, grant_of, ledger_of}
 
 -- ---- the space in use
 -- the flight's cost
-pub flight_is : (o : Option Flight) → flight_cost (flight_of o) ≡ cost (flight_items o)
-flight_is None = refl
-flight_is (Some f) = refl
+pub flight_is : (ends : ℕ) (o : Option Flight) → flight_cost (flight_of ends o) ≡ cost ends (flight_items o)
+flight_is ends None = refl
+flight_is ends (Some f) = refl
 
 -- the ledger has the space in use
 pub used_is : (s : State) → used (ledger_of s) ≡ used_of s
-used_is s = ap (λ n. granted s.transactions + cost s.items.cil + n + sum_by (λ e. e.1) s.items.landed) (flight_is s.items.flight)
+used_is s = ap (λ n. granted s.transactions + cost s.form.ends s.items.cil + n + sum_by (λ e. e.1) s.items.landed) (flight_is s.form.ends s.items.flight)
 
 -- what is granted with a new transaction
 granted_new : (s : State) → IsSound s → (trans : Transaction) → granted (put (s.last_trans + 1) trans s.transactions) ≡ granted s.transactions + trans.unit * trans.legs
@@ -37,8 +37,8 @@ pub ledger_allocated : (unit count : ℕ) (perm : Bool) (s : State) → IsSound 
 ledger_allocated unit count perm s h = ap (λ n. record (ledger_of s) { granted = n }) (granted_new s h (new_trans unit count perm))
 
 -- with its grant
-pub grant_allocated : (unit count : ℕ) (perm : Bool) → grant_of (new_trans unit count perm) ≡ new_grant unit count perm
-grant_allocated unit count perm = refl
+pub grant_allocated : (ends unit count : ℕ) (perm : Bool) → grant_of ends (new_trans unit count perm) ≡ new_grant unit count perm
+grant_allocated ends unit count perm = refl
 
 -- ---- a leg
 -- a number from 1 on is not 0
@@ -46,77 +46,77 @@ not_zero : (n : ℕ) → 1 ≤ n → (n == 0) ≡ false
 not_zero n h = grind (arith, nat_tests)
 
 -- what the first change of a leg with such changes costs more, by whether it is dirty
-abbrev first_by_leg : List (ℕ × Change) → ℕ
-first_by_leg es = if not (length es == 0) then 0 else 32
+abbrev first_by_leg : ℕ → List (ℕ × Change) → ℕ
+first_by_leg ends es = if not (length es == 0) then 0 else ends
 
 -- the same by what it was charged
-abbrev first_by_charge : List (ℕ × Change) → ℕ
-first_by_charge es = if charge es == 0 then 32 else 0
+abbrev first_by_charge : ℕ → List (ℕ × Change) → ℕ
+first_by_charge ends es = if charge ends es == 0 then ends else 0
 
 -- both are one
-same_first : (es : List (ℕ × Change)) → first_by_leg es ≡ first_by_charge es
-same_first [] = refl
-same_first (e ∷ es) =
+same_first : (ends : ℕ) (es : List (ℕ × Change)) → 1 ≤ ends → first_by_leg ends es ≡ first_by_charge ends es
+same_first ends [] least = refl
+same_first ends (e ∷ es) least =
     let some : (length (e ∷ es) == 0) ≡ false = not_zero (length (e ∷ es)) (omega arith) in
-    let costs : charge (e ∷ es) ≡ 32 + sum_by change_cost (e ∷ es) = ap (λ (b : Bool). if b then 0 else 32 + sum_by change_cost (e ∷ es)) some in
-    let paid : (charge (e ∷ es) == 0) ≡ false = ap (λ (n : ℕ). n == 0) costs ∙ not_zero (32 + sum_by change_cost (e ∷ es)) (omega arith) in
-    let left : first_by_leg (e ∷ es) ≡ 0 = ap (λ (b : Bool). if not b then 0 else 32) some in
-    let right : first_by_charge (e ∷ es) ≡ 0 = ap (λ (b : Bool). if b then 32 else 0) paid in
+    let costs : charge ends (e ∷ es) ≡ ends + sum_by change_cost (e ∷ es) = ap (λ (b : Bool). if b then 0 else ends + sum_by change_cost (e ∷ es)) some in
+    let paid : (charge ends (e ∷ es) == 0) ≡ false = ap (λ (n : ℕ). n == 0) costs ∙ not_zero (ends + sum_by change_cost (e ∷ es)) (omega (arith, least)) in
+    let left : first_by_leg ends (e ∷ es) ≡ 0 = ap (λ (b : Bool). if not b then 0 else ends) some in
+    let right : first_by_charge ends (e ∷ es) ≡ 0 = ap (λ (b : Bool). if b then ends else 0) paid in
     left ∙ sym right
 
--- a leg is dirty where it was charged
-pub first_is : (leg : Leg) → ◌≡◌ {A = ℕ} (if is_dirty leg then 0 else 32) (if charge leg.changes == 0 then 32 else 0)
-first_is leg = same_first leg.changes
+-- a leg is dirty where it was charged, since a text has something beside its items
+pub first_is : (ends : ℕ) (leg : Leg) → 1 ≤ ends → ◌≡◌ {A = ℕ} (if is_dirty leg then 0 else ends) (if charge ends leg.changes == 0 then ends else 0)
+first_is ends leg least = same_first ends leg.changes least
 
 module _ (s : State) (h : IsSound s) (t : ℕ) (trans : Transaction) (is : at t s.transactions ≡ Some trans) where
   -- what the commit list costs after the leg's commit
   abbrev pub cost_after : ℕ
-  cost_after = cost (with_marks trans.leg.changes s.items.cil)
+  cost_after = cost s.form.ends (with_marks trans.leg.changes s.items.cil)
 
   -- the grant without the transaction
   less : granted (without t s.transactions) + trans.unit * trans.legs ≡ granted s.transactions
-  less = granted_less s.log_bytes s.owners s.transactions s.items h.parts t trans is
+  less = granted_less s.form.ends s.log_bytes s.owners s.transactions s.items h.parts t trans is
 
   -- the ledger has what the ticket gives back
   pub is_covered : trans.unit * trans.legs ≤ granted s.transactions
   is_covered = omega (arith, less)
 
   -- the commit list costs no more than the leg was charged above what it did
-  pub is_paid : cost_after ≤ cost s.items.cil + charge trans.leg.changes
-  is_paid = cost_added s.log_bytes s.owners s.transactions s.items h.parts t trans is
+  pub is_paid : cost_after ≤ cost s.form.ends s.items.cil + charge s.form.ends trans.leg.changes
+  is_paid = cost_added s.form.ends s.log_bytes s.owners s.transactions s.items h.parts t trans is
 
   -- the grant without the transaction, as the ledger says it
   granted_closed : granted (without t s.transactions) ≡ granted s.transactions - trans.unit * trans.legs
   granted_closed = omega (arith, less)
 
   -- the transaction is given up and closed
-  pub ledger_closed : ledger_of (closed t s) ≡ ungranted (grant_of trans) (cost s.items.cil) (ledger_of s)
+  pub ledger_closed : ledger_of (closed t s) ≡ ungranted (grant_of s.form.ends trans) (cost s.form.ends s.items.cil) (ledger_of s)
   ledger_closed = ap (λ n. record (ledger_of s) { granted = n }) granted_closed
 
   -- the leg is committed and its transaction closed
-  pub ledger_ended : ledger_of (closed t (ended t trans.leg s)) ≡ ungranted (grant_of trans) cost_after (ledger_of s)
+  pub ledger_ended : ledger_of (closed t (ended t trans.leg s)) ≡ ungranted (grant_of s.form.ends trans) cost_after (ledger_of s)
   ledger_ended = ap (λ n. record (ledger_of s) { granted = n; cil = cost_after }) granted_closed
 
   -- the last leg finds no space for a new unit
-  pub no_room_is : finds_no_room t trans s ≡ is_no_room (grant_of trans) cost_after (ledger_of s)
+  pub no_room_is : finds_no_room t trans s ≡ is_no_room (grant_of s.form.ends trans) cost_after (ledger_of s)
   no_room_is =
       ap (λ n. (trans.legs == 1) && nat_lt s.log_bytes (n + trans.unit)) (sym (used_is (closed t (ended t trans.leg s))) ∙ ap used ledger_ended)
 
   -- what is granted with so many legs left
   granted_legs : (legs : ℕ) → granted (set_at t (record trans { legs = legs; leg = clean_leg }) s.transactions) ≡ granted s.transactions - trans.unit * trans.legs + trans.unit * legs
-  granted_legs legs = omega (arith, less, granted_rolled s.log_bytes s.owners s.transactions s.items h.parts t trans is legs)
+  granted_legs legs = omega (arith, less, granted_rolled s.form.ends s.log_bytes s.owners s.transactions s.items h.parts t trans is legs)
 
   -- the leg is committed and the next one begins
-  pub ledger_rolled : ledger_of (with_legs t (legs_after trans.legs) trans (ended t trans.leg s)) ≡ regranted (grant_of trans) cost_after (ledger_of s)
+  pub ledger_rolled : ledger_of (with_legs t (legs_after trans.legs) trans (ended t trans.leg s)) ≡ regranted (grant_of s.form.ends trans) cost_after (ledger_of s)
   ledger_rolled = ap (λ n. record (ledger_of s) { granted = n; cil = cost_after }) (granted_legs (legs_after trans.legs))
 
   -- a roll is given up
-  pub ledger_lost : ledger_of (with_legs t 0 trans s) ≡ ungranted (grant_of trans) (cost s.items.cil) (ledger_of s)
+  pub ledger_lost : ledger_of (with_legs t 0 trans s) ≡ ungranted (grant_of s.form.ends trans) (cost s.form.ends s.items.cil) (ledger_of s)
   ledger_lost = ap (λ n. record (ledger_of s) { granted = n }) (omega (arith, granted_legs 0))
 
 -- the grant of the next leg
-pub grant_rolled : (trans : Transaction) → grant_of (record trans { legs = legs_after trans.legs; leg = clean_leg }) ≡ next_grant (grant_of trans)
-grant_rolled trans = refl
+pub grant_rolled : (ends : ℕ) (trans : Transaction) → grant_of ends (record trans { legs = legs_after trans.legs; leg = clean_leg }) ≡ next_grant (grant_of ends trans)
+grant_rolled ends trans = refl
 
 -- ---- landed checkpoints
 -- a number is no less than the lesser of two where it is no less than one of them
@@ -153,18 +153,18 @@ still_is ail landed = filter_is (λ e. is_needed ail e.0) (λ e. is_counted (lea
 
 -- ---- checkpoints
 -- a checkpoint is begun
-pub ledger_flown : (ps : List (List ℕ)) (s : State) → ledger_of (flown ps s) ≡ record (ledger_of s) { cil = 0; flight = Some (cost s.items.cil) }
+pub ledger_flown : (ps : List (List ℕ)) (s : State) → ledger_of (flown ps s) ≡ record (ledger_of s) { cil = 0; flight = Some (cost s.form.ends s.items.cil) }
 ledger_flown ps s = refl
 
 -- a checkpoint has landed
 pub ledger_landed : (f : Flight) (s : State) → s.items.flight ≡ Some f
-    → ledger_of (record s { items = landed_items f s.items })
-    ≡ record (ledger_of s) { flight = None; landed = still_counted (least_number (activated f.number f.items s.items.ail)) (put f.number (flight_cost (flight_of s.items.flight)) s.items.landed) }
+    → ledger_of (record s { items = landed_items s.form.ends f s.items })
+    ≡ record (ledger_of s) { flight = None; landed = still_counted (least_number (activated f.number f.items s.items.ail)) (put f.number (flight_cost (flight_of s.form.ends s.items.flight)) s.items.landed) }
 ledger_landed f s flying =
     let ail = activated f.number f.items s.items.ail in
     let landed : List (ℕ × ℕ) → Ledger = λ xs. record (ledger_of s) { flight = None; landed = xs } in
-    ap landed (still_is ail (put f.number (cost f.items) s.items.landed))
-    ∙ ap (λ (o : Option Flight). landed (still_counted (least_number ail) (put f.number (flight_cost (flight_of o)) s.items.landed))) (sym flying)
+    ap landed (still_is ail (put f.number (cost s.form.ends f.items) s.items.landed))
+    ∙ ap (λ (o : Option Flight). landed (still_counted (least_number ail) (put f.number (flight_cost (flight_of s.form.ends o)) s.items.landed))) (sym flying)
 
 -- blocks were written home
 pub ledger_cleaned : (blocks : List ℕ) (s : State)

@@ -10,7 +10,9 @@ ghost use Rattle.xt_resv.specs.Ledgers.{new_ledger, used, flight_cost, is_invali
 use std::alloc::{AllocError, Global};
 use std::collections::VecDeque;
 use std::marker::Model;
+use xt_base::form::Form;
 use xt_base::newly::Newly;
+use xt_base::sizes::{CHUNK_COST, CHUNKS, GRANTED_LEGS, ITEM_COST, MOST_ENDS, MOST_LOG};
 use xt_base::steps::Errno;
 
 /// What a transaction was granted: the log bytes of a leg, the legs left, whether it may roll, and what its
@@ -98,17 +100,17 @@ impl Ticket {
     }
 
     /// What the present leg is charged with what is charged anew.
-    fn charged_with(&self, newly: Newly) -> u64
+    fn charged_with(&self, form: Form, newly: Newly) -> u64
         requires blocks { newly.blocks ≤ 1 }
-        requires chunks { newly.chunks ≤ 32 }
-        ensures value { result ≡ charged_with newly self.now.charged }
-        ensures range { result ≤ self.now.unit + 4144 }
+        requires chunks { newly.chunks ≤ CHUNKS }
+        ensures value { result ≡ charged_with form.ends newly self.now.charged }
+        ensures range { result ≤ self.now.unit + MOST_ENDS + ITEM_COST + CHUNK_COST * CHUNKS }
     {
-        let first = if self.charged == 0 { 32 } else { 0 };
+        let first = if self.charged == 0 { form.ends() } else { 0 };
         u64::from(self.charged)
-            + first
-            + 16 * u64::from(newly.blocks)
-            + 128 * u64::from(newly.chunks)
+            + u64::from(first)
+            + ITEM_COST * u64::from(newly.blocks)
+            + CHUNK_COST * u64::from(newly.chunks)
     }
 }
 
@@ -139,7 +141,7 @@ impl Model for LogSpace {
 impl LogSpace {
     /// A log of so many bytes, at most 16,777,216, of which none is in use. It takes no memory.
     pub fn new(alloc: Global, size: u32) -> Self
-        requires { size ≤ 16777216 }
+        requires { size ≤ MOST_LOG }
         ensures { result ≡ new_ledger size }
     {
         LogSpace {
@@ -155,7 +157,7 @@ impl LogSpace {
     /// The size of the log.
     pub fn size(&self) -> u32
         ensures value { result ≡ self.now.size }
-        ensures range { result ≤ 16777216 }
+        ensures range { result ≤ MOST_LOG }
     {
         self.size
     }
@@ -175,7 +177,7 @@ impl LogSpace {
     {
         if unit == 0
             || count == 0
-            || count > 8
+            || count > GRANTED_LEGS
             || (count > 1 && !perm)
             || u64::from(unit) * u64::from(count) > u64::from(self.size)
         {
@@ -209,24 +211,24 @@ impl LogSpace {
     }
 
     /// Whether the present leg may be charged so: what it is charged then is at most the unit. A leg's first change is
-    /// charged 32, a block 16 and a chunk 128.
-    pub fn fits(ticket: &Ticket, newly: Newly) -> bool
+    /// charged the ends of a text of this form, a block 16 and a chunk 128.
+    pub fn fits(form: Form, ticket: &Ticket, newly: Newly) -> bool
         requires blocks { newly.blocks ≤ 1 }
-        requires chunks { newly.chunks ≤ 32 }
-        ensures { result ≡ is_fitting newly ticket.now }
+        requires chunks { newly.chunks ≤ CHUNKS }
+        ensures { result ≡ is_fitting form.ends newly ticket.now }
     {
-        ticket.charged_with(newly) <= u64::from(ticket.unit)
+        ticket.charged_with(form, newly) <= u64::from(ticket.unit)
     }
 
     /// Charges the present leg. It is refused with `NoSpace` where `fits` says no, and then nothing changes.
-    pub fn charge(ticket: &mut Ticket, newly: Newly) -> Result<(), Errno>
+    pub fn charge(form: Form, ticket: &mut Ticket, newly: Newly) -> Result<(), Errno>
         requires blocks { newly.blocks ≤ 1 }
-        requires chunks { newly.chunks ≤ 32 }
-        ensures result { result ≡ (if is_fitting newly ticket.old then Ok tt else Err IsNoSpace) }
-        ensures ok { OnOk result (ticket.new ≡ record ticket.old { charged = charged_with newly ticket.old.charged }) }
+        requires chunks { newly.chunks ≤ CHUNKS }
+        ensures result { result ≡ (if is_fitting form.ends newly ticket.old then Ok tt else Err IsNoSpace) }
+        ensures ok { OnOk result (ticket.new ≡ record ticket.old { charged = charged_with form.ends newly ticket.old.charged }) }
         ensures err { OnErr result (ticket.new ≡ ticket.old) }
     {
-        let charged = ticket.charged_with(newly);
+        let charged = ticket.charged_with(form, newly);
         if charged > u64::from(ticket.unit) {
             return Err(Errno::NoSpace);
         }

@@ -1,6 +1,7 @@
 //! The ledger's calls on numbers worked out by hand, and what a refused allocation leaves.
 
 use crate::space::LogSpace;
+use xt_base::form::Form;
 use xt_base::newly::Newly;
 use xt_base::steps::Errno;
 
@@ -19,7 +20,7 @@ fn legs_are_counted(rt: HostRuntime) {
         return;
     };
     assert_eq!(rt; space.used(), 1536);
-    let is_charged = LogSpace::charge(&mut ticket, TWO).is_ok();
+    let is_charged = LogSpace::charge(Form::one(), &mut ticket, TWO).is_ok();
     assert_eq!(rt; ticket.charged(), 304);
     let fits_more = LogSpace::fits(&ticket, TWO);
     let used = space.used();
@@ -51,7 +52,7 @@ fn a_last_leg_asks_a_unit(rt: HostRuntime) {
     let Ok(mut ticket) = space.grant(600, 1, true) else {
         return;
     };
-    if LogSpace::charge(&mut ticket, TWO).is_err() {
+    if LogSpace::charge(Form::one(), &mut ticket, TWO).is_err() {
         space.give_back(ticket);
         return;
     }
@@ -76,7 +77,7 @@ fn a_commit_frees_the_grant(rt: HostRuntime) {
     let Ok(mut ticket) = space.grant(400, 2, true) else {
         return;
     };
-    if LogSpace::charge(&mut ticket, TWO).is_err() {
+    if LogSpace::charge(Form::one(), &mut ticket, TWO).is_err() {
         space.give_back(ticket);
         return;
     }

@@ -13,7 +13,8 @@ use crate::bad_line::BadLine;
 use crate::buffer::Text;
 use crate::numbers::{number_on, put_number};
 use std::alloc::Global;
-use xt_base::content::{BLOCK_BYTES, Content, Data};
+use xt_base::content::{Content, Data};
+use xt_base::sizes::{BLOCK_BYTES, DATA_BYTES};
 
 /// The most bytes that data has.
 const DATA_BYTES: usize = 4096;
@@ -78,9 +79,9 @@ fn front_at(c: u8) -> Place
 
 /// Puts a run behind some bytes.
 fn push_run(bytes: &mut Vec<u8>, byte: u8, count: u64) -> Result<(), BadLine>
-    requires { length bytes.old.items ≤ 4096 }
+    requires { length bytes.old.items ≤ DATA_BYTES }
     ensures value { GivesAs (λ _. bytes.new.items) result (with_run bytes.old.items byte count) }
-    ensures short { length bytes.new.items ≤ 4096 }
+    ensures short { length bytes.new.items ≤ DATA_BYTES }
 {
     let length = bytes.len();
     if count > (DATA_BYTES - length) as u64 {
@@ -92,9 +93,9 @@ fn push_run(bytes: &mut Vec<u8>, byte: u8, count: u64) -> Result<(), BadLine>
 
 /// Takes one more character of the text.
 fn read_character(bytes: &mut Vec<u8>, place: Place, c: u8) -> Result<Place, BadLine>
-    requires { length bytes.old.items ≤ 4096 }
+    requires { length bytes.old.items ≤ DATA_BYTES }
     ensures value { GivesAs (λ now. (bytes.new.items, now)) result (next bytes.old.items place c) }
-    ensures short { length bytes.new.items ≤ 4096 }
+    ensures short { length bytes.new.items ≤ DATA_BYTES }
 {
     match place {
         Place::Front => Ok(front_at(c)),
@@ -118,9 +119,9 @@ fn read_character(bytes: &mut Vec<u8>, place: Place, c: u8) -> Result<Place, Bad
 
 /// Takes the end of the text.
 fn read_end(bytes: &mut Vec<u8>, place: Place) -> Result<(), BadLine>
-    requires { length bytes.old.items ≤ 4096 }
+    requires { length bytes.old.items ≤ DATA_BYTES }
     ensures value { GivesAs (λ _. bytes.new.items) result (at_end bytes.old.items place) }
-    ensures short { length bytes.new.items ≤ 4096 }
+    ensures short { length bytes.new.items ≤ DATA_BYTES }
 {
     match place {
         Place::Front => Ok(()),
@@ -160,7 +161,7 @@ pub(crate) fn read_data(alloc: Global, text: &[u8]) -> Result<Data, BadLine>
     ensures valid { IfOk result IsData }
 {
     let bytes = read_bytes(alloc, text)?;
-    Ok(Data::of(alloc, bytes)?.unwrap())
+    Ok(Data::of_vec(alloc, bytes)?.unwrap())
 }
 
 /// Reads the content of a block from its text, loosely; a text of more or fewer bytes is a bad spelling.
@@ -172,7 +173,7 @@ pub(crate) fn read_content(alloc: Global, text: &[u8]) -> Result<Content, BadLin
     if bytes.len() != BLOCK_BYTES {
         return Err(BadLine::Spelling);
     }
-    Ok(Content::of(alloc, bytes)?.unwrap())
+    Ok(Content::of_vec(alloc, bytes)?.unwrap())
 }
 
 /// Two lists of bytes that are spelled alike are one list.
