@@ -23,3 +23,4 @@ pub mod AlikeLemmas
 pub mod StillLemmas
 pub mod StillCalls
 pub mod CancelLemmas
+pub mod SameLemmas

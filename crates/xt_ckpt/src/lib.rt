@@ -9,3 +9,7 @@ pub mod reading;
 #[cfg(test)]
 mod tests;
 pub mod writing;
+
+pub use item::Item;
+pub use reading::{Checkpoint, CkptFault, ReadFault, read_checkpoint};
+pub use writing::{checkpoint_len, write_checkpoint};

@@ -1,7 +1,7 @@
 -- Lines of a text, one after another.
-use Rattle.std.proofs.Common.{Bool, ap₂, cond, false, true, true≢false, ◌&&◌, add-one, one-add, le_of_suc-le-suc, suc-le-suc, not-suc-le-zero, inl, inr, suc, zero, ◌-◌, ◌≡◌, ◌∙◌, ◌+◌, ◌≤◌, ◌<◌, ◌≢◌, ◌⊎◌, ℕ, List, [], ◌∷◌, ◌++◌, Option, Some, None, sym, ap, subst, refl, length, take, drop, append_assoc, append-nil}
+use Rattle.std.proofs.Common.{Bool, ap₂, cond, false, true, true≢false, ◌&&◌, add-one, one-add, le_of_suc-le-suc, suc-le-suc, not-suc-le-zero, inl, inr, suc, zero, ◌-◌, ◌≡◌, ◌∙◌, ◌+◌, ◌≤◌, ◌<◌, ◌≢◌, ◌⊎◌, ℕ, List, [], ◌∷◌, ◌++◌, Option, Some, None, sym, ap, subst, refl, length, take, drop, append_assoc, append-nil, arith, min}
 use Rattle.std.proofs.lemmas.Bool.{eqb-true}
-use Rattle.std.proofs.lemmas.List.{flat_map_more, take_all, take_rest}
+use Rattle.std.proofs.lemmas.List.{flat_map_more, length-take, take_all, take_rest}
 use Rattle.std.specs.List.{prefix_len, slice_get}
 use Rattle.std.specs.Prelude.{Err, IfSome, Result, not, option_map, unwrap_or, ◌==◌}
 use Rattle.xt_base.proofs.MapLemmas.{some_none}
@@ -120,6 +120,13 @@ taken_whole (x ∷ xs) (suc n) short = ap (λ zs. x ∷ zs) (taken_whole xs n (l
 pub read_whole : (left : Option (List ℕ)) (got : List ℕ) → IfSome left (λ bytes. got ≡ take 16777217 bytes) → length got ≤ 16777216 → IfSome left (λ bytes. got ≡ bytes)
 read_whole None got read short = tt
 read_whole (Some bytes) got read short = read ∙ taken_whole bytes 16777217 (subst (λ xs. length xs < 16777217) read (suc-le-suc short))
+
+-- what was read up to a limit and passed it is part of something longer
+pub read_long : (left : Option (List ℕ)) (got : List ℕ) → IfSome left (λ bytes. got ≡ take 16777217 bytes) → 16777216 < length got → IfSome left (λ bytes. 16777216 < length bytes)
+read_long None got read long = tt
+read_long (Some bytes) got read long =
+    let all : length got ≡ min 16777217 (length bytes) = ap (λ xs. length xs) read ∙ length-take 16777217 bytes in
+    omega arith
 
 -- what was read after nothing up to a limit
 pub read_limited : (left inner : Option (List ℕ)) (limit : ℕ) (before got : List ℕ) → inner ≡ left → limit ≡ 16777217 → before ≡ [] → IfSome (option_map (take limit) inner) (λ xs. got ≡ before ++ xs) → IfSome left (λ bytes. got ≡ take 16777217 bytes)

@@ -1,9 +1,9 @@
 //! The lines of a script, read and parsed.
 
-ghost use Rattle.std.specs.Prelude.{◌≡◌, ◌≤◌, ◌==◌, IfErr, IfOk, IfSome, length, false, not, true, take};
+ghost use Rattle.std.specs.Prelude.{◌≡◌, ◌≤◌, ◌==◌, IfErr, IfOk, IfSome, length, not, true, take};
 ghost use Rattle.std.specs.List.{prefix_len};
 ghost use Rattle.xt_base.specs.declared.steps.Step.{Step as AnyStep};
-ghost use Rattle.xt_cli.specs.Script.{is_bad, is_one_line, IsBadIn, IsCut, IsScript};
+ghost use Rattle.xt_cli.specs.Script.{is_one_line, IsCut, IsFaultIn, IsScript};
 
 use crate::fault::ScriptFault;
 use std::alloc::{AllocError, Global};
@@ -26,10 +26,11 @@ fn read_up_to<R: Read>(alloc: Global, reader: &mut R) -> io::Result<Vec<u8>>
 }
 
 /// All that a reader has, if it is at most 16,777,216 bytes.
-#[tactic(auto, using(crate::proofs::ScriptLemmas::read_whole))]
+#[tactic(auto, using(crate::proofs::ScriptLemmas::read_long, crate::proofs::ScriptLemmas::read_whole))]
 pub fn read_script<R: Read>(alloc: Global, reader: &mut R) -> Result<Vec<u8>, ScriptFault>
     ensures whole { IfOk result (λ script. IfSome (R.remaining reader.old) (λ bytes. script.items ≡ bytes)) }
-    ensures fault { IfErr result (λ fault. is_bad fault ≡ false) }
+    ensures short { IfOk result (λ script. length script.items ≤ 16777216) }
+    ensures fault { IfErr result (λ fault. IfSome (R.remaining reader.old) (λ bytes. IsFaultIn bytes fault)) }
 {
     let script = read_up_to(alloc, reader).map_err(ScriptFault::Io)?;
     if script.len() > SCRIPT_BYTES {
@@ -63,7 +64,7 @@ fn first_line(text: &[u8]) -> (&[u8], &[u8])
 /// The steps of the lines of a script. A newline at the very end opens no line.
 pub fn parse_script(alloc: Global, script: &[u8]) -> Result<Vec<Step>, ScriptFault>
     ensures steps { IfOk result (λ steps. IsScript script.now steps.items) }
-    ensures bad { IfErr result (λ fault. IsBadIn script.now fault) }
+    ensures bad { IfErr result (λ fault. IsFaultIn script.now fault) }
 {
     let mut text = Text::new(alloc).map_err(ScriptFault::Memory)?;
     let mut steps = Vec::new(alloc);

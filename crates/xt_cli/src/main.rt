@@ -7,6 +7,7 @@ mod printing;
 mod script;
 #[cfg(test)]
 mod tests;
+mod writing;
 
 use clap::Command;
 use clap::error::ErrorKind;
@@ -25,6 +26,7 @@ fn command<'a>(alloc: Global) -> Result<Command<'a>, AllocError> {
         "Runs the steps on standard input, one on a line, and prints each reply with its offers",
     );
     Command::new(alloc, "xth")
+        .version("0.1.0")
         .about("Transactions over the blocks of a volume, step by step")
         .bin_name("xth")?
         .subcommand_required(true)

@@ -5,6 +5,10 @@ mod buffers;
 mod drive;
 mod home;
 mod idle;
+mod longest;
+mod maxima;
+mod orders;
+mod places;
 mod rolls;
 mod rows;
 mod shut;
@@ -15,6 +19,9 @@ use buffers::*;
 use drive::{Told, drive, home_lines, lines_of, log_lines};
 use home::*;
 use idle::*;
+use longest::*;
+use orders::*;
+use places::*;
 use rolls::*;
 use rows::*;
 use shut::*;
@@ -377,6 +384,40 @@ fn what_is_not_asked_is_not_owed(rt: HostRuntime) {
     says(&rt, alloc, PUSH_ENDS_IN, PUSH_ENDS_OUT, 3);
     says(&rt, alloc, EMPTY_LIST_IN, EMPTY_LIST_OUT, 3);
     says(&rt, alloc, SHUT_OWES_IN, SHUT_OWES_OUT, 3);
+}
+
+#[test]
+fn the_first_refusal_is_answered(rt: HostRuntime) {
+    let alloc = rt.alloc();
+    says(&rt, alloc, ALLOC_ORDER_IN, ALLOC_ORDER_OUT, 0);
+    says(&rt, alloc, FORCE_TO_ORDER_IN, FORCE_TO_ORDER_OUT, 0);
+    says(&rt, alloc, LOG_ORDER_IN, LOG_ORDER_OUT, 0);
+    says(&rt, alloc, MOUNT_ORDER_IN, MOUNT_ORDER_OUT, 0);
+    says(&rt, alloc, READ_ORDER_IN, READ_ORDER_OUT, 0);
+}
+
+#[test]
+fn a_full_mount_asks_for_no_block(rt: HostRuntime) {
+    says(&rt, rt.alloc(), BUSY_READ_IN, BUSY_READ_OUT, 0);
+}
+
+#[test]
+fn a_flush_of_a_shut_mount_finds_nothing(rt: HostRuntime) {
+    let alloc = rt.alloc();
+    says(&rt, alloc, FLUSH_SHUT_IN, FLUSH_SHUT_OUT, 0);
+    says(&rt, alloc, FLUSH_ANSWERED_IN, FLUSH_ANSWERED_OUT, 3);
+}
+
+#[test]
+fn the_oldest_block_is_written_first_and_frees_the_log(rt: HostRuntime) {
+    let alloc = rt.alloc();
+    says(&rt, alloc, KEPT_PLACE_IN, KEPT_PLACE_OUT, 0);
+    says(&rt, alloc, TAIL_IN, TAIL_OUT, 0);
+}
+
+#[test]
+fn the_longest_checkpoint_lands_and_goes_home(rt: HostRuntime) {
+    says(&rt, rt.alloc(), LONGEST_IN, LONGEST_OUT, 0);
 }
 
 /// Asserts that the replies of a mount and the offers that its devices tell are the lines of an output.

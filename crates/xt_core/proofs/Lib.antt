@@ -7,5 +7,5 @@ pub mod RunLemmas
 pub mod OneLemmas
 pub mod MemoryLemmas
 pub mod SoloLemmas
-pub mod CallLemmas
+pub mod CellLemmas
 pub mod OfferLemmas

@@ -9,7 +9,7 @@ use Rattle.xt_base.specs.Jobs.{begin, end, end_of, end_offers, flight_pieces, fl
 use Rattle.xt_base.specs.Legs.{aborted, ended, is_dirty, own_count}
 use Rattle.xt_base.specs.Maps.{at, is_in}
 use Rattle.xt_base.specs.Order.{is_among, mount_is, same_name}
-use Rattle.xt_base.specs.Own.{AreShort, IsOwnIn, IsOwnOf}
+use Rattle.xt_base.specs.Own.{IsOwnIn, IsOwnOf}
 use Rattle.xt_base.specs.Settle.{Dropped, settled}
 use Rattle.xt_base.specs.Sound.{Each}
 use Rattle.xt_base.specs.State.{Flight, Leg, Lone, State, Transaction}
@@ -31,179 +31,7 @@ use Rattle.xt_base.specs.declared.steps.Reply.TheVariants.{Done, Free, Kept, Oka
 use Rattle.xt_base.specs.declared.steps.Request.{Request}
 use Rattle.xt_base.specs.declared.steps.Step.{Step}
 use Rattle.xt_base.specs.declared.steps.Step.TheVariants.{Begin, Call, End, Flush, Mount, Peek, Post, Show, Take}
-
--- ---- calls and job steps of a mount
--- the pieces of a text are of at most 4,096 bytes each
-pub short_pieces : (n : ℕ) (text : List ℕ) → AreShort (first_pieces n text)
-short_pieces zero text = tt
-short_pieces (suc n) text = (simp length-take (omega arith), short_pieces n (drop 4096 text))
-
--- the same slot, life and last serial, and pieces in flight that stay short
-pub record IsSameLife (s t : State) : Type 0 where
-  pub slot : t.slot ≡ s.slot
-  pub life : t.life ≡ s.life
-  pub serial : t.jobs.last_serial ≡ s.jobs.last_serial
-  pub short : AreShort (flight_pieces s.items.flight) → AreShort (flight_pieces t.items.flight)
-
--- of any state and itself
-pub same : (s : State) → IsSameLife s s
-same s = record { slot = refl; life = refl; serial = refl; short = λ p. p }
-
-module _ (s : State) where
-  same_either : (b : Bool) (x y : Outcome) → IsSameLife s x.state → IsSameLife s y.state → IsSameLife s (if b then x else y).state
-  same_either true x y hx hy = hx
-  same_either false x y hx hy = hy
-
-  same_chosen : (b : Bool) (x y : State) → IsSameLife s x → IsSameLife s y → IsSameLife s (if b then x else y)
-  same_chosen true x y hx hy = hx
-  same_chosen false x y hx hy = hy
-
-  same_unless : (r : Option Errno) (o : Outcome) → IsSameLife s o.state → IsSameLife s (unless r s o).state
-  same_unless None o h = h
-  same_unless (Some e) o h = same s
-
-  same_with : (o : Option Transaction) (f : Transaction → Outcome) → ((trans : Transaction) → IsSameLife s (f trans).state) → IsSameLife s (with_trans o s f).state
-  same_with None f h = same s
-  same_with (Some trans) f h = h trans
-
-  same_alloc : (unit count : ℕ) (perm : Bool) → IsSameLife s (alloc unit count perm s).state
-  same_alloc unit count perm = same_unless (first_of (alloc_refusals unit count perm s)) _ (same_either _ _ _ (record { slot = refl; life = refl; serial = refl; short = λ p. p }) (record { slot = refl; life = refl; serial = refl; short = λ p. p }))
-
-  same_brought : (b : ℕ) (o : Option (List ℕ)) → IsSameLife s (brought b o s)
-  same_brought b None = record { slot = refl; life = refl; serial = refl; short = λ p. p }
-  same_brought b (Some content) = record { slot = refl; life = refl; serial = refl; short = λ p. p }
-
-  same_locked : (t b : ℕ) (o : Option ℕ) → IsSameLife s (locked t b o s)
-  same_locked t b (Some count) = record { slot = refl; life = refl; serial = refl; short = λ p. p }
-  same_locked t b None =
-      let inner = same_chosen _ s (brought b (at b s.frames.idle) s) (same s) (same_brought b (at b s.frames.idle)) in
-      record { slot = inner.slot; life = inner.life; serial = inner.serial; short = inner.short }
-
-  same_get : (t b : ℕ) → IsSameLife s (get t b s).state
-  same_get t b = same_unless (first_of (get_refusals t b s)) _ (same_locked t b (own_count t (at b s.owners)))
-
-  same_answered : (t b : ℕ) (leg : Leg) (answer : Answer) → IsSameLife s (answered t b leg s answer).state
-  same_answered t b leg (Answer.Content content) = record { slot = refl; life = refl; serial = refl; short = λ p. p }
-  same_answered t b leg Answer.None = same_chosen _ _ s (record { slot = refl; life = refl; serial = refl; short = λ p. p }) (same s)
-  same_answered t b leg Answer.Failed = same_chosen _ _ s (record { slot = refl; life = refl; serial = refl; short = λ p. p }) (same s)
-
-  same_read : (t b : ℕ) (answer : Answer) (trans : Transaction) → IsSameLife s (read t b answer s trans).state
-  same_read t b answer trans =
-      same_unless (first_of (read_refusals t b trans.leg s)) _
-      (same_either (is_absent t b s) _ _ (same_answered t b trans.leg answer) (same_locked t b (own_count t (at b s.owners))))
-
-  same_view : (t b : ℕ) (trans : Transaction) → IsSameLife s (view t b s trans).state
-  same_view t b trans = same_either _ _ _ (same s) (same s)
-
-  same_log : (t b first : ℕ) (bytes : List ℕ) (trans : Transaction) → IsSameLife s (log t b first bytes s trans).state
-  same_log t b first bytes trans = same_unless (first_of (log_refusals t b first bytes trans s)) _ (record { slot = refl; life = refl; serial = refl; short = λ p. p })
-
-  same_hold : (t b : ℕ) (trans : Transaction) → IsSameLife s (hold t b s trans).state
-  same_hold t b trans = same_either _ _ _ (same s) (record { slot = refl; life = refl; serial = refl; short = λ p. p })
-
-  same_unhold : (t b : ℕ) (trans : Transaction) → IsSameLife s (unhold t b s trans).state
-  same_unhold t b trans = same_either _ _ _ (same s) (record { slot = refl; life = refl; serial = refl; short = λ p. p })
-
-  same_released : (dropped : Dropped) (t b : ℕ) (trans : Transaction) (o : Option ℕ) → IsSameLife s (released dropped t b trans s o).state
-  same_released dropped t b trans None = same s
-  same_released dropped t b trans (Some count) =
-      let free = gives Free (settled dropped (unowned b (with_leg t trans (without_hold b trans.leg) s))) in
-      let last = if is_in b trans.leg.changes then gives Kept s else free in
-      same_either (nat_lt 0 count) (gives Kept (with_owner b (Trans t (count - 1)) s)) last (record { slot = refl; life = refl; serial = refl; short = λ p. p })
-      (same_either (is_in b trans.leg.changes) (gives Kept s) free (same s) (record { slot = refl; life = refl; serial = refl; short = λ p. p }))
-
-  same_join : (t b : ℕ) (trans : Transaction) → IsSameLife s (join t b s trans).state
-  same_join t b trans = same_unless (first_of (join_refusals b s)) _ (record { slot = refl; life = refl; serial = refl; short = λ p. p })
-
-  same_release : (dropped : Dropped) (b : ℕ) → IsSameLife s (release dropped b s).state
-  same_release dropped b = same_either _ _ _ (record { slot = refl; life = refl; serial = refl; short = λ p. p }) (same s)
-
-  same_inval : (t b : ℕ) (trans : Transaction) → IsSameLife s (inval t b s trans).state
-  same_inval t b trans = same_unless (first_of (inval_refusals t b trans s)) _ (same_chosen _ s _ (same s) (record { slot = refl; life = refl; serial = refl; short = λ p. p }))
-
-  same_commit : (dropped : Dropped) (t : ℕ) (trans : Transaction) → IsSameLife s (commit dropped t s trans).state
-  same_commit dropped t trans = same_either _ _ _ (record { slot = refl; life = refl; serial = refl; short = λ p. p }) (record { slot = refl; life = refl; serial = refl; short = λ p. p })
-
-  same_roll : (dropped : Dropped) (t : ℕ) (trans : Transaction) → IsSameLife s (roll dropped t s trans).state
-  same_roll dropped t trans =
-      let went = gives (committed_of (commit_number trans.leg s) (held_of trans.leg.holds)) (settled dropped (with_legs t (legs_after trans.legs) trans (ended t trans.leg s))) in
-      let full = gives (Refused Again) (asks_flush (asks_ckpt s)) in
-      let shut = gives (io_of (held_of trans.leg.holds)) (settled dropped (with_legs t 0 trans (aborted t trans.leg s))) in
-      let live = if is_no_room t trans s then full else went in
-      same_either (not trans.perm) (gives (Refused Invalid) s) (if is_some s.shut then shut else live) (same s)
-      (same_either (is_some s.shut) shut live (record { slot = refl; life = refl; serial = refl; short = λ p. p })
-      (same_either (is_no_room t trans s) full went (record { slot = refl; life = refl; serial = refl; short = λ p. p }) (record { slot = refl; life = refl; serial = refl; short = λ p. p })))
-
-  same_shut_if : (b : Bool) (u : State) → IsSameLife s u → IsSameLife s (shut_if b CorruptIncore u)
-  same_shut_if b u h = same_chosen b (shut_down CorruptIncore u) u (record { slot = h.slot; life = h.life; serial = h.serial; short = h.short }) h
-
-  same_cancel : (dropped : Dropped) (t : ℕ) (trans : Transaction) → IsSameLife s (cancel dropped t s trans).state
-  same_cancel dropped t trans =
-      let shut = same_shut_if (is_dirty trans.leg) (closed t (aborted t trans.leg s)) (record { slot = refl; life = refl; serial = refl; short = λ p. p }) in
-      record { slot = shut.slot; life = shut.life; serial = shut.serial; short = shut.short }
-
-  same_force : IsSameLife s (force s).state
-  same_force =
-      let later = if length s.items.cil == 0 then gives (waits_for s.items.flight) s else gives (Wait s.items.open_number) (asks_ckpt s) in
-      same_either (is_some s.shut) (gives (Refused Io) s) later (same s)
-      (same_either (length s.items.cil == 0) (gives (waits_for s.items.flight) s) (gives (Wait s.items.open_number) (asks_ckpt s)) (same s) (record { slot = refl; life = refl; serial = refl; short = λ p. p }))
-
-  same_force_to : (number : ℕ) → IsSameLife s (force_to number s).state
-  same_force_to number =
-      let flying = if is_flight number s.items.flight then gives (Wait number) s else gives Done s in
-      same_unless (first_of (force_to_refusals number s)) _
-      (same_either ((number == s.items.open_number) && not (length s.items.cil == 0)) (gives (Wait number) (asks_ckpt s)) flying (record { slot = refl; life = refl; serial = refl; short = λ p. p })
-      (same_either (is_flight number s.items.flight) (gives (Wait number) s) (gives Done s) (same s) (same s)))
-
-  same_push : IsSameLife s (push s).state
-  same_push = same_either _ _ _ (same s) (record { slot = refl; life = refl; serial = refl; short = λ p. p })
-
-  same_unmount : IsSameLife s (unmount s).state
-  same_unmount = same_either _ _ _ (same s) (same s)
-
-  -- a call leaves slot, life and last serial
-  pub same_call : (dropped : Dropped) (request : Request) (answer : Answer) → IsSameLife s (alone_with dropped request answer s).state
-  same_call dropped (Request.Alloc unit count perm) answer = same_alloc unit count perm
-  same_call dropped (Request.Get t b) answer = same_with (at t s.transactions) _ (λ trans. same_get t b)
-  same_call dropped (Request.Read t b) answer = same_with (at t s.transactions) _ (same_read t b answer)
-  same_call dropped (Request.View t b) answer = same_with (at t s.transactions) _ (same_view t b)
-  same_call dropped (Request.Log first t b bytes) answer = same_with (at t s.transactions) _ (same_log t b first bytes)
-  same_call dropped (Request.Hold t b) answer = same_with (at t s.transactions) _ (same_hold t b)
-  same_call dropped (Request.Unhold t b) answer = same_with (at t s.transactions) _ (same_unhold t b)
-  same_call dropped (Request.Relse t b) answer = same_with (at t s.transactions) _ (λ trans. same_released dropped t b trans (own_count t (at b s.owners)))
-  same_call dropped (Request.Join t b) answer = same_with (at t s.transactions) _ (same_join t b)
-  same_call dropped (Request.Release b) answer = same_release dropped b
-  same_call dropped (Request.Inval t b) answer = same_with (at t s.transactions) _ (same_inval t b)
-  same_call dropped (Request.Commit t) answer = same_with (at t s.transactions) _ (same_commit dropped t)
-  same_call dropped (Request.Roll t) answer = same_with (at t s.transactions) _ (same_roll dropped t)
-  same_call dropped (Request.Cancel t) answer = same_with (at t s.transactions) _ (same_cancel dropped t)
-  same_call dropped Request.Force answer = same_force
-  same_call dropped (Request.ForceTo number) answer = same_force_to number
-  same_call dropped Request.Push answer = same_push
-  same_call dropped Request.Shutdown answer = record { slot = refl; life = refl; serial = refl; short = λ p. p }
-  same_call dropped Request.Unmount answer = same_unmount
-
-  -- a begin does too
-  pub same_begin : IsSameLife s (begin s).state
-  same_begin =
-      let text : List ℕ = text_of s.items.open_number s.items.cil s.frames.committed in
-      same_either _ _ _ (record { slot = refl; life = refl; serial = refl; short = λ p. p })
-      (record { slot = refl; life = refl; serial = refl; short = λ p. short_pieces (piece_count text) text })
-
-  same_end_of : (dropped : Dropped) (answers : LogAnswers) (o : Option Flight) → IsSameLife s (end_of dropped answers s o).state
-  same_end_of dropped answers None = same s
-  same_end_of dropped answers (Some f) = same_either _ _ _ (record { slot = refl; life = refl; serial = refl; short = λ p. tt }) (record { slot = refl; life = refl; serial = refl; short = λ p. tt })
-
-  -- an end
-  pub same_end : (dropped : Dropped) (answers : LogAnswers) → IsSameLife s (end dropped answers s).state
-  same_end dropped answers = same_end_of dropped answers s.items.flight
-
-  same_flush_of : (dropped : Dropped) (answers : HomeAnswers) (plan : List ℕ) → IsSameLife s (flush_of dropped answers s plan).state
-  same_flush_of dropped answers plan = same_either _ _ _ (record { slot = refl; life = refl; serial = refl; short = λ p. p }) (record { slot = refl; life = refl; serial = refl; short = λ p. p })
-
-  -- and a flush
-  pub same_flush : (dropped : Dropped) (answers : HomeAnswers) → IsSameLife s (flush dropped answers s).state
-  same_flush dropped answers = same_flush_of dropped answers (flush_plan s)
+use Rattle.xt_base.proofs.SameLemmas.{IsSameLife, same_begin, same_call, same_end, same_flush, same_life}
 
 -- ---- any step of a slot
 -- a name of an earlier life, or of a serial that was given
@@ -241,14 +69,14 @@ module _ (slot last life : ℕ) (reason : Option Reason) where
   later_mount log_bytes blocks (Some m) own = later_same slot (lone_of last life reason (Some m)) own
   later_mount log_bytes blocks None own =
       later_unless slot (lone_of last life reason None) (first_of (mount_refusals log_bytes blocks (lone_of last life reason None))) (mounted_new slot log_bytes blocks (lone_of last life reason None)) own
-      (record { own = (refl, refl, tt); given = λ n h. inl (let old : n.life ≤ last = h in omega arith) })
+      (record { own = (refl, refl); given = λ n h. inl (let old : n.life ≤ last = h in omega arith) })
 
   later_gone : (m : State) → m.life ≡ last → IsLater slot (lone_of last life reason (Some m)) (lone_of last life reason None)
   later_gone m e = record { own = tt; given = λ n h. elim h [ inl old ↦ omega (arith, e, old) | inr now ↦ omega (arith, e, now.0) ] }
 
   later_still : (m u : State) → IsOwnIn slot last (Some m) → IsSameLife m u → IsLater slot (lone_of last life reason (Some m)) (lone_of last life reason (Some u))
   later_still m u own e = record {
-    own = (e.slot ∙ own.0, e.life ∙ own.1, e.short own.2);
+    own = (e.slot ∙ own.0, e.life ∙ own.1);
     given = λ n h. elim h [ inl old ↦ inl (omega (arith, e.life, old)) | inr now ↦ inr (now.0 ∙ sym e.life, omega (arith, e.serial, now.1)) ];
   }
 
@@ -263,7 +91,7 @@ module _ (slot last life : ℕ) (reason : Option Reason) where
       let s = lone_of last life reason (Some m) in
       let answered = alone_with dropped request answer m in
       later_either slot s (m.life == of_life) (called request s answered) (turn (Refused Stale) s)
-      (later_after m answered.state (is_unmount request && is_okay answered.reply) own (same_call m dropped request answer)) (later_same slot s own)
+      (later_after m answered.state (is_unmount request && is_okay answered.reply) own (same_life m answered.state (same_call m dropped request answer))) (later_same slot s own)
 
   later_post : (kind : JobKind) (o : Option State) → IsOwnIn slot last o
       → IsLater slot (lone_of last life reason o) (on_mount o (lone_of last life reason o) (λ m. turn Okay (with_mount (posted kind m) (lone_of last life reason o)))).slot
@@ -290,7 +118,7 @@ later_step dropped (Begin worker name) s own = later_job name.slot s.last_life s
 later_step dropped (End worker name answers) s own =
     later_job name.slot s.last_life s.seen_life s.seen_reason (end dropped answers) (end_offers answers) (λ m. []) s.mounted own (λ m. same_end m dropped answers)
 later_step dropped (Flush worker name answers) s own =
-    later_job name.slot s.last_life s.seen_life s.seen_reason (flush dropped answers) (λ m. []) (flush_offers answers) s.mounted own (λ m. same_flush m dropped answers)
+    later_job name.slot s.last_life s.seen_life s.seen_reason (flush dropped answers) (λ m. []) (flush_offers answers) s.mounted own (λ m. same_life m (flush dropped answers m).state (same_flush m dropped answers))
 later_step dropped (Show slot) s own = later_show slot s.last_life s.seen_life s.seen_reason s.mounted own
 later_step dropped (Peek slot) s own = later_same slot s own
 

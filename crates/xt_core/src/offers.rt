@@ -1,18 +1,18 @@
 //! What the end of a checkpoint offered to the log device, and what a flush offered to the home device.
 
-ghost use Rattle.std.specs.Prelude.{◌≡◌, ◌≤◌, true, length, IfOk};
-ghost use Rattle.xt_base.specs.Jobs.{fits_pieces, fits_plan, flush_offers, flush_plan, writes};
-ghost use Rattle.xt_base.specs.Own.{AreShort};
+ghost use Rattle.std.specs.Prelude.{◌≡◌, ◌≤◌, ◌++◌, All, true, length, IfOk};
+ghost use Rattle.xt_base.specs.Jobs.{fits_pieces, fits_plan, sync_offer, write_answers, writes};
 ghost use Rattle.xt_base.specs.Text.{content_at, log_offers_of, offered};
 ghost use Rattle.xt_base.specs.declared.steps.HomeOffer.{HomeOffer as AHomeOffer};
 ghost use Rattle.xt_base.specs.declared.steps.LogOffer.{LogOffer as AnOffer};
+ghost use Rattle.xt_mount.specs.Slots.{contents_in, plan_in};
 
 use bytes::Bytes;
 use std::alloc::{AllocError, Global};
 use xt_base::content::{Content, Data};
 use xt_base::names::Block;
 use xt_base::steps::{HomeAnswers, HomeOffer, LogAnswers, LogOffer};
-use xt_mount::mount::Mount;
+use xt_mount::slot::MountSlot;
 
 /// The offer of a piece, which is copied.
 fn piece_offer(alloc: Global, piece: &Bytes, ok: bool) -> Result<LogOffer, AllocError>
@@ -28,7 +28,7 @@ fn piece_offer(alloc: Global, piece: &Bytes, ok: bool) -> Result<LogOffer, Alloc
 
 /// The offers of pieces that were taken, with room for one more.
 fn taken_offers(alloc: Global, pieces: &[Bytes]) -> Result<Vec<LogOffer>, AllocError>
-    requires { AreShort pieces.now }
+    requires { All (λ p. length p ≤ 4096) pieces.now }
     ensures { IfOk result (λ offers. offers.items ≡ offered true pieces.now) }
 {
     let mut offers = Vec::with_capacity(alloc, pieces.len() + 1)?;
@@ -45,7 +45,7 @@ pub fn log_offers(
     answers: &LogAnswers,
     pieces: &[Bytes],
 ) -> Result<Vec<LogOffer>, AllocError>
-    requires short { AreShort pieces.now }
+    requires short { All (λ p. length p ≤ 4096) pieces.now }
     requires fits { fits_pieces answers.now (length pieces.now) ≡ true }
     ensures { IfOk result (λ offers. offers.items ≡ log_offers_of answers.now pieces.now) }
 {
@@ -59,11 +59,11 @@ pub fn log_offers(
     Ok(offers)
 }
 
-/// A copy of what a mount has committed of a block; zeros where it keeps nothing.
-fn committed_copy(alloc: Global, mount: &Mount, block: Block) -> Result<Content, AllocError>
-    ensures { IfOk result (λ content. content ≡ content_at block mount.now.frames.committed) }
+/// A copy of what a slot's mount has committed of a block; zeros where it keeps nothing.
+fn committed_copy(alloc: Global, slot: &MountSlot, block: Block) -> Result<Content, AllocError>
+    ensures { IfOk result (λ content. content ≡ content_at block (contents_in slot.now.mounted)) }
 {
-    let Some(bytes) = mount.committed(block) else {
+    let Some(bytes) = slot.committed(block) else {
         return Content::zeros(alloc);
     };
     match Content::of(alloc, bytes.to_vec(alloc)?)? {
@@ -75,29 +75,29 @@ fn committed_copy(alloc: Global, mount: &Mount, block: Block) -> Result<Content,
 /// The offer of a write, with its answer.
 fn write_offer(
     alloc: Global,
-    mount: &Mount,
+    slot: &MountSlot,
     block: Block,
     ok: bool,
 ) -> Result<HomeOffer, AllocError>
-    ensures { IfOk result (λ offer. offer ≡ AHomeOffer.Write block (content_at block mount.now.frames.committed) ok) }
+    ensures { IfOk result (λ offer. offer ≡ AHomeOffer.Write block (content_at block (contents_in slot.now.mounted)) ok) }
 {
-    let content = committed_copy(alloc, mount, block)?;
+    let content = committed_copy(alloc, slot, block)?;
     Ok(HomeOffer::Write { block, content, ok })
 }
 
 /// The offers of writes of these blocks, each with its answer, whatever the answers before it were.
 fn write_offers(
     alloc: Global,
-    mount: &Mount,
+    slot: &MountSlot,
     blocks: &[Block],
     answers: &[bool],
 ) -> Result<Vec<HomeOffer>, AllocError>
     requires { length answers.now ≡ length blocks.now }
-    ensures { IfOk result (λ offers. offers.items ≡ writes mount.now.frames.committed blocks.now answers.now) }
+    ensures { IfOk result (λ offers. offers.items ≡ writes (contents_in slot.now.mounted) blocks.now answers.now) }
 {
     let mut offers = Vec::new(alloc);
     for (i, block) in blocks.iter().enumerate() {
-        offers.push(write_offer(alloc, mount, *block, answers[i])?)?;
+        offers.push(write_offer(alloc, slot, *block, answers[i])?)?;
     }
     Ok(offers)
 }
@@ -107,16 +107,14 @@ fn write_offers(
 pub fn home_offers(
     alloc: Global,
     answers: &HomeAnswers,
-    mount: &Mount,
+    slot: &MountSlot,
 ) -> Result<Vec<HomeOffer>, AllocError>
-    requires { fits_plan answers.now (flush_plan mount.now) ≡ true }
-    ensures { IfOk result (λ offers. offers.items ≡ flush_offers answers.now mount.now) }
+    requires { fits_plan answers.now (plan_in slot.now.mounted) ≡ true }
+    ensures { IfOk result (λ offers. offers.items ≡ writes (contents_in slot.now.mounted) (plan_in slot.now.mounted) (write_answers answers.now) ++ sync_offer answers.now) }
 {
-    let Ok(plan) = mount.flush_plan() else {
-        unreachable!();
-    };
+    let plan = slot.flush_plan();
     let count = plan.blocks().len();
-    let mut offers = write_offers(alloc, mount, plan.blocks(), &answers.writes[..count])?;
+    let mut offers = write_offers(alloc, slot, plan.blocks(), &answers.writes[..count])?;
     if count > 0 {
         offers.push(HomeOffer::Sync { ok: answers.sync })?;
     }

@@ -3,9 +3,8 @@
 ghost use Rattle.std.specs.Prelude.{◌≡◌, ◌<◌, true, IfOk, IfErr, OnOk};
 ghost use Rattle.xt_base.specs.Isolation.{told_then, TellsOne};
 ghost use Rattle.xt_base.specs.Order.{suits};
-ghost use Rattle.xt_base.specs.Own.{IsOwnOf};
 ghost use Rattle.xt_base.specs.Steps.{slot_of};
-ghost use Rattle.xt_core.specs.Solo.{lone_of, IsFaultOne, IsMore};
+ghost use Rattle.xt_core.specs.Solo.{IsFaultOne, IsMore};
 
 use crate::solo::{Solo, is_no_memory};
 use std::alloc::{AllocError, Global};
@@ -29,9 +28,8 @@ fn note(outcomes: &mut Outcomes, turn: Turn, reason: Option<Reason>) -> Result<(
 
 /// Takes a step that may come, and notes its turn.
 fn advance(solo: &mut Solo, outcomes: &mut Outcomes, step: &Step) -> Result<(), AllocError>
-    requires slot { slot_of step.now ≡ solo.old.slot }
-    requires own { IsOwnOf solo.old.slot (lone_of solo.old) }
-    requires suit { suits step.now (lone_of solo.old) ≡ true }
+    requires slot { slot_of step.now ≡ solo.old.cell.slot }
+    requires suit { suits step.now solo.old.cell.lone ≡ true }
     ensures { OnOk result (IsMore step.now solo.new solo.old outcomes.new outcomes.old) }
 {
     let turn = solo.take(step)?;

@@ -15,3 +15,11 @@ pub mod offer_home;
 pub mod record;
 #[cfg(test)]
 mod tests;
+
+pub use call::HomeCall;
+pub use fail_at::FailAt;
+pub use fault::DevFault;
+pub use home::HomeDevice;
+pub use log::LogDevice;
+pub use mem_home::MemHome;
+pub use mem_log::MemLog;

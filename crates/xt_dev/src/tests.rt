@@ -270,3 +270,70 @@ fn home_without_memory(rt: HostRuntime) {
         assert_eq!(rt; taken.len(), 5);
     }
 }
+
+/// A log tells thousands of calls, all in their order.
+#[test]
+fn log_over_many_calls(rt: HostRuntime) -> Result<(), Fail> {
+    let mut log = MemLog::new(rt.alloc());
+    for n in 0..5000u64 {
+        assert_eq!(rt; append_through(&mut log, &n.to_be_bytes()), Ok(()));
+        if n % 5 == 4 {
+            assert_eq!(rt; log.sync(), Ok(()));
+        }
+    }
+    let taken = log.taken().ok_or("it tells")?;
+    assert_eq!(rt; taken.len(), 6000);
+    for (i, offer) in taken.iter().enumerate() {
+        let n = (i - i / 6) as u64;
+        let told = if i % 6 == 5 {
+            is_log_sync(offer, true)
+        } else {
+            is_piece(offer, &n.to_be_bytes(), true)
+        };
+        assert!(rt; told, "call {i}");
+    }
+    Ok(())
+}
+
+/// A log that fails its call 3,000 takes the 2,999 before it and the 1,000 after it.
+#[test]
+fn log_fails_at_a_late_call(rt: HostRuntime) -> Result<(), Fail> {
+    let alloc = rt.alloc();
+    let mut log = FailAt::over_log(alloc, MemLog::new(alloc), 3000);
+    for n in 1..4001u64 {
+        let answered = append_through(&mut log, &n.to_be_bytes());
+        assert_eq!(rt; answered.is_ok(), n != 3000, "call {n}");
+    }
+    assert_eq!(rt; log.taken().ok_or("it tells")?.len(), 4000);
+    assert_eq!(rt; log.device.taken().ok_or("it tells")?.len(), 3999);
+    Ok(())
+}
+
+/// A home device keeps a thousand blocks up to the last that a mount may have, each written twice, and tells all calls.
+#[test]
+fn home_over_many_calls(rt: HostRuntime) -> Result<(), Fail> {
+    let last = 1_099_511_627_775u64;
+    let mut home = MemHome::new(rt.alloc());
+    for byte in [1, 2] {
+        for n in 0..1000u64 {
+            let content = [byte + (n % 250) as u8; 4096];
+            assert_eq!(rt; home.write(Block(last - n), &content), Ok(()));
+        }
+    }
+    for n in 0..1000u64 {
+        let byte = 2 + (n % 250) as u8;
+        assert_eq!(rt;
+            first_byte(&mut home, Block(last - n)),
+            Ok(byte),
+            "block {n}"
+        );
+    }
+    assert_eq!(rt; first_byte(&mut home, Block(last - 1000)), Ok(0));
+    assert_eq!(rt; first_byte(&mut home, Block(last + 1)), Ok(0));
+    let taken = home.taken().ok_or("it tells")?;
+    assert_eq!(rt; taken.len(), 3002);
+    assert!(rt; is_write(&taken[0], Block(last), 1, true));
+    assert!(rt; is_write(&taken[1999], Block(last - 999), 251, true));
+    assert!(rt; is_read(&taken[2000], Block(last), 2));
+    Ok(())
+}

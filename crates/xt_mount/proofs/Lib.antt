@@ -7,3 +7,4 @@ pub mod ChargeLemmas
 pub mod JournalLemmas
 pub mod RollLemmas
 pub mod FlushLemmas
+pub mod SlotLemmas

@@ -1,30 +1,110 @@
--- A mount stays sound, whatever it serves.
-use Rattle.std.proofs.Common.{◌≡◌, [], true, sym, ap, subst, IfOk, OnErr, Result, Ok, Err}
+-- A mount stays sound and of its slot and life, and its pieces in flight stay such as a log device takes, whatever it serves.
+use Rattle.std.proofs.Common.{◌≡◌, ◌∙◌, ◌⊎◌, ◌+◌, ◌*◌, ◌<◌, ◌≤◌, ◌∷◌, ℕ, suc, zero, List, Bool, [], true, false, sym, ap, subst, refl, inl, inr, IfOk, OnOk, OnErr, Option, None, Some, Result, Ok, Err, arith, drop, take, length, length-take, if◌then◌else◌}
+use Rattle.std.proofs.lemmas.List.Elements.{All-cons, All-nil}
+use Rattle.std.proofs.lemmas.List.{length-drop}
+use Rattle.std.specs.Prelude.{All, is_some}
+use Rattle.xt_base.proofs.SameLemmas.{IsSameLife, same_begin, same_call, same_end, same_flush, same_life}
+use Rattle.xt_base.proofs.SoundCalls.{sound_call}
+use Rattle.xt_base.proofs.SoundSteps.{sound_begin, sound_end}
+use Rattle.xt_base.proofs.SoundJobs.{sound_flush}
 use Rattle.xt_base.specs.Calls.{Outcome, alone_with, gives}
-use Rattle.xt_base.specs.Jobs.{begin, is_ckpt, is_waiting}
+use Rattle.xt_base.specs.Jobs.{begin, end, end_of, flight_pieces, flush, is_ckpt, is_ok, is_waiting, next_pieces}
 use Rattle.xt_base.specs.Sound.{IsSound}
-use Rattle.xt_base.specs.State.{State}
+use Rattle.xt_base.specs.State.{Flight, State}
+use Rattle.xt_base.specs.Text.{first_pieces, piece_count, pieces, text_of}
 use Rattle.xt_base.specs.declared.names.JobName.{JobName}
 use Rattle.xt_base.specs.declared.steps.Answer.{Answer}
+use Rattle.xt_base.specs.declared.steps.HomeAnswers.{HomeAnswers}
+use Rattle.xt_base.specs.declared.steps.LogAnswers.{LogAnswers}
 use Rattle.xt_base.specs.declared.steps.Reply.{Reply}
 use Rattle.xt_base.specs.declared.steps.Request.{Request}
-use Rattle.xt_base.proofs.SoundCalls.{sound_call}
-use Rattle.xt_base.proofs.SoundSteps.{sound_begin}
+use Rattle.xt_mount.specs.Machines.{IsSameMount}
+use Rattle.xt_mount.specs.Texts.{ArePieces}
 use Rattle.std.specs.declared.alloc.AllocError.{AllocError}
 
+-- ---- the pieces of a text
+some_pieces : (n : ℕ) (text : List ℕ) → 4096 * n < length text + 4096 → All (λ p. 1 ≤ length p) (first_pieces n text)
+some_pieces zero text within = All-nil (λ p. 1 ≤ length p)
+some_pieces (suc n) text within =
+    let rest = length-drop 4096 text in
+    All-cons (λ p. 1 ≤ length p) (take 4096 text) (first_pieces n (drop 4096 text)) (simp length-take (omega (arith, within))) (some_pieces n (drop 4096 text) (omega (arith, within, rest)))
+
+short_pieces : (n : ℕ) (text : List ℕ) → All (λ p. length p ≤ 4096) (first_pieces n text)
+short_pieces zero text = All-nil (λ p. length p ≤ 4096)
+short_pieces (suc n) text = All-cons (λ p. length p ≤ 4096) (take 4096 text) (first_pieces n (drop 4096 text)) (simp length-take (omega arith)) (short_pieces n (drop 4096 text))
+
+are_pieces : (text : List ℕ) → length (pieces text) ≤ 65 → ArePieces (pieces text)
+are_pieces text few = record { few = few; some = some_pieces (piece_count text) text (omega arith); short = short_pieces (piece_count text) text }
+
+pub no_pieces : ArePieces []
+no_pieces = record { few = omega arith; some = All-nil (λ p. 1 ≤ length p); short = All-nil (λ p. length p ≤ 4096) }
+
+-- ---- what holds of every mount
+-- sound, with pieces in flight such as a log device takes
+abbrev pub IsWhole : State → Type 0
+IsWhole s = IsSound s × ArePieces (flight_pieces s.items.flight)
+
+whole_flight : (s t : State) → IsSound t → t.items.flight ≡ s.items.flight → ArePieces (flight_pieces s.items.flight) → IsWhole t
+whole_flight s t sound same ps = (sound, subst (λ o. ArePieces (flight_pieces o)) (sym same) ps)
+
 -- the state that an outcome leaves
-left : (reply : Reply) (new : State) (o : Outcome) → gives reply new ≡ o → IsSound o.state → IsSound new
-left reply new o is sound = subst IsSound (sym (ap (λ (x : Outcome). x.state) is)) sound
+left : (reply : Reply) (new : State) (o : Outcome) → gives reply new ≡ o → IsWhole o.state → IsWhole new
+left reply new o is whole = subst IsWhole (sym (ap (λ (x : Outcome). x.state) is)) whole
 
-pub served_sound : (old new : State) (request : Request) (answer : Answer) (r : Result Reply AllocError) → IsSound old
-    → IfOk r (λ reply. gives reply new ≡ alone_with [] request answer old) → OnErr r (new ≡ old) → IsSound new
-served_sound old new request answer (Ok reply) sound ok err = left reply new (alone_with [] request answer old) ok (sound_call [] request answer old sound)
-served_sound old new request answer (Err e) sound ok err = subst IsSound (sym err) sound
+pub served_whole : (old new : State) (request : Request) (answer : Answer) (r : Result Reply AllocError) → IsWhole old
+    → IfOk r (λ reply. gives reply new ≡ alone_with [] request answer old) → OnErr r (new ≡ old) → IsWhole new
+served_whole old new request answer (Ok reply) whole ok err =
+    left reply new (alone_with [] request answer old) ok
+    (whole_flight old (alone_with [] request answer old).state (sound_call [] request answer old whole.0) (same_call old [] request answer).flight whole.1)
+served_whole old new request answer (Err e) whole ok err = subst IsWhole (sym err) whole
 
-pub begun_sound : (old new : State) (name : JobName) (r : Result Reply AllocError) → IsSound old → is_waiting name old ≡ true → is_ckpt name.kind ≡ true
-    → IfOk r (λ reply. gives reply new ≡ begin old) → OnErr r (new ≡ old) → IsSound new
-begun_sound old new name (Ok reply) sound waiting kind ok err = left reply new (begin old) ok (sound_begin old sound name waiting kind)
-begun_sound old new name (Err e) sound waiting kind ok err = subst IsSound (sym err) sound
+begun_whole : (s t : State) (b : Bool) (x y : Outcome) → IsSound t → t ≡ (if b then x else y).state → length (flight_pieces t.items.flight) ≤ 65 → flight_pieces x.state.items.flight ≡ flight_pieces s.items.flight
+    → flight_pieces y.state.items.flight ≡ next_pieces s → ArePieces (flight_pieces s.items.flight) → IsWhole t
+begun_whole s t true x y sound is few shut live ps = (sound, subst ArePieces (sym (ap (λ (u : State). flight_pieces u.items.flight) is ∙ shut)) ps)
+begun_whole s t false x y sound is few shut live ps =
+    let now : flight_pieces t.items.flight ≡ next_pieces s = ap (λ (u : State). flight_pieces u.items.flight) is ∙ live in
+    (sound, subst ArePieces (sym now) (are_pieces (text_of s.items.open_number s.items.cil s.frames.committed) (subst (λ ps. length ps ≤ 65) now few)))
 
-pub ended_sound : (reply : Reply) (new : State) (o : Outcome) → gives reply new ≡ o → IsSound o.state → IsSound new
-ended_sound reply new o is sound = left reply new o is sound
+pub begun_sound : (old new : State) (name : JobName) (r : Result Reply AllocError) → IsWhole old → is_waiting name old ≡ true → is_ckpt name.kind ≡ true
+    → IfOk r (λ reply. gives reply new ≡ begin old) → OnOk r (length (flight_pieces new.items.flight) ≤ 65) → OnErr r (new ≡ old) → IsWhole new
+begun_sound old new name (Ok reply) whole waiting kind ok few err =
+    let is : new ≡ (begin old).state = ap (λ (x : Outcome). x.state) ok in
+    begun_whole old new (is_some old.shut) _ _ (subst IsSound (sym is) (sound_begin old whole.0 name waiting kind)) is few refl refl whole.1
+begun_sound old new name (Err e) whole waiting kind ok few err = subst IsWhole (sym err) whole
+
+ended_pieces : (s : State) (answers : LogAnswers) (o : Option Flight) → ArePieces (flight_pieces s.items.flight) → ArePieces (flight_pieces (end_of [] answers s o).state.items.flight)
+ended_pieces s answers None ps = ps
+ended_pieces s answers (Some f) ps = landed_pieces (is_ok answers.sync) _ _ no_pieces no_pieces
+  where
+    landed_pieces : (b : Bool) (x y : Outcome) → ArePieces (flight_pieces x.state.items.flight) → ArePieces (flight_pieces y.state.items.flight) → ArePieces (flight_pieces (if b then x else y).state.items.flight)
+    landed_pieces true x y hx hy = hx
+    landed_pieces false x y hx hy = hy
+
+pub ended_whole : (reply : Reply) (old new : State) (answers : LogAnswers) → gives reply new ≡ end [] answers old → IsWhole old → IsWhole new
+ended_whole reply old new answers is whole = left reply new (end [] answers old) is (sound_end old whole.0 [] answers, ended_pieces old answers old.items.flight whole.1)
+
+pub flushed_whole : (reply : Reply) (old new : State) (answers : HomeAnswers) → gives reply new ≡ flush [] answers old → IsWhole old → IsWhole new
+flushed_whole reply old new answers is whole =
+    left reply new (flush [] answers old) is (whole_flight old (flush [] answers old).state (sound_flush [] answers old whole.0) (same_flush old [] answers).flight whole.1)
+
+-- ---- still of its slot and of its life
+same_mount : (new old : State) → IsSameLife old new → IsSameMount new old
+same_mount new old e = record { slot = e.slot; life = e.life }
+
+given_same : (reply : Reply) (new old : State) (o : Outcome) → gives reply new ≡ o → IsSameLife old o.state → IsSameMount new old
+given_same reply new old o is e = subst (λ n. IsSameMount n old) (sym (ap (λ (x : Outcome). x.state) is)) (same_mount o.state old e)
+
+kept_same : (new old : State) → new ≡ old → IsSameMount new old
+kept_same new old is = record { slot = ap (λ (s : State). s.slot) is; life = ap (λ (s : State). s.life) is }
+
+pub served_same : (new old : State) (request : Request) (answer : Answer) (r : Result Reply AllocError) → IfOk r (λ reply. gives reply new ≡ alone_with [] request answer old) → OnErr r (new ≡ old) → IsSameMount new old
+served_same new old request answer (Ok reply) ok err =
+    given_same reply new old (alone_with [] request answer old) ok (same_life old (alone_with [] request answer old).state (same_call old [] request answer))
+served_same new old request answer (Err e) ok err = kept_same new old err
+
+pub begun_same : (new old : State) (r : Result Reply AllocError) → IfOk r (λ reply. gives reply new ≡ begin old) → OnErr r (new ≡ old) → IsSameMount new old
+begun_same new old (Ok reply) ok err = given_same reply new old (begin old) ok (same_begin old)
+begun_same new old (Err e) ok err = kept_same new old err
+
+pub ended_same : (reply : Reply) (new old : State) (answers : LogAnswers) → gives reply new ≡ end [] answers old → IsSameMount new old
+ended_same reply new old answers is = given_same reply new old (end [] answers old) is (same_end old [] answers)

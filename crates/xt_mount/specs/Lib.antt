@@ -6,3 +6,4 @@ pub mod Reads
 pub mod Texts
 pub mod Come
 pub mod Stages
+pub mod Slots

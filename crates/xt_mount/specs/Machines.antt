@@ -1,4 +1,5 @@
 -- A machine, as the definitions have one life of a slot.
+use Rattle.std.specs.Prelude.{◌≡◌}
 use Rattle.xt_base.specs.State.{State}
 use Rattle.xt_mount.specs.declared.machine.Machine.{Machine}
 
@@ -17,3 +18,8 @@ state_of m = record {
   jobs = m.jobs.jobs;
   shut = m.shut;
 }
+
+-- the mount is still of its slot, and of its life
+pub record IsSameMount (new old : State) : Type 0 where
+  pub slot : new.slot ≡ old.slot
+  pub life : new.life ≡ old.life

@@ -3,7 +3,7 @@
 ghost use Rattle.std.specs.Prelude.{◌≡◌, ◌+◌, ◌*◌, ◌≤◌, ◌<◌, ◌++◌, true, All, length, map, flat_map, is_some, is_none, IfOk, OnOk, OnErr, option_copied, Some, [], IfSome, ◌==◌, if◌then◌else◌};
 ghost use Rattle.std.specs.Int.{bit_at};
 ghost use Rattle.xt_base.specs.Calls.{gives};
-ghost use Rattle.xt_base.specs.Jobs.{begin as begin_step, end as end_step, failed as failed_step, is_ok, landed as landed_step, next_pieces};
+ghost use Rattle.xt_base.specs.Jobs.{begin as begin_step, end as end_step, failed as failed_step, flight_pieces, is_ok, landed as landed_step, next_pieces};
 ghost use Rattle.xt_base.specs.Maps.{at};
 ghost use Rattle.xt_base.specs.Sound.{IsSound};
 ghost use Rattle.xt_base.specs.Text.{chunk, chunk_bytes};
@@ -63,6 +63,7 @@ impl Machine {
         requires outstanding { is_some (state_of self.old).jobs.ckpt ≡ true }
         requires waiting { is_none self.old.journal.items.flight ≡ true }
         ensures ok { IfOk result (λ reply. gives reply (state_of self.new) ≡ begin_step (state_of self.old)) }
+        ensures few { OnOk result (length (flight_pieces self.new.journal.items.flight) ≤ 65) }
         ensures err { OnErr result (state_of self.new ≡ state_of self.old) }
     {
         if self.is_shut() {

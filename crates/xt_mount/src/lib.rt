@@ -19,4 +19,8 @@ mod relse;
 mod roll;
 mod serve;
 mod settle;
+pub mod slot;
 mod space;
+
+pub use mount::{Mount, Stage};
+pub use slot::MountSlot;

@@ -1,6 +1,6 @@
 //! One mount: each call and each job is one step of the machine of one mount.
 
-ghost use Rattle.std.specs.Prelude.{◌≡◌, ◌+◌, ◌⊎◌, [], None, Some, Ok, false, true, length, is_some, option_copied, IfOk, IfErr, IfSome, if◌then◌else◌};
+ghost use Rattle.std.specs.Prelude.{◌≡◌, ◌≤◌, ◌+◌, ◌⊎◌, [], All, None, Some, Ok, false, true, length, is_some, option_copied, IfOk, IfErr, IfSome, if◌then◌else◌};
 ghost use Rattle.xt_base.specs.Alone.{IsCallUnlessMemory};
 ghost use Rattle.xt_base.specs.Calls.{alone_with, asks, first_of, gives};
 ghost use Rattle.xt_base.specs.Jobs.{begin as begin_step, end as end_step, fits_pieces, fits_plan, flight_pieces, flush as flush_step, flush_plan, is_begun, is_ckpt, is_waiting, posted as posted_state};
@@ -9,6 +9,7 @@ ghost use Rattle.xt_base.specs.Order.{is_there};
 ghost use Rattle.xt_base.specs.State.{mount_of};
 ghost use Rattle.xt_base.specs.declared.steps.Errno.TheVariants.{NoMemory};
 ghost use Rattle.xt_mount.specs.Come.{new_refusals, owed_name, read_block};
+ghost use Rattle.xt_mount.specs.Machines.{IsSameMount};
 ghost use Rattle.xt_mount.specs.Stages.{stage_of};
 
 use crate::machine::Machine;
@@ -35,15 +36,17 @@ pub enum Stage {
 }
 
 /// One life of a slot. Clauses see the state of the slot; in every state the log space in use is within the
-/// log, and at most 64 blocks are busy.
+/// log, at most 64 blocks are busy, and the pieces in flight are such as a log device takes.
 #[derive(Debug, Drop)]
 pub struct Mount {
     machine: Machine,
 }
 
 impl Model for Mount {
+    ghost use Rattle.xt_base.specs.Jobs.{flight_pieces};
     ghost use Rattle.xt_base.specs.State.{State};
     ghost use Rattle.xt_base.specs.Sound.{IsSound};
+    ghost use Rattle.xt_mount.specs.Texts.{ArePieces};
 
     ghost Value = { State };
 
@@ -51,7 +54,7 @@ impl Model for Mount {
 
     ghost view = { λ m. state_of m.machine };
 
-    ghost invariant = { λ m. IsSound (state_of m.machine) };
+    ghost invariant = { λ m. IsSound (state_of m.machine) × ArePieces (flight_pieces m.machine.journal.items.flight) };
 }
 
 impl Mount {
@@ -94,9 +97,13 @@ impl Mount {
         self.machine.shut
     }
 
-    /// The pieces of the checkpoint in flight, from its begin to its end; none where nothing is in flight.
+    /// The pieces of the checkpoint in flight, from its begin to its end, at most 65 of 1 to 4,096 bytes each; none where
+    /// nothing is in flight.
     pub fn pieces(&self) -> &[Bytes]
-        ensures { result.now ≡ flight_pieces self.now.items.flight }
+        ensures value { result.now ≡ flight_pieces self.now.items.flight }
+        ensures few { length result.now ≤ 65 }
+        ensures some { All (λ piece. 1 ≤ length piece) result.now }
+        ensures short { All (λ piece. length piece ≤ 4096) result.now }
     {
         self.machine.journal.pieces()
     }
@@ -114,7 +121,8 @@ impl Mount {
     /// memory is refused the reply is ENOMEM, and nothing changes.
     pub fn serve(&mut self, request: &Request, answer: &Answer) -> Reply
         requires { is_there (asks request.now self.old) answer.now ≡ true }
-        ensures { IsCallUnlessMemory (alone_with [] request.now answer.now self.old) result self.new self.old }
+        ensures served { IsCallUnlessMemory (alone_with [] request.now answer.now self.old) result self.new self.old }
+        ensures same { IsSameMount self.new self.old }
     {
         match self.machine.serve(request, answer) {
             Ok(reply) => reply,
@@ -125,7 +133,8 @@ impl Mount {
     /// The same, of a request and an answer that are handed over.
     pub fn call(&mut self, request: Request, answer: Answer) -> Reply
         requires { is_there (asks request self.old) answer ≡ true }
-        ensures { IsCallUnlessMemory (alone_with [] request answer self.old) result self.new self.old }
+        ensures served { IsCallUnlessMemory (alone_with [] request answer self.old) result self.new self.old }
+        ensures same { IsSameMount self.new self.old }
     {
         self.serve(&request, &answer)
     }
@@ -141,12 +150,13 @@ impl Mount {
     /// A job that is owed was posted: it is outstanding until its end, its flush, or a begin that finds nothing to do.
     pub fn posted(&mut self, name: JobName)
         requires { owed_name name.kind self.old ≡ Some name }
-        ensures { self.new ≡ posted_state name.kind self.old }
+        ensures posted { self.new ≡ posted_state name.kind self.old }
+        ensures same { IsSameMount self.new self.old }
     {
         self.machine.jobs.posted(name);
     }
 
-    /// How far a job has come; None where it is not outstanding.
+    /// How far a job has come; None where it is of another slot, or not outstanding.
     pub fn stage(&self, name: &JobName) -> Option<Stage>
         ensures { result ≡ stage_of name.now self.now }
     {
@@ -158,7 +168,8 @@ impl Mount {
     pub fn begin(&mut self, name: JobName) -> Reply
         requires waiting { is_waiting name self.old ≡ true }
         requires kind { is_ckpt name.kind ≡ true }
-        ensures { IsCallUnlessMemory (begin_step self.old) result self.new self.old }
+        ensures begun { IsCallUnlessMemory (begin_step self.old) result self.new self.old }
+        ensures same { IsSameMount self.new self.old }
     {
         let _name = name;
         match self.machine.begin() {
@@ -172,7 +183,8 @@ impl Mount {
     pub fn end(&mut self, name: JobName, answers: LogAnswers) -> Reply
         requires begun { is_begun name self.old ≡ true }
         requires fits { fits_pieces answers (length (flight_pieces self.old.items.flight)) ≡ true }
-        ensures { gives result self.new ≡ end_step [] answers self.old }
+        ensures ended { gives result self.new ≡ end_step [] answers self.old }
+        ensures same { IsSameMount self.new self.old }
     {
         let _name = name;
         self.machine.end(answers)
@@ -206,7 +218,8 @@ impl Mount {
         requires waiting { is_waiting name self.old ≡ true }
         requires kind { is_ckpt name.kind ≡ false }
         requires fits { fits_plan answers (flush_plan self.old) ≡ true }
-        ensures { gives result self.new ≡ flush_step [] answers self.old }
+        ensures flushed { gives result self.new ≡ flush_step [] answers self.old }
+        ensures same { IsSameMount self.new self.old }
     {
         let _name = name;
         self.machine.flush(&answers)

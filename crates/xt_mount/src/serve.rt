@@ -116,7 +116,7 @@ impl Machine {
         ensures { result ≡ stage_of name (state_of self.now) }
     {
         let kind = name.kind;
-        if !self.jobs.is_outstanding(&name) {
+        if name.slot != self.jobs.slot() || !self.jobs.is_outstanding(&name) {
             return None;
         }
         if is_ckpt(kind) && self.journal.is_flying() {

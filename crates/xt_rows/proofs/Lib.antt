@@ -8,3 +8,8 @@ mod RandomListsA
 mod RandomListsB
 mod RandomListsC
 mod RandomListsD
+mod RowsOrder
+mod RowsPlaces
+mod RowsBusyRead
+mod LastLock
+mod RowsLongest

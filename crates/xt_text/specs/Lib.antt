@@ -6,3 +6,4 @@ pub mod Reading
 pub mod Lines
 pub mod LineReading
 pub mod Replies
+pub mod SessionLines

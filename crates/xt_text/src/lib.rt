@@ -7,6 +7,7 @@ pub mod buffer;
 pub mod data_text;
 mod fields;
 mod home_answers;
+pub mod line;
 mod numbers;
 pub mod parse;
 pub mod print_reply;
@@ -15,3 +16,8 @@ mod read_line;
 #[cfg(test)]
 mod tests;
 mod words;
+
+pub use bad_line::BadLine;
+pub use buffer::Text;
+pub use parse::{parse_line, parse_line_in};
+pub use print_reply::{print_home_offer, print_log_offer, print_slot_reply};

@@ -1,9 +1,10 @@
 //! Numbers as text: decimal without leading zeros, both ways.
 
 ghost use Rattle.std.specs.Fmt.{decimal};
-ghost use Rattle.std.specs.Prelude.{◌≡◌, ◌<◌, ◌≤◌, length, IfOk};
+ghost use Rattle.std.specs.Prelude.{◌≡◌, ◌<◌, ◌≤◌, length, IfErr, IfOk};
 ghost use Rattle.xt_text.specs.Buffer.{put};
 ghost use Rattle.xt_text.specs.Reading.{Gives, below, number_of, number_on};
+ghost use Rattle.xt_text.specs.declared.bad_line.BadLine.TheVariants.{Spelling};
 
 use crate::bad_line::BadLine;
 use crate::buffer::Text;
@@ -11,7 +12,8 @@ use itoa::Buffer;
 
 /// A number with one more digit; a number over the greatest u64 is a bad spelling.
 pub(crate) fn number_on(number: u64, digit: u8) -> Result<u64, BadLine>
-    ensures { Gives result (number_on number digit) }
+    ensures value { Gives result (number_on number digit) }
+    ensures spelling { IfErr result (λ e. e ≡ Spelling) }
 {
     if !digit.is_ascii_digit() {
         return Err(BadLine::Spelling);
@@ -23,7 +25,8 @@ pub(crate) fn number_on(number: u64, digit: u8) -> Result<u64, BadLine>
 
 /// The number of some digits, loosely: leading zeros are let through, and no digit is 0.
 pub(crate) fn number_of(word: &[u8]) -> Result<u64, BadLine>
-    ensures { Gives result (number_of word.now) }
+    ensures value { Gives result (number_of word.now) }
+    ensures spelling { IfErr result (λ e. e ≡ Spelling) }
 {
     let mut number = 0;
     for digit in word {
@@ -36,6 +39,7 @@ pub(crate) fn number_of(word: &[u8]) -> Result<u64, BadLine>
 pub(crate) fn below(word: &[u8], limit: u64) -> Result<u64, BadLine>
     ensures value { Gives result (below limit word.now) }
     ensures range { IfOk result (λ number. number < limit) }
+    ensures spelling { IfErr result (λ e. e ≡ Spelling) }
 {
     let number = number_of(word)?;
     if number < limit {

@@ -1,9 +1,11 @@
 //! Lines parsed as steps.
 
-ghost use Rattle.std.specs.Prelude.{◌≡◌, ◌≤◌, ◌↔◌, length, IfOk, IsTrue, Some};
+ghost use Rattle.std.specs.Prelude.{◌≡◌, ◌≤◌, ◌↔◌, length, IfOk, IsErrOf, IsTrue, OnOk, Some};
 ghost use Rattle.xt_base.specs.declared.steps.Step.{Step as AnyStep};
 ghost use Rattle.xt_text.specs.Lines.{IsStep, line_of};
 ghost use Rattle.xt_text.specs.Reading.{Gives};
+ghost use Rattle.xt_text.specs.SessionLines.{takes_memory};
+ghost use Rattle.xt_text.specs.declared.bad_line.BadLine.TheVariants.{Memory};
 
 use crate::bad_line::BadLine;
 use crate::buffer::Text;
@@ -37,11 +39,14 @@ pub fn parse_line(alloc: Global, line: &[u8]) -> Result<Step, BadLine>
     parse_line_in(alloc, line, &mut text)
 }
 
-/// `parse_line` in a buffer that serves line after line: whatever it holds, it is written over.
+/// `parse_line` in a buffer that serves line after line: whatever it holds, it is written over. Only a line whose
+/// words say that data or answers follow is answered Memory.
 pub fn parse_line_in(alloc: Global, line: &[u8], text: &mut Text) -> Result<Step, BadLine>
     ensures valid { IfOk result IsStep }
     ensures found { IfOk result (λ step. line.now ≡ line_of step) }
     ensures only { (step : AnyStep) → IsStep step → line.now ≡ line_of step → Gives result (Some step) }
+    ensures short { OnOk result (length line.now ≤ 8400) }
+    ensures memory { IsErrOf result Memory → IsTrue (takes_memory line.now) }
 {
     if line.len() > LINE_BYTES {
         return Err(BadLine::Spelling);

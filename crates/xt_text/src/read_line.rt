@@ -1,9 +1,11 @@
 //! Lines read loosely: the line of each step gives that step, and other lines may give some step too.
 
-ghost use Rattle.std.specs.Prelude.{◌<◌, ◌^◌, IfOk};
-ghost use Rattle.xt_text.specs.LineReading.{alloc_of, answer_of, asked_of, begin_of, call_of, drop_of, end_of, flush_of, log_of, mount_of, mount_request, own_of, own_request, peek_of, post_of, read_of, request_of, show_of, step_of, take_of, trans_request, words_step};
+ghost use Rattle.std.specs.Prelude.{◌≡◌, ◌<◌, ◌^◌, IfErr, IfOk, IsErrOf, IsTrue};
+ghost use Rattle.xt_text.specs.LineReading.{alloc_of, answer_of, asked_of, before, begin_of, behind, call_of, drop_of, end_of, flush_of, log_of, mount_of, mount_request, own_of, own_request, peek_of, post_of, read_of, request_of, show_of, step_of, take_of, trans_request, words_step};
 ghost use Rattle.xt_text.specs.Lines.{IsAnswer, IsRequest, IsStep};
 ghost use Rattle.xt_text.specs.Reading.{Gives};
+ghost use Rattle.xt_text.specs.SessionLines.{takes_data, takes_words};
+ghost use Rattle.xt_text.specs.declared.bad_line.BadLine.TheVariants.{Memory, Spelling};
 
 use crate::bad_line::BadLine;
 use crate::data_text::{read_content, read_data};
@@ -22,6 +24,7 @@ use xt_base::steps::{Answer, LogAnswers, Request, Step};
 fn alloc_of(words: &[u8]) -> Result<Request, BadLine>
     ensures value { Gives result (alloc_of words.now) }
     ensures valid { IfOk result IsRequest }
+    ensures spelling { IfErr result (λ e. e ≡ Spelling) }
 {
     let (unit, words) = cut(words, b' ');
     let (count, perm) = cut(words, b' ');
@@ -36,6 +39,7 @@ fn alloc_of(words: &[u8]) -> Result<Request, BadLine>
 fn own_of(words: &[u8]) -> Result<(TransNo, Block), BadLine>
     ensures value { Gives result (own_of words.now) }
     ensures range { IfOk result (λ p. (p.0 < 2 ^ 64) × (p.1 < 2 ^ 64)) }
+    ensures spelling { IfErr result (λ e. e ≡ Spelling) }
 {
     let (trans, block) = cut(words, b' ');
     let trans = trans_of(trans)?;
@@ -69,6 +73,7 @@ fn log_of(alloc: Global, words: &[u8]) -> Result<Request, BadLine>
 fn drop_of(words: &[u8]) -> Result<Request, BadLine>
     ensures value { Gives result (drop_of words.now) }
     ensures valid { IfOk result IsRequest }
+    ensures spelling { IfErr result (λ e. e ≡ Spelling) }
 {
     let block = block_of(words)?;
     Ok(Request::Release { block })
@@ -79,6 +84,7 @@ fn drop_of(words: &[u8]) -> Result<Request, BadLine>
 fn mount_request(verb: &[u8], words: &[u8]) -> Result<Request, BadLine>
     ensures value { Gives result (mount_request verb.now words.now) }
     ensures valid { IfOk result IsRequest }
+    ensures spelling { IfErr result (λ e. e ≡ Spelling) }
 {
     if verb == b"force".as_slice() {
         Ok(Request::Force)
@@ -101,6 +107,7 @@ fn mount_request(verb: &[u8], words: &[u8]) -> Result<Request, BadLine>
 fn trans_request(verb: &[u8], words: &[u8]) -> Result<Request, BadLine>
     ensures value { Gives result (trans_request verb.now words.now) }
     ensures valid { IfOk result IsRequest }
+    ensures spelling { IfErr result (λ e. e ≡ Spelling) }
 {
     if verb == b"commit".as_slice() {
         let trans = trans_of(words)?;
@@ -121,6 +128,7 @@ fn trans_request(verb: &[u8], words: &[u8]) -> Result<Request, BadLine>
 fn own_request(verb: &[u8], words: &[u8]) -> Result<Request, BadLine>
     ensures value { Gives result (own_request verb.now words.now) }
     ensures valid { IfOk result IsRequest }
+    ensures spelling { IfErr result (λ e. e ≡ Spelling) }
 {
     if verb == b"get".as_slice() {
         let (trans, block) = own_of(words)?;
@@ -153,6 +161,7 @@ fn own_request(verb: &[u8], words: &[u8]) -> Result<Request, BadLine>
 fn request_of(alloc: Global, verb: &[u8], words: &[u8]) -> Result<Request, BadLine>
     ensures value { Gives result (request_of verb.now words.now) }
     ensures valid { IfOk result IsRequest }
+    ensures memory { IsErrOf result Memory → IsTrue (takes_data verb.now) }
 {
     if verb == b"alloc".as_slice() {
         alloc_of(words)
@@ -188,6 +197,7 @@ fn answer_of(alloc: Global, words: &[u8]) -> Result<Answer, BadLine>
 fn show_of(words: &[u8]) -> Result<Step, BadLine>
     ensures value { Gives result (show_of words.now) }
     ensures valid { IfOk result IsStep }
+    ensures spelling { IfErr result (λ e. e ≡ Spelling) }
 {
     let slot = slot_of(words)?;
     Ok(Step::Show(slot))
@@ -198,6 +208,7 @@ fn show_of(words: &[u8]) -> Result<Step, BadLine>
 fn peek_of(words: &[u8]) -> Result<Step, BadLine>
     ensures value { Gives result (peek_of words.now) }
     ensures valid { IfOk result IsStep }
+    ensures spelling { IfErr result (λ e. e ≡ Spelling) }
 {
     let slot = slot_of(words)?;
     Ok(Step::Peek(slot))
@@ -208,6 +219,7 @@ fn peek_of(words: &[u8]) -> Result<Step, BadLine>
 fn mount_of(words: &[u8]) -> Result<Step, BadLine>
     ensures value { Gives result (mount_of words.now) }
     ensures valid { IfOk result IsStep }
+    ensures spelling { IfErr result (λ e. e ≡ Spelling) }
 {
     let (slot, words) = cut(words, b' ');
     let (log_bytes, blocks) = cut(words, b' ');
@@ -251,6 +263,7 @@ fn asked_of(
 ) -> Result<Step, BadLine>
     ensures value { Gives result (asked_of slot life verb.now words.now) }
     ensures valid { IfOk result IsStep }
+    ensures memory { IsErrOf result Memory → IsTrue (takes_data verb.now) }
 {
     if verb == b"read".as_slice() {
         return read_of(alloc, slot, life, words);
@@ -269,6 +282,7 @@ fn asked_of(
 fn call_of(alloc: Global, mount: &[u8], words: &[u8]) -> Result<Step, BadLine>
     ensures value { Gives result (call_of mount.now words.now) }
     ensures valid { IfOk result IsStep }
+    ensures memory { IsErrOf result Memory → IsTrue (takes_data (before 32 words.now)) }
 {
     let (slot, life) = cut(mount, b'.');
     let (verb, words) = cut(words, b' ');
@@ -282,6 +296,7 @@ fn call_of(alloc: Global, mount: &[u8], words: &[u8]) -> Result<Step, BadLine>
 fn post_of(words: &[u8]) -> Result<Step, BadLine>
     ensures value { Gives result (post_of words.now) }
     ensures valid { IfOk result IsStep }
+    ensures spelling { IfErr result (λ e. e ≡ Spelling) }
 {
     let name = name_of(words)?;
     Ok(Step::Post(name))
@@ -292,6 +307,7 @@ fn post_of(words: &[u8]) -> Result<Step, BadLine>
 fn take_of(words: &[u8]) -> Result<Step, BadLine>
     ensures value { Gives result (take_of words.now) }
     ensures valid { IfOk result IsStep }
+    ensures spelling { IfErr result (λ e. e ≡ Spelling) }
 {
     let (worker, name) = cut(words, b' ');
     let worker = worker_of(worker)?;
@@ -304,6 +320,7 @@ fn take_of(words: &[u8]) -> Result<Step, BadLine>
 fn begin_of(words: &[u8]) -> Result<Step, BadLine>
     ensures value { Gives result (begin_of words.now) }
     ensures valid { IfOk result IsStep }
+    ensures spelling { IfErr result (λ e. e ≡ Spelling) }
 {
     let (worker, name) = cut(words, b' ');
     let worker = worker_of(worker)?;
@@ -316,6 +333,7 @@ fn begin_of(words: &[u8]) -> Result<Step, BadLine>
 fn end_of(words: &[u8]) -> Result<Step, BadLine>
     ensures value { Gives result (end_of words.now) }
     ensures valid { IfOk result IsStep }
+    ensures spelling { IfErr result (λ e. e ≡ Spelling) }
 {
     let (worker, words) = cut(words, b' ');
     let (name, words) = cut(words, b' ');
@@ -354,6 +372,7 @@ fn flush_of(alloc: Global, words: &[u8]) -> Result<Step, BadLine>
 fn words_step(alloc: Global, word: &[u8], words: &[u8]) -> Result<Step, BadLine>
     ensures value { Gives result (words_step word.now words.now) }
     ensures valid { IfOk result IsStep }
+    ensures memory { IsErrOf result Memory → IsTrue (takes_words word.now words.now) }
 {
     if word == b"mount".as_slice() {
         mount_of(words)
@@ -381,6 +400,7 @@ fn words_step(alloc: Global, word: &[u8], words: &[u8]) -> Result<Step, BadLine>
 pub(crate) fn step_of(alloc: Global, line: &[u8]) -> Result<Step, BadLine>
     ensures value { Gives result (step_of line.now) }
     ensures valid { IfOk result IsStep }
+    ensures memory { IsErrOf result Memory → IsTrue (takes_words (before 32 line.now) (behind 32 line.now)) }
 {
     let (word, words) = cut(line, b' ');
     words_step(alloc, word, words)

@@ -2,10 +2,11 @@
 //! Words are read loosely; the line that is printed of what was read tells whether each was spelled right.
 
 ghost use Rattle.std.specs.List.{position_or_len};
-ghost use Rattle.std.specs.Prelude.{◌≡◌, ◌==◌, ◌<◌, ◌^◌, IfOk};
+ghost use Rattle.std.specs.Prelude.{◌≡◌, ◌==◌, ◌<◌, ◌^◌, IfErr, IfOk};
 ghost use Rattle.xt_text.specs.LineReading.{before, behind, kind_of, lettered, name_of, perm_of, sync_of, u32_of};
 ghost use Rattle.xt_text.specs.Lines.{IsName};
 ghost use Rattle.xt_text.specs.Reading.{Gives, below, number_of};
+ghost use Rattle.xt_text.specs.declared.bad_line.BadLine.TheVariants.{Spelling};
 
 use crate::bad_line::BadLine;
 use crate::numbers::{below, number_of};
@@ -34,7 +35,8 @@ pub(crate) fn cut(text: &[u8], separator: u8) -> (&[u8], &[u8])
 
 /// A u32.
 pub(crate) fn u32_of(word: &[u8]) -> Result<u32, BadLine>
-    ensures { Gives result (u32_of word.now) }
+    ensures value { Gives result (u32_of word.now) }
+    ensures spelling { IfErr result (λ e. e ≡ Spelling) }
 {
     let number = below(word, 1 << 32)?;
     Ok(number as u32)
@@ -44,6 +46,7 @@ pub(crate) fn u32_of(word: &[u8]) -> Result<u32, BadLine>
 pub(crate) fn slot_of(word: &[u8]) -> Result<Slot, BadLine>
     ensures value { Gives result (below 16 word.now) }
     ensures range { IfOk result (λ slot. slot < 16) }
+    ensures spelling { IfErr result (λ e. e ≡ Spelling) }
 {
     let index = below(word, 16)?;
     Ok(Slot::new(index as u8).unwrap())
@@ -53,6 +56,7 @@ pub(crate) fn slot_of(word: &[u8]) -> Result<Slot, BadLine>
 pub(crate) fn worker_of(word: &[u8]) -> Result<Worker, BadLine>
     ensures value { Gives result (below 8 word.now) }
     ensures range { IfOk result (λ worker. worker < 8) }
+    ensures spelling { IfErr result (λ e. e ≡ Spelling) }
 {
     let index = below(word, 8)?;
     Ok(Worker::new(index as u8).unwrap())
@@ -62,6 +66,7 @@ pub(crate) fn worker_of(word: &[u8]) -> Result<Worker, BadLine>
 pub(crate) fn life_of(word: &[u8]) -> Result<Life, BadLine>
     ensures value { Gives result (u32_of word.now) }
     ensures range { IfOk result (λ life. life < 2 ^ 32) }
+    ensures spelling { IfErr result (λ e. e ≡ Spelling) }
 {
     let life = u32_of(word)?;
     Ok(Life(life))
@@ -71,6 +76,7 @@ pub(crate) fn life_of(word: &[u8]) -> Result<Life, BadLine>
 pub(crate) fn block_of(word: &[u8]) -> Result<Block, BadLine>
     ensures value { Gives result (number_of word.now) }
     ensures range { IfOk result (λ block. block < 2 ^ 64) }
+    ensures spelling { IfErr result (λ e. e ≡ Spelling) }
 {
     let block = number_of(word)?;
     Ok(Block(block))
@@ -78,7 +84,8 @@ pub(crate) fn block_of(word: &[u8]) -> Result<Block, BadLine>
 
 /// A number behind a letter.
 pub(crate) fn lettered(word: &[u8]) -> Result<u64, BadLine>
-    ensures { Gives result (lettered word.now) }
+    ensures value { Gives result (lettered word.now) }
+    ensures spelling { IfErr result (λ e. e ≡ Spelling) }
 {
     match word {
         [_, digits @ ..] => number_of(digits),
@@ -90,6 +97,7 @@ pub(crate) fn lettered(word: &[u8]) -> Result<u64, BadLine>
 pub(crate) fn trans_of(word: &[u8]) -> Result<TransNo, BadLine>
     ensures value { Gives result (lettered word.now) }
     ensures range { IfOk result (λ trans. trans < 2 ^ 64) }
+    ensures spelling { IfErr result (λ e. e ≡ Spelling) }
 {
     let number = lettered(word)?;
     Ok(TransNo(number))
@@ -99,6 +107,7 @@ pub(crate) fn trans_of(word: &[u8]) -> Result<TransNo, BadLine>
 pub(crate) fn ckpt_of(word: &[u8]) -> Result<CkptNo, BadLine>
     ensures value { Gives result (lettered word.now) }
     ensures range { IfOk result (λ number. number < 2 ^ 64) }
+    ensures spelling { IfErr result (λ e. e ≡ Spelling) }
 {
     let number = lettered(word)?;
     Ok(CkptNo(number))
@@ -107,7 +116,8 @@ pub(crate) fn ckpt_of(word: &[u8]) -> Result<CkptNo, BadLine>
 /// What a job does.
 #[tactic(auto, unfolding(crate::specs::LineReading::kind_of))]
 fn kind_of(word: &[u8]) -> Result<JobKind, BadLine>
-    ensures { Gives result (kind_of word.now) }
+    ensures value { Gives result (kind_of word.now) }
+    ensures spelling { IfErr result (λ e. e ≡ Spelling) }
 {
     if word == b"ckpt".as_slice() {
         Ok(JobKind::Ckpt)
@@ -123,6 +133,7 @@ fn kind_of(word: &[u8]) -> Result<JobKind, BadLine>
 pub(crate) fn name_of(word: &[u8]) -> Result<JobName, BadLine>
     ensures value { Gives result (name_of word.now) }
     ensures range { IfOk result IsName }
+    ensures spelling { IfErr result (λ e. e ≡ Spelling) }
 {
     let (slot, rest) = cut(word, b'.');
     let (life, rest) = cut(rest, b'.');
@@ -142,7 +153,8 @@ pub(crate) fn name_of(word: &[u8]) -> Result<JobName, BadLine>
 /// Whether a transaction may roll.
 #[tactic(auto, unfolding(crate::specs::LineReading::perm_of))]
 pub(crate) fn perm_of(word: &[u8]) -> Result<bool, BadLine>
-    ensures { Gives result (perm_of word.now) }
+    ensures value { Gives result (perm_of word.now) }
+    ensures spelling { IfErr result (λ e. e ≡ Spelling) }
 {
     if word == b"plain".as_slice() {
         Ok(false)
@@ -156,7 +168,8 @@ pub(crate) fn perm_of(word: &[u8]) -> Result<bool, BadLine>
 /// The answer to a sync, if there was one.
 #[tactic(auto, unfolding(crate::specs::LineReading::sync_of))]
 pub(crate) fn sync_of(word: &[u8]) -> Result<Option<bool>, BadLine>
-    ensures { Gives result (sync_of word.now) }
+    ensures value { Gives result (sync_of word.now) }
+    ensures spelling { IfErr result (λ e. e ≡ Spelling) }
 {
     if word == b"ok".as_slice() {
         Ok(Some(true))

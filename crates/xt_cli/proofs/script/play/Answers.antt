@@ -1,14 +1,22 @@
 use Rattle.std.proofs.Common.{subst}
-use Rattle.xt_cli.proofs.PlayLemmas.{played}
-use Rattle.xt_cli.specs.Script.{IsPrinted, IsScript}
+use Rattle.std.specs.Prelude.{IfOk, OnErr}
+use Rattle.xt_cli.proofs.PlayLemmas.{played_late, played_whole}
+use Rattle.xt_cli.specs.Script.{IsCutShort, IsPrinted, IsScript}
 use Rattle.xt_cli.proofs.script.play.Goals as goal
 
--- src/script.rt:49:1
 pub returns-clause-played : goal.returns-clause-played
-returns-clause-played g c = played (g.R.Read.remaining c.args.reader.now) c.args.only c.in_ok-script.script.items c.in_ok-parse_script.field-0.items c.pick-steps.result.items
-    (g.W.Write.contents c.args.writer.now) (g.W.Write.contents c.play_steps.new.writer) (g.W.Write.contents c.flush.new.self) c.in_ok-status.status
+returns-clause-played g c = played_whole c.play_to_the_end.result (g.R.Read.remaining c.args.reader.now) c.args.only c.in_ok-script.script.items c.in_ok-parse_script.field-0.items c.pick-steps.result.items
+    (g.W.Write.contents c.args.writer.now) (g.W.Write.contents c.play_to_the_end.new.writer)
+    c.in_ok-script.ensures.whole c.in_ok-script.ensures.short
+    (subst (λ s. IsScript s c.in_ok-parse_script.field-0.items) c.deref.ensures.value c.in_ok-parse_script.ensures.steps)
+    c.pick-steps.ensures
+    (subst (λ xs. IfOk c.play_to_the_end.result (IsPrinted xs (g.W.Write.contents c.args.writer.now) (g.W.Write.contents c.play_to_the_end.new.writer))) c.deref-2.ensures.value c.play_to_the_end.ensures.printed)
+
+pub returns-clause-fault : goal.returns-clause-fault
+returns-clause-fault g c = played_late c.play_to_the_end.result (g.R.Read.remaining c.args.reader.now) c.args.only c.in_ok-script.script.items c.in_ok-parse_script.field-0.items c.pick-steps.result.items
+    (g.W.Write.contents c.args.writer.now) (g.W.Write.contents c.play_to_the_end.new.writer)
     c.in_ok-script.ensures.whole
     (subst (λ s. IsScript s c.in_ok-parse_script.field-0.items) c.deref.ensures.value c.in_ok-parse_script.ensures.steps)
     c.pick-steps.ensures
-    (subst (λ xs. IsPrinted xs (g.W.Write.contents c.args.writer.now) (g.W.Write.contents c.play_steps.new.writer) c.in_ok-status.status) c.deref-2.ensures.value c.in_ok-status.ensures.printed)
-    c.flush.ensures.bytes
+    (subst (λ xs. OnErr c.play_to_the_end.result (IsCutShort xs (g.W.Write.contents c.args.writer.now) (g.W.Write.contents c.play_to_the_end.new.writer))) c.deref-2.ensures.value c.play_to_the_end.ensures.cut)
+    c.play_to_the_end.ensures.fault

@@ -9,7 +9,7 @@ returns-then-not-can_take-clause-fault c =
 
 pub loop-at-preserved : goal.loop-at-preserved
 loop-at-preserved c =
-    let may : MayCome c.loop-at.solo.slot c.loop-at.solo c.index-steps-at.result = may_come c.can_take.result c.loop-at.solo c.index-steps-at.result c.can_take.ensures c.if-not-can_take.false in
+    let may : MayCome c.loop-at.solo.cell.slot c.loop-at.solo c.index-steps-at.result = may_come c.can_take.result c.loop-at.solo c.index-steps-at.result c.can_take.ensures c.if-not-can_take.false in
     running_more c.args.steps.now c.loop-at.at c.loop-at.solo c.loop-at.outcomes c.loop-at.invariant c.index-steps-at.result c.loop-at-test.true c.index-steps-at.is
     c.advance.new.solo c.advance.new.outcomes may.here may.can c.in-Ok-advance.ensures
 

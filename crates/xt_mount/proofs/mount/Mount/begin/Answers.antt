@@ -2,19 +2,24 @@ use Rattle.std.proofs.Common.{◌≡◌, ◌∙◌, true, ap, subst, sym, inl, i
 use Rattle.xt_base.specs.Calls.{gives}
 use Rattle.xt_base.specs.Jobs.{begin, is_waiting}
 use Rattle.xt_base.specs.State.{State}
-use Rattle.xt_mount.specs.Machines.{state_of}
-use Rattle.xt_mount.proofs.MountLemmas.{begun_sound}
+use Rattle.xt_mount.specs.Machines.{IsSameMount, state_of}
+use Rattle.xt_mount.proofs.MountLemmas.{begun_same, begun_sound}
 use Rattle.xt_mount.proofs.mount.Mount.begin.Goals as goal
 use Rattle.xt_mount.proofs.mount.Mount.begin.Goals.{in-Ok, in-Err}
 
 pub invariant_of-self : goal.invariant_of-self
 invariant_of-self c =
     begun_sound (state_of c.self.inside.machine) (state_of c.begin.new.self) c.args.name c.begin.result c.self.invariant
-    (subst (λ (s : State). is_waiting c.args.name s ≡ true) (sym c.self.view_is) c.requires.waiting) c.requires.kind c.begin.ensures.ok c.begin.ensures.err
+    (subst (λ (s : State). is_waiting c.args.name s ≡ true) (sym c.self.view_is) c.requires.waiting) c.requires.kind c.begin.ensures.ok c.begin.ensures.few c.begin.ensures.err
 
-pub returns : goal.returns
-returns c =
+pub returns-clause-begun : goal.returns-clause-begun
+returns-clause-begun c =
     elim c.match-begin.branch [
       | in-Ok w ↦ inl (ap (λ x. gives x (state_of c.begin.new.self)) w.result-is ∙ w.in-Ok.ensures.ok ∙ ap begin c.self.view_is)
       | in-Err w ↦ inr (w.result-is, w.in-Err.ensures.err ∙ c.self.view_is)
     ]
+
+pub returns-clause-same : goal.returns-clause-same
+returns-clause-same c =
+    subst (IsSameMount (state_of c.begin.new.self)) c.self.view_is
+    (begun_same (state_of c.begin.new.self) (state_of c.self.inside.machine) c.begin.result c.begin.ensures.ok c.begin.ensures.err)

@@ -1,0 +1,282 @@
+//! One slot of the host: the last life given, and the mount if there is one.
+
+ghost use Rattle.std.specs.Prelude.{◌≡◌, ◌≤◌, ◌&&◌, All, IfSome, Ok, Some, if◌then◌else◌, is_some, length, option_copied, true, false, None, ℕ};
+ghost use Rattle.xt_base.specs.Alone.{is_okay, reason_of};
+ghost use Rattle.xt_base.specs.Calls.{is_unmount};
+ghost use Rattle.xt_base.specs.Jobs.{fits_pieces, fits_plan, is_begun, is_ckpt, is_owed_as, is_waiting};
+ghost use Rattle.xt_base.specs.Maps.{at};
+ghost use Rattle.xt_base.specs.Order.{is_there, mount_is, of_life};
+ghost use Rattle.xt_base.specs.declared.steps.Reply.{Reply as AReply};
+ghost use Rattle.xt_base.specs.declared.steps.Step.{Step as AStep};
+ghost use Rattle.xt_mount.specs.Come.{read_block};
+ghost use Rattle.xt_mount.specs.Slots.{contents_in, life_in, owed_in, pieces_in, plan_in, stage_in, unused, IsAnsweredUnlessMemory, IsServed, IsServedUnlessMemory};
+
+use crate::mount::{Mount, Stage};
+use bytes::Bytes;
+use std::alloc::Global;
+use std::marker::Model;
+use xt_base::names::{Block, JobKind, JobName, Life, Slot};
+use xt_base::steps::{Answer, Errno, HomeAnswers, LogAnswers, Reason, Reply, Request};
+use xt_items::plan::FlushPlan;
+
+/// One slot of the host. Clauses see its number, the last life given, and the state of the mount, if there is one, which is
+/// always of this slot and of that life.
+#[derive(Debug, Drop)]
+pub struct MountSlot {
+    alloc: Global,
+    slot: Slot,
+    /// 0 where none was given.
+    last_life: Life,
+    mount: Option<Mount>,
+}
+
+impl Model for MountSlot {
+    ghost use Rattle.xt_base.specs.Own.{IsOwnIn};
+    ghost use Rattle.xt_mount.specs.Slots.{SlotState};
+
+    ghost Value = { SlotState };
+
+    ghost view = { λ s. record { slot = s.slot; last_life = s.last_life; mounted = s.mount } };
+
+    ghost invariant = { λ s. IsOwnIn s.slot s.last_life s.mount };
+}
+
+impl MountSlot {
+    /// A slot that was never mounted.
+    pub fn new(alloc: Global, slot: Slot) -> Self
+        ensures { result ≡ unused slot }
+    {
+        MountSlot {
+            alloc,
+            slot,
+            last_life: Life(0),
+            mount: None,
+        }
+    }
+
+    // ---- what it is
+    /// Its number.
+    pub fn slot(&self) -> Slot
+        ensures { result ≡ self.now.slot }
+    {
+        self.slot
+    }
+
+    /// The last life given, 0 where none was.
+    pub fn last_life(&self) -> Life
+        ensures { result ≡ self.now.last_life }
+    {
+        self.last_life
+    }
+
+    /// The life of the mount; None where the slot is empty.
+    pub fn life(&self) -> Option<Life>
+        ensures value { result ≡ life_in self.now.mounted }
+        ensures last { IfSome result (λ life. life ≡ self.now.last_life) }
+    {
+        match &self.mount {
+            Some(mount) => Some(mount.life()),
+            None => None,
+        }
+    }
+
+    /// Why the mount is shut; None where it is live, or the slot is empty.
+    pub fn shut(&self) -> Option<Reason>
+        ensures { result ≡ reason_of self.now.mounted }
+    {
+        match &self.mount {
+            Some(mount) => mount.shut(),
+            None => None,
+        }
+    }
+
+    /// The block that a request to this life must ask the home device for, if there is one: a read's, where nothing refuses
+    /// it and the block is neither the transaction's own nor resident.
+    pub fn needs(&self, life: Life, request: &Request) -> Option<Block>
+        ensures asked { is_some result ≡ mount_is (of_life life request.now) self.now.mounted }
+        ensures block { IfSome result (λ block. read_block request.now ≡ Some block) }
+    {
+        match &self.mount {
+            Some(mount) if mount.life() == life => mount.needs(request),
+            _ => None,
+        }
+    }
+
+    /// The next job of a kind, if a live mount owes one.
+    pub fn owed(&self, kind: JobKind) -> Option<JobName>
+        ensures value { result ≡ owed_in kind self.now.mounted }
+        ensures slot { IfSome result (λ name. name.slot ≡ self.now.slot) }
+        ensures due { IfSome result (λ name. mount_is (is_owed_as name) self.now.mounted ≡ true) }
+    {
+        match &self.mount {
+            Some(mount) => mount.owed(kind),
+            None => None,
+        }
+    }
+
+    /// How far a job has come; None where it is not outstanding here.
+    pub fn stage(&self, name: &JobName) -> Option<Stage>
+        ensures { result ≡ stage_in name.now self.now }
+    {
+        match &self.mount {
+            Some(mount) => mount.stage(name),
+            None => None,
+        }
+    }
+
+    /// The pieces of the checkpoint in flight, at most 65 of 1 to 4,096 bytes each; none where nothing is in flight.
+    pub fn pieces(&self) -> &[Bytes]
+        ensures value { result.now ≡ pieces_in self.now.mounted }
+        ensures few { length result.now ≤ 65 }
+        ensures some { All (λ piece. 1 ≤ length piece) result.now }
+        ensures short { All (λ piece. length piece ≤ 4096) result.now }
+    {
+        match &self.mount {
+            Some(mount) => mount.pieces(),
+            None => &[],
+        }
+    }
+
+    /// The blocks that a flush writes home now, 0 to 8, in the order of their writes; none in an empty slot. It takes no
+    /// memory.
+    pub fn flush_plan(&self) -> FlushPlan
+        ensures { result ≡ plan_in self.now.mounted }
+    {
+        match &self.mount {
+            Some(mount) => match mount.flush_plan() {
+                Ok(plan) => plan,
+                Err(_) => unreachable!(),
+            },
+            None => FlushPlan::none(),
+        }
+    }
+
+    /// The committed content of a block, 4,096 bytes: what a flush writes home. None where the mount keeps none.
+    pub fn committed(&self, block: Block) -> Option<&[u8]>
+        ensures value { option_copied result ≡ at block (contents_in self.now.mounted) }
+        ensures whole { IfSome result (λ bytes. length bytes.now ≡ 4096) }
+    {
+        match &self.mount {
+            Some(mount) => mount.committed(block),
+            None => None,
+        }
+    }
+
+    // ---- steps
+    /// Makes an empty mount of the next life, with a log of so many bytes and a home device of so many blocks; what refuses
+    /// it is `Mount::new`'s, and `Busy` where the slot is in use.
+    pub fn mount(&mut self, log_bytes: u32, blocks: u64) -> Reply
+        ensures { IsServedUnlessMemory (AStep.Mount self.old.slot log_bytes blocks) result self.new self.old }
+    {
+        if self.mount.is_some() {
+            return Reply::Refused(Errno::Busy);
+        }
+        match Mount::new(self.alloc, self.slot, self.last_life, log_bytes, blocks) {
+            Ok(mount) => {
+                self.last_life = mount.life();
+                self.mount = Some(mount);
+                Reply::Life(self.last_life)
+            }
+            Err(errno) => Reply::Refused(errno),
+        }
+    }
+
+    /// Serves a request to one life of the slot, with the home device's answer where it asks one: `NoDevice` where the slot
+    /// is empty, `Stale` where it has another life, else the mount's own reply. An unmount that is not refused empties the
+    /// slot.
+    pub fn call(&mut self, life: Life, request: &Request, answer: &Answer) -> Reply
+        requires { is_there (mount_is (of_life life request.now) self.old.mounted) answer.now ≡ true }
+        ensures { IsServedUnlessMemory (AStep.Call self.old.slot life request.now answer.now) result self.new self.old }
+    {
+        let reply = answered(&mut self.mount, life, request, answer);
+        let is_gone = is_unmounted(request, &reply);
+        empty_if(&mut self.mount, is_gone);
+        reply
+    }
+
+    /// A job that is owed was posted: it is outstanding until its end, its flush, or a begin that finds nothing to do.
+    pub fn posted(&mut self, name: JobName)
+        requires owed { mount_is (is_owed_as name) self.old.mounted ≡ true }
+        requires slot { name.slot ≡ self.old.slot }
+        ensures { IsServed (AStep.Post name) AReply.Okay self.new self.old }
+    {
+        match &mut self.mount {
+            Some(mount) => mount.posted(name),
+            None => unreachable!(),
+        }
+    }
+
+    /// Begins an outstanding checkpoint: the committed items become the flight. On a shut mount there is nothing to do.
+    pub fn begin(&mut self, name: JobName) -> Reply
+        requires kind { is_ckpt name.kind ≡ true }
+        requires waiting { mount_is (is_waiting name) self.old.mounted ≡ true }
+        ensures { (worker : ℕ) → IsServedUnlessMemory (AStep.Begin worker name) result self.new self.old }
+    {
+        match &mut self.mount {
+            Some(mount) => mount.begin(name),
+            None => unreachable!(),
+        }
+    }
+
+    /// Ends the checkpoint in flight by what the log device answered to its pieces. It takes no memory.
+    pub fn end(&mut self, name: JobName, answers: LogAnswers) -> Reply
+        requires begun { mount_is (is_begun name) self.old.mounted ≡ true }
+        requires fits { fits_pieces answers (length (pieces_in self.old.mounted)) ≡ true }
+        ensures { (worker : ℕ) → IsServed (AStep.End worker name answers) result self.new self.old }
+    {
+        match &mut self.mount {
+            Some(mount) => mount.end(name, answers),
+            None => unreachable!(),
+        }
+    }
+
+    /// Ends an outstanding flush by what the home device answered to the writes of its plan. It takes no memory.
+    pub fn flush(&mut self, name: JobName, answers: HomeAnswers) -> Reply
+        requires kind { is_ckpt name.kind ≡ false }
+        requires waiting { mount_is (is_waiting name) self.old.mounted ≡ true }
+        requires fits { fits_plan answers (plan_in self.old.mounted) ≡ true }
+        ensures { (worker : ℕ) → IsServed (AStep.Flush worker name answers) result self.new self.old }
+    {
+        match &mut self.mount {
+            Some(mount) => mount.flush(name, answers),
+            None => unreachable!(),
+        }
+    }
+}
+
+/// Whether a reply is ok.
+fn is_okay(reply: &Reply) -> bool
+    ensures { result ≡ is_okay reply.now }
+{
+    matches!(reply, Reply::Okay)
+}
+
+/// Whether a request emptied its slot.
+fn is_unmounted(request: &Request, reply: &Reply) -> bool
+    ensures { result ≡ (is_unmount request.now && is_okay reply.now) }
+{
+    matches!(request, Request::Unmount) && is_okay(reply)
+}
+
+/// What the mount of a life answers to a request, before an unmount empties the slot.
+fn answered(mount: &mut Option<Mount>, life: Life, request: &Request, answer: &Answer) -> Reply
+    requires { is_there (mount_is (of_life life request.now) mount.old) answer.now ≡ true }
+    ensures { IsAnsweredUnlessMemory life request.now answer.now result mount.new mount.old }
+{
+    let Some(mounted) = mount else {
+        return Reply::Refused(Errno::NoDevice);
+    };
+    if mounted.life() != life {
+        return Reply::Refused(Errno::Stale);
+    }
+    mounted.serve(request, answer)
+}
+
+/// The slot is emptied, if it is so.
+fn empty_if(mount: &mut Option<Mount>, is_gone: bool)
+    ensures { mount.new ≡ (if is_gone then None else mount.old) }
+{
+    if is_gone {
+        *mount = None;
+    }
+}

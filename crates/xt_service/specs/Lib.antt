@@ -1,0 +1,4 @@
+pub mod Cut
+pub mod Session
+pub mod Intake
+pub mod Turns
