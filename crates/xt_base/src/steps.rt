@@ -1,6 +1,6 @@
 //! Requests, answers, replies, steps and offers.
 
-ghost use Rattle.std.specs.Prelude.{◌≡◌};
+ghost use Rattle.std.specs.Prelude.{◌≡◌, ◌≤◌, length};
 ghost use Rattle.xt_base.specs.Errors.{name_of, number_of};
 ghost use Rattle.xt_base.specs.Steps.{slot_of};
 
@@ -51,7 +51,8 @@ impl Errno {
 
     /// Its name in `errno.h`.
     pub fn name(self) -> &'static str
-        ensures { result.now ≡ name_of self }
+        ensures value { result.now ≡ name_of self }
+        ensures short { length result.now ≤ 7 }
     {
         match self {
             Errno::Io => "EIO",

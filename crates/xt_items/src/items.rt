@@ -332,11 +332,11 @@ fn cost_of(form: Form, items: &[(u64, Chunks)]) -> u64
     if items.is_empty() {
         return 0;
     }
-    let mut sum = u64::from(form.ends());
+    let mut sum = 0;
     for e in items {
         sum += ITEM_COST + CHUNK_COST * e.1.count() as u64;
     }
-    sum
+    u64::from(form.ends()) + sum
 }
 
 /// The least number among entries.

@@ -1,9 +1,10 @@
 -- The ledger of a mount beside the mount's definitions: the numbers of each step, and the conditions of each call.
 use Rattle.std.proofs.Common.{◌≡◌, ◌∙◌, ◌+◌, ◌-◌, ◌*◌, ◌≤◌, ◌<◌, ℕ, List, [], ◌∷◌, Option, Some, None, Bool, true, false, inl, inr, sym, ap, refl, arith}
 use Rattle.std.specs.Prelude.{◌||◌, ◌&&◌, ◌==◌, filter, if◌then◌else◌, length, nat_le, nat_lt, not, sum_by}
-use Rattle.std.proofs.lemmas.List.Sums.{sum_by_push}
+use Rattle.std.proofs.lemmas.List.Sums.{sum_by-cons, sum_by_push}
 use Rattle.std.proofs.lemmas.Bool.{cases_Bool}
 use Rattle.std.proofs.lemmas.Bool.Decides.{nat_tests}
+use Rattle.xt_base.proofs.CostLemmas.{charge-cons}
 use Rattle.xt_base.proofs.RisingLemmas.{each_map, filter_drop, filter_pass, put_last}
 use Rattle.xt_base.proofs.SoundParts.{cost_added, granted_less, granted_rolled}
 use Rattle.xt_base.specs.Calls.{allocated, closed, new_trans, legs_after, with_legs, is_no_room as finds_no_room}
@@ -13,7 +14,7 @@ use Rattle.xt_base.specs.Maps.{at, put, set_at, without}
 use Rattle.xt_base.specs.Sound.{IsSound}
 use Rattle.xt_base.specs.Space.{change_cost, charge, cost, flight_items, granted, is_needed, least_number, lesser, still_needed, used as used_of}
 use Rattle.xt_base.specs.State.{Change, Flight, Leg, State, Transaction}
-use Rattle.xt_resv.specs.Ledgers.{Ledger, flight_cost, is_counted, is_no_room, new_grant, next_grant, regranted, still_counted, ungranted, used}
+use Rattle.xt_resv.specs.Ledgers.{Ledger, flight_cost, is_counted, is_no_room, new_grant, next_grant, regranted, still_counted, ungranted, used, whole_charge}
 use Rattle.xt_resv.specs.Mounts.{flight_of, grant_of, ledger_of}
 
 -- ---- the space in use
@@ -37,36 +38,25 @@ pub ledger_allocated : (unit count : ℕ) (perm : Bool) (s : State) → IsSound 
 ledger_allocated unit count perm s h = ap (λ n. record (ledger_of s) { granted = n }) (granted_new s h (new_trans unit count perm))
 
 -- with its grant
-pub grant_allocated : (ends unit count : ℕ) (perm : Bool) → grant_of ends (new_trans unit count perm) ≡ new_grant unit count perm
-grant_allocated ends unit count perm = refl
+pub grant_allocated : (unit count : ℕ) (perm : Bool) → grant_of (new_trans unit count perm) ≡ new_grant unit count perm
+grant_allocated unit count perm = refl
 
 -- ---- a leg
 -- a number from 1 on is not 0
 not_zero : (n : ℕ) → 1 ≤ n → (n == 0) ≡ false
 not_zero n h = grind (arith, nat_tests)
 
--- what the first change of a leg with such changes costs more, by whether it is dirty
-abbrev first_by_leg : ℕ → List (ℕ × Change) → ℕ
-first_by_leg ends es = if not (length es == 0) then 0 else ends
+-- a leg's charge by what its blocks and chunks are charged
+pub charge_is : (ends : ℕ) (es : List (ℕ × Change)) → charge ends es ≡ whole_charge ends (sum_by change_cost es)
+charge_is ends [] = refl
+charge_is ends (e ∷ es) =
+    let some : (sum_by change_cost (e ∷ es) == 0) ≡ false = not_zero (sum_by change_cost (e ∷ es)) (omega (arith, sum_by-cons change_cost e es)) in
+    charge-cons ends e es ∙ sym (ap {B = ℕ} (λ (b : Bool). if b then 0 else ends + sum_by change_cost (e ∷ es)) some)
 
--- the same by what it was charged
-abbrev first_by_charge : ℕ → List (ℕ × Change) → ℕ
-first_by_charge ends es = if charge ends es == 0 then ends else 0
-
--- both are one
-same_first : (ends : ℕ) (es : List (ℕ × Change)) → 1 ≤ ends → first_by_leg ends es ≡ first_by_charge ends es
-same_first ends [] least = refl
-same_first ends (e ∷ es) least =
-    let some : (length (e ∷ es) == 0) ≡ false = not_zero (length (e ∷ es)) (omega arith) in
-    let costs : charge ends (e ∷ es) ≡ ends + sum_by change_cost (e ∷ es) = ap (λ (b : Bool). if b then 0 else ends + sum_by change_cost (e ∷ es)) some in
-    let paid : (charge ends (e ∷ es) == 0) ≡ false = ap (λ (n : ℕ). n == 0) costs ∙ not_zero (ends + sum_by change_cost (e ∷ es)) (omega (arith, least)) in
-    let left : first_by_leg ends (e ∷ es) ≡ 0 = ap (λ (b : Bool). if not b then 0 else ends) some in
-    let right : first_by_charge ends (e ∷ es) ≡ 0 = ap (λ (b : Bool). if b then ends else 0) paid in
-    left ∙ sym right
-
--- a leg is dirty where it was charged, since a text has something beside its items
-pub first_is : (ends : ℕ) (leg : Leg) → 1 ≤ ends → ◌≡◌ {A = ℕ} (if is_dirty leg then 0 else ends) (if charge ends leg.changes == 0 then ends else 0)
-first_is ends leg least = same_first ends leg.changes least
+-- with no ends it is that alone
+pub bare_charge : (es : List (ℕ × Change)) → charge 0 es ≡ sum_by change_cost es
+bare_charge [] = refl
+bare_charge (e ∷ es) = omega (arith, charge-cons 0 e es)
 
 module _ (s : State) (h : IsSound s) (t : ℕ) (trans : Transaction) (is : at t s.transactions ≡ Some trans) where
   -- what the commit list costs after the leg's commit
@@ -90,15 +80,15 @@ module _ (s : State) (h : IsSound s) (t : ℕ) (trans : Transaction) (is : at t 
   granted_closed = omega (arith, less)
 
   -- the transaction is given up and closed
-  pub ledger_closed : ledger_of (closed t s) ≡ ungranted (grant_of s.form.ends trans) (cost s.form.ends s.items.cil) (ledger_of s)
+  pub ledger_closed : ledger_of (closed t s) ≡ ungranted (grant_of trans) (cost s.form.ends s.items.cil) (ledger_of s)
   ledger_closed = ap (λ n. record (ledger_of s) { granted = n }) granted_closed
 
   -- the leg is committed and its transaction closed
-  pub ledger_ended : ledger_of (closed t (ended t trans.leg s)) ≡ ungranted (grant_of s.form.ends trans) cost_after (ledger_of s)
+  pub ledger_ended : ledger_of (closed t (ended t trans.leg s)) ≡ ungranted (grant_of trans) cost_after (ledger_of s)
   ledger_ended = ap (λ n. record (ledger_of s) { granted = n; cil = cost_after }) granted_closed
 
   -- the last leg finds no space for a new unit
-  pub no_room_is : finds_no_room t trans s ≡ is_no_room (grant_of s.form.ends trans) cost_after (ledger_of s)
+  pub no_room_is : finds_no_room t trans s ≡ is_no_room (grant_of trans) cost_after (ledger_of s)
   no_room_is =
       ap (λ n. (trans.legs == 1) && nat_lt s.log_bytes (n + trans.unit)) (sym (used_is (closed t (ended t trans.leg s))) ∙ ap used ledger_ended)
 
@@ -107,16 +97,16 @@ module _ (s : State) (h : IsSound s) (t : ℕ) (trans : Transaction) (is : at t 
   granted_legs legs = omega (arith, less, granted_rolled s.form.ends s.log_bytes s.owners s.transactions s.items h.parts t trans is legs)
 
   -- the leg is committed and the next one begins
-  pub ledger_rolled : ledger_of (with_legs t (legs_after trans.legs) trans (ended t trans.leg s)) ≡ regranted (grant_of s.form.ends trans) cost_after (ledger_of s)
+  pub ledger_rolled : ledger_of (with_legs t (legs_after trans.legs) trans (ended t trans.leg s)) ≡ regranted (grant_of trans) cost_after (ledger_of s)
   ledger_rolled = ap (λ n. record (ledger_of s) { granted = n; cil = cost_after }) (granted_legs (legs_after trans.legs))
 
   -- a roll is given up
-  pub ledger_lost : ledger_of (with_legs t 0 trans s) ≡ ungranted (grant_of s.form.ends trans) (cost s.form.ends s.items.cil) (ledger_of s)
+  pub ledger_lost : ledger_of (with_legs t 0 trans s) ≡ ungranted (grant_of trans) (cost s.form.ends s.items.cil) (ledger_of s)
   ledger_lost = ap (λ n. record (ledger_of s) { granted = n }) (omega (arith, granted_legs 0))
 
 -- the grant of the next leg
-pub grant_rolled : (ends : ℕ) (trans : Transaction) → grant_of ends (record trans { legs = legs_after trans.legs; leg = clean_leg }) ≡ next_grant (grant_of ends trans)
-grant_rolled ends trans = refl
+pub grant_rolled : (trans : Transaction) → grant_of (record trans { legs = legs_after trans.legs; leg = clean_leg }) ≡ next_grant (grant_of trans)
+grant_rolled trans = refl
 
 -- ---- landed checkpoints
 -- a number is no less than the lesser of two where it is no less than one of them

@@ -16,7 +16,7 @@ pub record Ledger : Type 0 where
   pub flight : Option ℕ
   pub landed : List (ℕ × ℕ)
 
--- what a transaction was granted: log bytes of a leg, legs left with the present one, whether it may roll, and what the present leg was charged
+-- what a transaction was granted: log bytes of a leg, legs left with the present one, whether it may roll, and what the present leg was charged for its blocks and chunks
 pub record Grant : Type 0 where
   pub unit : ℕ
   pub legs : ℕ
@@ -62,13 +62,17 @@ grant_unless None t = Ok t
 grant_unless (Some e) t = Err e
 
 -- ---- charged
--- what a leg is charged with what is charged anew; its first change costs the ends of a text more
-abbrev pub charged_with : ℕ → Newly → ℕ → ℕ
-charged_with ends newly charged = charged + (if charged == 0 then ends else 0) + ITEM_COST * newly.blocks + CHUNK_COST * newly.chunks
+-- what a leg is charged for its blocks and chunks, with what is charged anew
+abbrev pub charged_with : Newly → ℕ → ℕ
+charged_with newly charged = charged + ITEM_COST * newly.blocks + CHUNK_COST * newly.chunks
+
+-- a leg's whole charge: with the first change of a leg come the ends of a text
+abbrev pub whole_charge : ℕ → ℕ → ℕ
+whole_charge ends charged = if charged == 0 then 0 else ends + charged
 
 -- whether a leg may be charged so
 abbrev pub is_fitting : ℕ → Newly → Grant → Bool
-is_fitting ends newly t = nat_le (charged_with ends newly t.charged) t.unit
+is_fitting ends newly t = nat_le (whole_charge ends (charged_with newly t.charged)) t.unit
 
 -- ---- given back
 -- the ledger where the commit list costs this, and a grant is gone with all its legs

@@ -1,6 +1,6 @@
 -- The ledger of a mount: the numbers of its state that `LogSpace` keeps.
-use Rattle.std.specs.Prelude.{List, None, Option, Some, ℕ}
-use Rattle.xt_base.specs.Space.{charge, cost, granted}
+use Rattle.std.specs.Prelude.{List, None, Option, Some, sum_by, ℕ}
+use Rattle.xt_base.specs.Space.{change_cost, cost, granted}
 use Rattle.xt_base.specs.State.{Flight, Items, State, Transaction}
 use Rattle.xt_resv.specs.Ledgers.{Grant, Ledger}
 
@@ -18,5 +18,5 @@ abbrev pub ledger_of : State → Ledger
 ledger_of s = ledger s.form.ends s.log_bytes s.transactions s.items
 
 -- the grant of a transaction
-abbrev pub grant_of : ℕ → Transaction → Grant
-grant_of ends trans = record { unit = trans.unit; legs = trans.legs; perm = trans.perm; charged = charge ends trans.leg.changes }
+abbrev pub grant_of : Transaction → Grant
+grant_of trans = record { unit = trans.unit; legs = trans.legs; perm = trans.perm; charged = sum_by change_cost trans.leg.changes }

@@ -21,7 +21,7 @@ fn legs_are_counted(rt: HostRuntime) {
     };
     assert_eq!(rt; space.used(), 1536);
     let is_charged = LogSpace::charge(Form::one(), &mut ticket, TWO).is_ok();
-    assert_eq!(rt; ticket.charged(), 304);
+    assert_eq!(rt; ticket.charged(Form::one()), 304);
     let fits_more = LogSpace::fits(&ticket, TWO);
     let used = space.used();
     space.give_back(ticket);
@@ -57,9 +57,9 @@ fn a_last_leg_asks_a_unit(rt: HostRuntime) {
         return;
     }
     let is_refused = space.next_leg(&mut ticket, 304).is_err();
-    let before = (space.used(), ticket.charged());
+    let before = (space.used(), ticket.charged(Form::one()));
     let is_rolled = space.next_leg(&mut ticket, 303).is_ok();
-    let after = (space.used(), ticket.charged());
+    let after = (space.used(), ticket.charged(Form::one()));
     space.give_up(&mut ticket);
     let left = space.used();
     space.give_back(ticket);

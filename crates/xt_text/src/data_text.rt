@@ -16,11 +16,11 @@ use std::alloc::Global;
 use xt_base::content::{Content, Data};
 use xt_base::sizes::{BLOCK_BYTES, DATA_BYTES};
 
-/// The most bytes that data has.
-const DATA_BYTES: usize = 4096;
-
 /// The shortest run that is spelled with a count.
 const COUNTED: usize = 4;
+
+/// The values of a hexadecimal digit.
+const DIGITS: u8 = 16;
 
 /// How many bytes are compared at once where runs are counted.
 const BLOCK: usize = 128;
@@ -48,7 +48,7 @@ enum Place {
 /// The value of a hexadecimal digit in lower case.
 fn hex_value(digit: u8) -> Option<u8>
     ensures value { result ≡ hex_value digit }
-    ensures range { IfSome result (λ value. value < 16) }
+    ensures range { IfSome result (λ value. value < DIGITS) }
 {
     match digit {
         b'0'..=b'9' => Some(digit - b'0'),
@@ -63,7 +63,7 @@ fn byte_value(high: u8, low: u8) -> Result<u8, BadLine>
 {
     let high = hex_value(high).ok_or(BadLine::Spelling)?;
     let low = hex_value(low).ok_or(BadLine::Spelling)?;
-    Ok(16 * high + low)
+    Ok(DIGITS * high + low)
 }
 
 /// Where the next part begins: a dot begins none.
@@ -190,7 +190,7 @@ fn is_short(run: Run) -> bool
 
 /// A hexadecimal digit in lower case.
 fn hex_digit(value: u8) -> u8
-    requires { value < 16 }
+    requires { value < DIGITS }
     ensures { result ≡ hex_digit value }
 {
     if value < 10 {
@@ -205,8 +205,8 @@ fn hex_digit(value: u8) -> u8
 fn put_hex(out: &mut Text, byte: u8)
     ensures { out.new ≡ put out.old (hex byte) }
 {
-    out.push(hex_digit(byte / 16));
-    out.push(hex_digit(byte % 16));
+    out.push(hex_digit(byte / DIGITS));
+    out.push(hex_digit(byte % DIGITS));
 }
 
 /// Puts a run's text.

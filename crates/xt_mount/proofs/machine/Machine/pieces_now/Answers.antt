@@ -9,7 +9,7 @@ use Rattle.xt_mount.proofs.machine.Machine.pieces_now.Goals as goal
 pub write_checkpoint-requires-clause-count : goal.write_checkpoint-requires-clause-count
 write_checkpoint-requires-clause-count c =
     let s : State = state_of c.args.self.now in
-    let few = few_committed s.log_bytes s.owners s.transactions s.items c.requires.sound.parts in
+    let few = few_committed s.form.ends s.log_bytes s.owners s.transactions s.items c.requires.sound.parts in
     let count = ap length c.deref.ensures.value ∙ same_count s.items.cil c.in_ok-items.items.items c.in_ok-items.ensures.blocks in
     (omega (arith, count, c.requires.worth), omega (arith, count, few))
 
