@@ -1,7 +1,7 @@
 //! Fields of a line, each put with a space in front.
 
 ghost use Rattle.std.specs.Fmt.{decimal};
-ghost use Rattle.std.specs.Prelude.{◌≡◌, ◌≤◌, ◌∷◌, length};
+ghost use Rattle.std.specs.Prelude.{◌*◌, ◌≡◌, ◌≤◌, ◌∷◌, length};
 ghost use Rattle.xt_text.specs.Buffer.{put};
 ghost use Rattle.xt_text.specs.DataText.{spelling};
 ghost use Rattle.xt_text.specs.Lines.{ckpt_text, kind_text, name_text, ok_text, trans_text};
@@ -11,6 +11,7 @@ use crate::data_text::put_data;
 use crate::numbers::put_number;
 use crate::words::BLANK;
 use xt_base::names::{CkptNo, JobKind, JobName, TransNo};
+use xt_base::sizes::DATA_BYTES;
 
 /// A word.
 #[tactic(auto, using(crate::proofs::BufferLemmas::put_put))]
@@ -56,7 +57,7 @@ pub(crate) fn then_ckpt(out: &mut Text, number: CkptNo)
 #[tactic(auto, using(crate::proofs::BufferLemmas::put_put, crate::proofs::Lengths::spelling_fits))]
 pub(crate) fn then_data(out: &mut Text, bytes: &[u8])
     ensures text { out.new ≡ put out.old (BLANK ∷ spelling bytes.now) }
-    ensures short { length bytes.now ≤ 4096 → length (spelling bytes.now) ≤ 8192 }
+    ensures short { length bytes.now ≤ DATA_BYTES → length (spelling bytes.now) ≤ 2 * DATA_BYTES }
 {
     out.push(BLANK);
     put_data(out, bytes);
