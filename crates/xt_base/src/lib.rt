@@ -4,6 +4,7 @@
 
 pub mod chunks;
 pub mod content;
+pub mod kinds;
 pub mod laws;
 pub mod map;
 pub mod marks;

@@ -16,7 +16,7 @@ use Rattle.xt_base.specs.declared.steps.Reply.{Reply}
 use Rattle.xt_base.specs.declared.steps.Step.{Step}
 use Rattle.xt_core.proofs.CellLemmas.{by_false, by_true, to_false, to_true}
 use Rattle.xt_core.proofs.OneLemmas.{IsOneRun, one_breaks, one_moved, one_none, one_refused, one_taken, one_tells}
-use Rattle.xt_core.specs.Cells.{Cell, IsTurned, with_lone}
+use Rattle.xt_core.specs.Cells.{Cell, IsTurned, IsUnturned, with_lone}
 use Rattle.xt_core.specs.Solo.{IsKept, IsMore, IsRefused, IsServed, IsServedUnlessMemory, IsStepped, IsTaken}
 use Rattle.xt_core.specs.Turns.{InTurn, can_step, hand_after, hand_of, keeps_turn, queue_after, queue_left, queue_put}
 use Rattle.xt_core.specs.declared.solo.Solo.{Solo}
@@ -31,11 +31,11 @@ served_here x r new old kept same turned =
     let t : Turn = alone x old.cell.lone in
     elim (cases_Bool (is_no_memory r)) [
       | inl refused ↦
-          to_true (is_no_memory r) (IsKept new old) (IsServed x r new old) refused
-          (record { cell = by_true (is_no_memory r) (new.cell ≡ old.cell) ((r ≡ t.reply) × (new.cell ≡ with_lone t.slot old.cell)) refused turned; turns = same })
+          to_true (is_no_memory r) (IsKept x new old) (IsServed x r new old) refused
+          (let h = by_true (is_no_memory r) (IsUnturned x new.cell old.cell) ((r ≡ t.reply) × (new.cell ≡ with_lone t.slot old.cell)) refused turned in record { cell = h.0; turns = same; want = h.1 })
       | inr went ↦
-          let h = by_false (is_no_memory r) (new.cell ≡ old.cell) ((r ≡ t.reply) × (new.cell ≡ with_lone t.slot old.cell)) went turned in
-          to_false (is_no_memory r) (IsKept new old) (IsServed x r new old) went
+          let h = by_false (is_no_memory r) (IsUnturned x new.cell old.cell) ((r ≡ t.reply) × (new.cell ≡ with_lone t.slot old.cell)) went turned in
+          to_false (is_no_memory r) (IsKept x new old) (IsServed x r new old) went
           (record { reply = h.0; cell = h.1; turns = same ∙ ap (λ q. record old.turns { queue = q }) (sym kept) })
     ]
 
@@ -43,7 +43,7 @@ served_here x r new old kept same turned =
 pub refused_step : (x : Step) (r : Reply) (new old : Solo) → slot_of x ≡ old.cell.slot → is_no_memory r ≡ true → IsServedUnlessMemory x r new old
     → IsStepped x (record { slot = new.cell.slot; reply = r; log = []; home = [] }) new old
 refused_step x r new old here refused served =
-    let kept : IsKept new old = by_true (is_no_memory r) (IsKept new old) (IsServed x r new old) refused served in
+    let kept : IsKept x new old = by_true (is_no_memory r) (IsKept x new old) (IsServed x r new old) refused served in
     let t : Said = record { slot = new.cell.slot; reply = r; log = []; home = [] } in
     to_true (is_no_memory r) (IsRefused x t new old) (IsTaken x t new old) refused
     (record { kept = kept; place = ap (λ (c : Cell). c.slot) kept.cell ∙ sym here; log = refl; home = refl })

@@ -1,6 +1,6 @@
 -- One slot and its workers: what a step makes of them.
-use Rattle.std.specs.Prelude.{List, MatchBool, [], ℕ, ◌<◌, ◌≡◌}
-use Rattle.xt_base.specs.Alone.{Said, alone, reason_of, said_of}
+use Rattle.std.specs.Prelude.{List, MatchBool, [], true, ℕ, ◌<◌, ◌≡◌}
+use Rattle.xt_base.specs.Alone.{Said, alone, reason_of, said_of, step_may_want}
 use Rattle.xt_base.specs.Isolation.{BreaksOne, Told, is_no_memory, told_then}
 use Rattle.xt_base.specs.Steps.{slot_of}
 use Rattle.xt_base.specs.declared.outcomes.RunFault.{RunFault}
@@ -11,10 +11,11 @@ use Rattle.xt_core.specs.Cells.{with_lone}
 use Rattle.xt_core.specs.Turns.{hand_after, hand_of, queue_after, queue_put}
 use Rattle.xt_core.specs.declared.solo.Solo.{Solo}
 
--- nothing changed
-pub record IsKept (new old : Solo) : Type 0 where
+-- a step was refused memory, which it may want for the slot's own reply, and nothing changed
+pub record IsKept (x : Step) (new old : Solo) : Type 0 where
   pub cell : new.cell ≡ old.cell
   pub turns : new.turns ≡ old.turns
+  pub want : step_may_want x (alone x old.cell.lone).reply ≡ true
 
 -- a step's reply and slot came about, and the name that it posts is put behind the others; the hands are as they were
 pub record IsServed (x : Step) (r : Reply) (new old : Solo) : Type 0 where
@@ -24,7 +25,7 @@ pub record IsServed (x : Step) (r : Reply) (new old : Solo) : Type 0 where
 
 -- a step was served, or it was refused memory and nothing changed
 abbrev pub IsServedUnlessMemory : Step → Reply → Solo → Solo → Type 0
-IsServedUnlessMemory x reply new old = MatchBool (is_no_memory reply) (IsKept new old) (IsServed x reply new old)
+IsServedUnlessMemory x reply new old = MatchBool (is_no_memory reply) (IsKept x new old) (IsServed x reply new old)
 
 -- a step was taken: what it said and left is what it says and leaves alone, with the queue and the hands after it
 pub record IsTaken (x : Step) (t : Said) (new old : Solo) : Type 0 where
@@ -35,7 +36,7 @@ pub record IsTaken (x : Step) (t : Said) (new old : Solo) : Type 0 where
 
 -- a step was refused memory: it offered nothing, and nothing changed
 pub record IsRefused (x : Step) (t : Said) (new old : Solo) : Type 0 where
-  pub kept : IsKept new old
+  pub kept : IsKept x new old
   pub place : t.slot ≡ slot_of x
   pub log : t.log ≡ []
   pub home : t.home ≡ []

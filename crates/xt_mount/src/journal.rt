@@ -286,13 +286,14 @@ impl Journal {
 
     /// The leg of a transaction has these bytes of a block, and these chunks are marked and charged. It takes no memory.
     pub fn log(&mut self, trans: u64, block: u64, edit: Content, marked: Chunks)
+        requires there { is_in trans self.old.transactions ≡ true }
         requires rising { IsRising self.old.transactions }
         requires few { IfSome (at trans self.old.transactions) (λ t. is_in block t.leg.changes ≡ false → length t.leg.changes + length t.leg.holds < 128) }
         requires fits { IfSome (at trans self.old.transactions) (λ t. charge (edited block [] marked t.leg).changes ≤ t.unit) }
         ensures { IfSome (at trans self.old.transactions) (λ t. self.new ≡ releg trans t (edited block edit marked t.leg) self.old) }
     {
         let Some(mut opened) = self.transactions.remove(trans) else {
-            return;
+            unreachable!();
         };
         opened.log(block, edit, marked);
         self.transactions.put_new(trans, opened);
@@ -300,13 +301,14 @@ impl Journal {
 
     /// The leg of a transaction invalidates a block. It takes no memory.
     pub fn inval(&mut self, trans: u64, block: u64)
+        requires there { is_in trans self.old.transactions ≡ true }
         requires rising { IsRising self.old.transactions }
         requires few { IfSome (at trans self.old.transactions) (λ t. is_in block t.leg.changes ≡ false → length t.leg.changes + length t.leg.holds < 128) }
         requires fits { IfSome (at trans self.old.transactions) (λ t. charge (invalidated block t.leg).changes ≤ t.unit) }
         ensures { IfSome (at trans self.old.transactions) (λ t. self.new ≡ releg trans t (invalidated block t.leg) self.old) }
     {
         let Some(mut opened) = self.transactions.remove(trans) else {
-            return;
+            unreachable!();
         };
         opened.inval(block);
         self.transactions.put_new(trans, opened);
@@ -314,12 +316,13 @@ impl Journal {
 
     /// A block has the hold mark in the leg of a transaction. It takes no memory.
     pub fn hold(&mut self, trans: u64, block: u64)
+        requires there { is_in trans self.old.transactions ≡ true }
         requires rising { IsRising self.old.transactions }
         requires few { IfSome (at trans self.old.transactions) (λ t. has t.leg.holds block ≡ false → length t.leg.changes + length t.leg.holds < 128) }
         ensures { IfSome (at trans self.old.transactions) (λ t. self.new ≡ releg trans t (record t.leg { holds = with_member block t.leg.holds }) self.old) }
     {
         let Some(mut opened) = self.transactions.remove(trans) else {
-            return;
+            unreachable!();
         };
         opened.hold(block);
         self.transactions.put_new(trans, opened);
@@ -327,11 +330,12 @@ impl Journal {
 
     /// A block has no hold mark in the leg of a transaction. It takes no memory.
     pub fn unhold(&mut self, trans: u64, block: u64)
-        requires { IsRising self.old.transactions }
+        requires there { is_in trans self.old.transactions ≡ true }
+        requires rising { IsRising self.old.transactions }
         ensures { IfSome (at trans self.old.transactions) (λ t. self.new ≡ releg trans t (without_hold block t.leg) self.old) }
     {
         let Some(mut opened) = self.transactions.remove(trans) else {
-            return;
+            unreachable!();
         };
         opened.unhold(block);
         self.transactions.put_new(trans, opened);
@@ -341,6 +345,7 @@ impl Journal {
     /// A transaction ends, and its leg is committed: its edits are the committed contents, and its marks are joined to the
     /// commit list. It takes no memory.
     pub fn commit(&mut self, trans: u64, frames: &mut Frames)
+        requires there { is_in trans self.old.transactions ≡ true }
         requires contents { IfSome (at trans self.old.transactions) (λ t. length frames.old.committed + length t.leg.changes ≤ 128) }
         requires list { IfSome (at trans self.old.transactions) (λ t. length self.old.items.cil + length t.leg.changes ≤ 128) }
         requires paid { IfSome (at trans self.old.transactions) (λ t. cost (with_marks t.leg.changes self.old.items.cil) ≤ cost self.old.items.cil + t.unit * t.legs) }
@@ -348,7 +353,7 @@ impl Journal {
         ensures frames { IfSome (at trans self.old.transactions) (λ t. frames.new ≡ edits_kept t.leg.changes frames.old) }
     {
         let Some(opened) = self.transactions.remove(trans) else {
-            return;
+            unreachable!();
         };
         let (ticket, mut leg) = opened.into_parts();
         keep_changes(frames, &mut self.items, &mut leg);
@@ -358,6 +363,7 @@ impl Journal {
 
     /// A leg is committed, and the next one of its transaction begins. It takes no memory.
     pub fn roll(&mut self, trans: u64, frames: &mut Frames)
+        requires there { is_in trans self.old.transactions ≡ true }
         requires rising { IsRising self.old.transactions }
         requires contents { IfSome (at trans self.old.transactions) (λ t. length frames.old.committed + length t.leg.changes ≤ 128) }
         requires list { IfSome (at trans self.old.transactions) (λ t. length self.old.items.cil + length t.leg.changes ≤ 128) }
@@ -368,7 +374,7 @@ impl Journal {
         ensures frames { IfSome (at trans self.old.transactions) (λ t. frames.new ≡ edits_kept t.leg.changes frames.old) }
     {
         let Some(opened) = self.transactions.remove(trans) else {
-            return;
+            unreachable!();
         };
         let (mut ticket, mut leg) = opened.into_parts();
         keep_changes(frames, &mut self.items, &mut leg);
@@ -383,12 +389,13 @@ impl Journal {
 
     /// A transaction ends, and its leg is given up. It takes no memory.
     pub fn cancel(&mut self, trans: u64, frames: &mut Frames)
-        requires { IfSome (at trans self.old.transactions) (λ t. length frames.old.fresh + length t.leg.changes ≤ 128) }
+        requires there { is_in trans self.old.transactions ≡ true }
+        requires fresh { IfSome (at trans self.old.transactions) (λ t. length frames.old.fresh + length t.leg.changes ≤ 128) }
         ensures pages { IfSome (at trans self.old.transactions) (λ t. self.new ≡ closed_in trans self.old) }
         ensures frames { IfSome (at trans self.old.transactions) (λ t. frames.new ≡ leg_lost t.leg frames.old) }
     {
         let Some(opened) = self.transactions.remove(trans) else {
-            return;
+            unreachable!();
         };
         let (ticket, mut leg) = opened.into_parts();
         lose_leg(frames, &mut leg);
@@ -398,13 +405,14 @@ impl Journal {
 
     /// A leg is given up, and its transaction stays with no leg left. It takes no memory.
     pub fn give_up(&mut self, trans: u64, frames: &mut Frames)
+        requires there { is_in trans self.old.transactions ≡ true }
         requires rising { IsRising self.old.transactions }
         requires fresh { IfSome (at trans self.old.transactions) (λ t. length frames.old.fresh + length t.leg.changes ≤ 128) }
         ensures pages { IfSome (at trans self.old.transactions) (λ t. self.new ≡ legs_in trans 0 t self.old) }
         ensures frames { IfSome (at trans self.old.transactions) (λ t. frames.new ≡ leg_lost t.leg frames.old) }
     {
         let Some(opened) = self.transactions.remove(trans) else {
-            return;
+            unreachable!();
         };
         let (mut ticket, mut leg) = opened.into_parts();
         lose_leg(frames, &mut leg);

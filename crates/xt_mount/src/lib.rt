@@ -2,6 +2,7 @@
 #![tactic(auto)]
 
 mod alloc;
+mod busy;
 mod ckpt;
 mod commit;
 mod flush;
@@ -20,4 +21,3 @@ mod roll;
 mod serve;
 mod settle;
 pub mod slot;
-mod space;
