@@ -9,6 +9,7 @@ mod maxima;
 mod rolls;
 mod rows;
 mod shut;
+mod writers;
 
 use crate::script::run_script;
 use asked::*;
