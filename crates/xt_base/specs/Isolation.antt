@@ -1,9 +1,8 @@
 -- What a run of many slots told, and that each slot was told what it would have been told alone.
 use Rattle.std.specs.List.{list_any, slice_get}
-use Rattle.std.specs.Prelude.{Bool, List, None, Option, [], false, filter, if◌then◌else◌, length, map, replicate, slice_index_or, slice_set, take, true, ℕ, ◌+◌, ◌<◌, ◌==◌, ◌∷◌, ◌≡◌, ◌≢◌, ◌⊎◌, ◌++◌, Some}
+use Rattle.std.specs.Prelude.{Bool, List, None, Option, [], false, filter, if◌then◌else◌, length, map, replicate, slice_index_or, slice_set, take, true, ℕ, ◌+◌, ◌<◌, ◌==◌, ◌∷◌, ◌≡◌, ◌++◌, Some}
 use Rattle.xt_base.specs.Alone.{Said, alone_run, shut_after}
 use Rattle.xt_base.specs.Order.{Event, fits, orderly, orderly_for}
-use Rattle.xt_base.specs.Sound.{Each}
 use Rattle.xt_base.specs.Steps.{slot_of, strike}
 use Rattle.xt_base.specs.declared.sizes.TheConstants.{SLOTS}
 use Rattle.xt_base.specs.declared.steps.Errno.{Errno}
@@ -91,29 +90,3 @@ pub record BreaksAt (at : ℕ) (steps : List Step) (before : Told) : Type 0 wher
   pub tells : Tells (take at steps) before
   pub breaks : (x : Step) → slice_get steps at ≡ Some x → is_refused (slot_of x) before ≡ false → fits (events (take at steps) before.turns) x ≡ false
   pub first : ((m : ℕ) → is_refused m before ≡ false) → orderly (take (at + 1) steps) ≡ false
-
--- ---- lists of one slot
--- the slot that the first step names, 0 where there is none
-abbrev pub first_slot : List Step → ℕ
-first_slot [] = 0
-first_slot (x ∷ xs) = slot_of x
-
--- every step names the slot of the first
-abbrev pub IsOneSlot : List Step → Type 0
-IsOneSlot steps = Each (λ x. slot_of x ≡ first_slot steps) steps
-
--- a run of steps of one slot told this
-pub record TellsOne (steps : List Step) (o : Told) : Type 0 where
-  pub tells : Tells steps o
-  pub one : IsOneSlot steps
-
--- a step does not fit what came before it, so that the list up to it is not orderly
-pub record BreaksOrder (at : ℕ) (x : Step) (steps : List Step) (before : Told) : Type 0 where
-  pub unfit : fits (events (take at steps) before.turns) x ≡ false
-  pub disorder : orderly (take (at + 1) steps) ≡ false
-
--- the step at this place is the first that names another slot than those before it, or that breaks order
-pub record BreaksOne (at : ℕ) (steps : List Step) (before : Told) : Type 0 where
-  pub place : at < length steps
-  pub tells : TellsOne (take at steps) before
-  pub breaks : (x : Step) → slice_get steps at ≡ Some x → (slot_of x ≢ first_slot steps) ⊎ (is_refused (slot_of x) before ≡ false → BreaksOrder at x steps before)

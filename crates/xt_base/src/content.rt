@@ -141,6 +141,14 @@ impl Data {
         Ok(Some(Data { bytes }))
     }
 
+    /// A copy. The one error is want of memory.
+    pub fn copy(&self, alloc: Global) -> Result<Self, AllocError>
+        ensures { IfOk result (λ carried. carried ≡ self.now) }
+    {
+        let bytes = Box::new(alloc, self.bytes.to_vec(alloc)?)?;
+        Ok(Data { bytes })
+    }
+
     /// Its bytes.
     pub fn bytes(&self) -> &[u8]
         ensures value { result.now ≡ self.now }

@@ -1,12 +1,13 @@
 //! Requests, answers, replies, steps and offers.
 
-ghost use Rattle.std.specs.Prelude.{◌≡◌, ◌≤◌, length};
+ghost use Rattle.std.specs.Prelude.{◌≡◌, ◌≤◌, length, IfOk};
 ghost use Rattle.xt_base.specs.Errors.{name_of, number_of};
 ghost use Rattle.xt_base.specs.Steps.{slot_of};
 
 use crate::content::{Content, Data, HeldBlocks};
 use crate::names::{Block, CkptNo, JobName, Life, Slot, TransNo, Worker};
 use crate::sizes::FLUSH_BLOCKS;
+use std::alloc::{AllocError, Global};
 
 /// Why a call was refused: the numbers and names of `errno.h` on Linux.
 #[derive(Clone, Copy, Debug, PartialEq, Eq)]
@@ -263,7 +264,147 @@ pub enum Step {
     Peek(Slot),
 }
 
+impl Request {
+    /// A copy. The one error is want of memory.
+    pub fn copy(&self, alloc: Global) -> Result<Self, AllocError>
+        ensures { IfOk result (λ request. request ≡ self.now) }
+    {
+        let request = match self {
+            Request::Alloc { unit, count, perm } => Request::Alloc {
+                unit: *unit,
+                count: *count,
+                perm: *perm,
+            },
+            Request::Get { trans, block } => Request::Get {
+                trans: *trans,
+                block: *block,
+            },
+            Request::Read { trans, block } => Request::Read {
+                trans: *trans,
+                block: *block,
+            },
+            Request::View { trans, block } => Request::View {
+                trans: *trans,
+                block: *block,
+            },
+            Request::Log {
+                first,
+                trans,
+                block,
+                bytes,
+            } => Request::Log {
+                first: *first,
+                trans: *trans,
+                block: *block,
+                bytes: bytes.copy(alloc)?,
+            },
+            Request::Hold { trans, block } => Request::Hold {
+                trans: *trans,
+                block: *block,
+            },
+            Request::Unhold { trans, block } => Request::Unhold {
+                trans: *trans,
+                block: *block,
+            },
+            Request::Relse { trans, block } => Request::Relse {
+                trans: *trans,
+                block: *block,
+            },
+            Request::Join { trans, block } => Request::Join {
+                trans: *trans,
+                block: *block,
+            },
+            Request::Release { block } => Request::Release { block: *block },
+            Request::Inval { trans, block } => Request::Inval {
+                trans: *trans,
+                block: *block,
+            },
+            Request::Commit { trans } => Request::Commit { trans: *trans },
+            Request::Roll { trans } => Request::Roll { trans: *trans },
+            Request::Cancel { trans } => Request::Cancel { trans: *trans },
+            Request::Force => Request::Force,
+            Request::ForceTo { number } => Request::ForceTo { number: *number },
+            Request::Push => Request::Push,
+            Request::Shutdown => Request::Shutdown,
+            Request::Unmount => Request::Unmount,
+        };
+        Ok(request)
+    }
+}
+
+impl Answer {
+    /// A copy. The one error is want of memory.
+    pub fn copy(&self, alloc: Global) -> Result<Self, AllocError>
+        ensures { IfOk result (λ answer. answer ≡ self.now) }
+    {
+        let answer = match self {
+            Answer::None => Answer::None,
+            Answer::Content(content) => Answer::Content(content.copy(alloc)?),
+            Answer::Failed => Answer::Failed,
+        };
+        Ok(answer)
+    }
+}
+
 impl Step {
+    /// A copy. The one error is want of memory.
+    pub fn copy(&self, alloc: Global) -> Result<Self, AllocError>
+        ensures { IfOk result (λ step. step ≡ self.now) }
+    {
+        let step = match self {
+            Step::Mount {
+                slot,
+                log_bytes,
+                blocks,
+            } => Step::Mount {
+                slot: *slot,
+                log_bytes: *log_bytes,
+                blocks: *blocks,
+            },
+            Step::Call {
+                slot,
+                life,
+                request,
+                answer,
+            } => Step::Call {
+                slot: *slot,
+                life: *life,
+                request: request.copy(alloc)?,
+                answer: answer.copy(alloc)?,
+            },
+            Step::Post(name) => Step::Post(*name),
+            Step::Take { worker, name } => Step::Take {
+                worker: *worker,
+                name: *name,
+            },
+            Step::Begin { worker, name } => Step::Begin {
+                worker: *worker,
+                name: *name,
+            },
+            Step::End {
+                worker,
+                name,
+                answers,
+            } => Step::End {
+                worker: *worker,
+                name: *name,
+                answers: *answers,
+            },
+            Step::Flush {
+                worker,
+                name,
+                answers,
+            } => Step::Flush {
+                worker: *worker,
+                name: *name,
+                answers: *answers,
+            },
+            Step::Show(slot) => Step::Show(*slot),
+            Step::Peek(slot) => Step::Peek(*slot),
+        };
+        Ok(step)
+    }
+
     /// The slot that the step names.
     pub fn slot(&self) -> Slot
         ensures { result ≡ slot_of self.now }

@@ -2,7 +2,7 @@
 use Rattle.std.proofs.Common.{◌≡◌, ◌++◌, ◌≤◌, Bool, ℕ, List, length, Option, Some, None, false, inl, inr, refl, subst, sym, true≢false}
 use Rattle.std.specs.Prelude.{Err, IfErr, IfOk, IfSome, Ok, OnErr, Result}
 use Rattle.std.specs.Io.KnownBytes.{Appends, Keeps}
-use Rattle.xt_base.specs.Isolation.{BreaksOne, TellsOne, Told}
+use Rattle.xt_base.specs.Isolation.{BreaksAt, Tells, Told}
 use Rattle.xt_base.specs.declared.steps.Step.{Step}
 use Rattle.xt_cli.proofs.AppendLemmas.{appends_kept, begins_all, begins_kept, keeps_same}
 use Rattle.xt_cli.specs.Printing.{Begins, disorder_text, turns_text}
@@ -16,27 +16,27 @@ on_err (Ok x) P is = tt
 on_err (Err e) P is = is
 
 -- what all steps said is what a run of them prints
-pub output_all : (steps : List Step) (told : Told) → TellsOne steps told → IsOutput steps (turns_text told.turns) 0
+pub output_all : (steps : List Step) (told : Told) → Tells steps told → IsOutput steps (turns_text told.turns) 0
 output_all steps told tells = inl (refl, (told, (tells, refl)))
 
 -- what the steps before one that breaks order said, and its place, is what a run of them prints
-pub output_up_to : (steps : List Step) (at : ℕ) (told : Told) → BreaksOne at steps told → IsOutput steps (turns_text told.turns ++ disorder_text at) 3
+pub output_up_to : (steps : List Step) (at : ℕ) (told : Told) → BreaksAt at steps told → IsOutput steps (turns_text told.turns ++ disorder_text at) 3
 output_up_to steps at told breaks = inr (refl, (at, (told, (breaks, refl))))
 
 -- all steps were run, and what they said was written
-pub printed_all : (steps : List Step) (told : Told) (old new : Option (List ℕ)) → TellsOne steps told → Appends old new (turns_text told.turns) → IsPrinted steps old new 0
+pub printed_all : (steps : List Step) (told : Told) (old new : Option (List ℕ)) → Tells steps told → Appends old new (turns_text told.turns) → IsPrinted steps old new 0
 printed_all steps told old new tells text = (turns_text told.turns, (output_all steps told tells, text))
 
 -- the steps before one that breaks order were run, and what they said was written, and the place of that one
-pub printed_up_to : (steps : List Step) (at : ℕ) (told : Told) (old new : Option (List ℕ)) → BreaksOne at steps told → Appends old new (turns_text told.turns ++ disorder_text at) → IsPrinted steps old new 3
+pub printed_up_to : (steps : List Step) (at : ℕ) (told : Told) (old new : Option (List ℕ)) → BreaksAt at steps told → Appends old new (turns_text told.turns ++ disorder_text at) → IsPrinted steps old new 3
 printed_up_to steps at told old new breaks text = (turns_text told.turns ++ disorder_text at, (output_up_to steps at told breaks, text))
 
 -- all steps were run, and a beginning of what they said was written
-pub cut_all : (steps : List Step) (told : Told) (old new : Option (List ℕ)) → TellsOne steps told → Begins old new (turns_text told.turns) → IsCutShort steps old new
+pub cut_all : (steps : List Step) (told : Told) (old new : Option (List ℕ)) → Tells steps told → Begins old new (turns_text told.turns) → IsCutShort steps old new
 cut_all steps told old new tells begun = inr (turns_text told.turns, (0, (output_all steps told tells, begun)))
 
 -- the same of the steps before one that breaks order
-pub cut_up_to : (steps : List Step) (at : ℕ) (told : Told) (old new : Option (List ℕ)) → BreaksOne at steps told → Begins old new (turns_text told.turns ++ disorder_text at) → IsCutShort steps old new
+pub cut_up_to : (steps : List Step) (at : ℕ) (told : Told) (old new : Option (List ℕ)) → BreaksAt at steps told → Begins old new (turns_text told.turns ++ disorder_text at) → IsCutShort steps old new
 cut_up_to steps at told old new breaks begun = inr (turns_text told.turns ++ disorder_text at, (3, (output_up_to steps at told breaks, begun)))
 
 -- no step was run
@@ -79,6 +79,14 @@ fault_unread (Some bytes) only old fault is = fault_in only bytes old fault is
 pub fault_unparsed : (left : Option (List ℕ)) (only : Option ℕ) (script : List ℕ) (old : Option (List ℕ)) (fault : ScriptFault) → IfSome left (λ bytes. script ≡ bytes) → IsFaultIn script fault → IfSome left (λ bytes. IsFault only bytes old old fault)
 fault_unparsed None only script old fault read is = tt
 fault_unparsed (Some bytes) only script old fault read is = fault_in only bytes old fault (subst (λ s. IsFaultIn s fault) read is)
+
+-- a script was parsed, and its steps were not picked
+pub fault_unpicked : (left : Option (List ℕ)) (only : Option ℕ) (old : Option (List ℕ)) (fault : ScriptFault) → is_of_script fault ≡ false → IfSome left (λ bytes. IsFault only bytes old old fault)
+fault_unpicked None only old fault other = tt
+fault_unpicked (Some bytes) only old (BadLine number) other = absurd (true≢false other)
+fault_unpicked (Some bytes) only old TooLong other = absurd (true≢false other)
+fault_unpicked (Some bytes) only old (Io error) other = inl (keeps_same old)
+fault_unpicked (Some bytes) only old (Memory error) other = inl (keeps_same old)
 
 -- a script's steps were picked, and their run was cut short
 pub fault_late : (left : Option (List ℕ)) (only : Option ℕ) (script : List ℕ) (steps chosen : List Step) (old new : Option (List ℕ)) (fault : ScriptFault) → IfSome left (λ bytes. script ≡ bytes) → IsScript script steps → chosen ≡ picked only steps → IsCutShort chosen old new → is_of_script fault ≡ false → IfSome left (λ bytes. IsFault only bytes old new fault)

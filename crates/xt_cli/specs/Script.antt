@@ -2,7 +2,7 @@
 use Rattle.std.specs.Prelude.{Bool, List, Option, None, Some, [], false, flat_map, length, not, true, ℕ, ◌+◌, ◌++◌, ◌≡◌, ◌≢◌, ◌∷◌, ◌==◌, ◌<◌, ◌≤◌, ◌⊎◌}
 use Rattle.std.specs.List.{list_all}
 use Rattle.std.specs.Io.KnownBytes.{Appends, Keeps}
-use Rattle.xt_base.specs.Isolation.{BreaksOne, TellsOne, Told}
+use Rattle.xt_base.specs.Isolation.{BreaksAt, Tells, Told}
 use Rattle.xt_base.specs.Sound.{Each}
 use Rattle.xt_base.specs.Steps.{strike}
 use Rattle.xt_base.specs.declared.steps.Step.{Step}
@@ -52,8 +52,8 @@ picked (Some slot) steps = strike steps slot
 
 -- what a run of these steps prints, whole, and its status: 0 where all were run, 3 where one breaks order
 abbrev pub IsOutput : List Step → List ℕ → ℕ → Type 0
-IsOutput steps text status = ((status ≡ 0) × ((told : Told) × (TellsOne steps told × (text ≡ turns_text told.turns))))
-    ⊎ ((status ≡ 3) × ((at : ℕ) × ((told : Told) × (BreaksOne at steps told × (text ≡ turns_text told.turns ++ disorder_text at)))))
+IsOutput steps text status = ((status ≡ 0) × ((told : Told) × (Tells steps told × (text ≡ turns_text told.turns))))
+    ⊎ ((status ≡ 3) × ((at : ℕ) × ((told : Told) × (BreaksAt at steps told × (text ≡ turns_text told.turns ++ disorder_text at)))))
 
 -- a run of these steps was printed
 abbrev pub IsPrinted : List Step → Option (List ℕ) → Option (List ℕ) → ℕ → Type 0

@@ -1,4 +1,4 @@
-//! The program `xth`: transactions of a mount, step by step.
+//! The program `xth`: transactions of mounted volumes, step by step.
 #![tactic(auto)]
 
 mod fault;
@@ -9,35 +9,55 @@ mod script;
 mod tests;
 mod writing;
 
-use clap::Command;
 use clap::error::ErrorKind;
+use clap::{Arg, ArgMatches, Command};
 use fault::ScriptFault;
 use script::run_script;
 use std::alloc::{AllocError, Global};
 use std::io::{BufWriter, Input};
 use std::process::ExitCode;
+use xt_base::names::Slot;
 
 /// How many bytes of output are written at once.
 const OUTPUT_BYTES: usize = 65_536;
+
+/// The slots, spelled as in the lines of a script.
+const SLOTS: &[&str] = &[
+    "0", "1", "2", "3", "4", "5", "6", "7", "8", "9", "10", "11", "12", "13", "14", "15",
+];
 
 /// The command line.
 fn command<'a>(alloc: Global) -> Result<Command<'a>, AllocError> {
     let script = Command::new(alloc, "script").about(
         "Runs the steps on standard input, one on a line, and prints each reply with its offers",
     );
+    let slot = Arg::new(alloc, "SLOT")
+        .help("A slot, 0 to 15")
+        .required(true)
+        .value_parser(SLOTS);
+    let strike = Command::new(alloc, "strike")
+        .about("The same with the steps of one slot alone")
+        .arg(slot)?;
     Command::new(alloc, "xth")
         .version("0.1.0")
         .about("Transactions over the blocks of a volume, step by step")
         .bin_name("xth")?
         .subcommand_required(true)
-        .subcommand(script)
+        .subcommand(script)?
+        .subcommand(strike)
 }
 
-/// Runs the script on standard input.
-fn script_on_streams(rt: &HostRuntime) -> Result<u8, ScriptFault> {
+/// The slot to which a script is struck, if it is.
+fn only_slot(matches: &ArgMatches) -> Option<Slot> {
+    let strike = matches.subcommand_matches("strike")?;
+    Slot::new(strike.get_one("SLOT")?)
+}
+
+/// Runs the script on standard input, or the steps of one slot of it.
+fn script_on_streams(rt: &HostRuntime, only: Option<Slot>) -> Result<u8, ScriptFault> {
     let alloc = rt.alloc();
     let mut writer = BufWriter::with_capacity(alloc, OUTPUT_BYTES, rt.stdout())?;
-    Ok(run_script(alloc, &mut rt.reader(), &mut writer, &mut rt.stderr(), None))
+    Ok(run_script(alloc, &mut rt.reader(), &mut writer, &mut rt.stderr(), only))
 }
 
 /// What a command line that is none prints, and its status.
@@ -54,7 +74,7 @@ fn run(rt: &HostRuntime) -> Result<u8, ScriptFault> {
     let alloc = rt.alloc();
     let words: Vec<String> = std::env::args(rt)?.collect(alloc)?;
     match command(alloc)?.try_get_matches_from(words.as_slice()) {
-        Ok(_) => script_on_streams(rt),
+        Ok(matches) => script_on_streams(rt, only_slot(&matches)),
         Err(error) => refuse(rt, &error),
     }
 }

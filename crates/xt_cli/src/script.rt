@@ -1,4 +1,5 @@
-//! `xth script`: all lines are parsed, then run, and each reply is printed, with the offers that its step made.
+//! `xth script` and `xth strike`: all lines are parsed, then run, or those of one slot, and each reply is printed, with the offers
+//! that its step made.
 
 ghost use Rattle.std.specs.Prelude.{◌≡◌, IfErr, IfOk, IfSome, OnErr, false};
 ghost use Rattle.xt_cli.specs.Script.{is_of_script, picked, IsCutShort, IsFault, IsPlayed, IsPrinted, IsReported, IsRun};
@@ -12,16 +13,20 @@ use std::io::{self, Read, Write};
 use xt_base::names::Slot;
 use xt_base::outcomes::RunFault;
 use xt_base::steps::Step;
-use xt_core::run::run_one;
+use xt_core::HostCore;
 
 /// The steps that are run: all, or those of one slot.
-fn pick(mut steps: Vec<Step>, only: Option<Slot>) -> Vec<Step>
-    ensures { result.items ≡ picked only steps.items }
+fn pick(alloc: Global, steps: Vec<Step>, only: Option<Slot>) -> Result<Vec<Step>, ScriptFault>
+    ensures picked { IfOk result (λ chosen. chosen.items ≡ picked only steps.items) }
+    ensures fault { IfErr result (λ fault. is_of_script fault ≡ false) }
 {
-    if let Some(slot) = only {
-        steps.retain(|step| step.slot() == slot);
+    let Some(slot) = only else {
+        return Ok(steps);
+    };
+    match HostCore::strike(alloc, &steps, slot) {
+        Ok(struck) => Ok(struck),
+        Err(_) => Err(ScriptFault::Memory(AllocError)),
     }
-    steps
 }
 
 /// Runs steps and prints what they said: the status is 0, or 3 where one breaks order.
@@ -31,7 +36,7 @@ fn play_steps<W: Write>(alloc: Global, writer: &mut W, steps: &[Step]) -> Result
     ensures cut { OnErr result (IsCutShort steps.now (W.contents writer.old) (W.contents writer.new)) }
     ensures fault { IfErr result (λ fault. is_of_script fault ≡ false) }
 {
-    match run_one(alloc, steps) {
+    match HostCore::run(alloc, steps) {
         Ok(told) => {
             print_turns(alloc, writer, told.turns()).map_err(ScriptFault::Io)?;
             Ok(0)
@@ -60,7 +65,7 @@ fn play_to_the_end<W: Write>(
 }
 
 /// Reads, parses, runs and prints: the status is 0, or 3 where a step breaks order.
-#[tactic(auto, using(crate::proofs::PlayLemmas::fault_unread, crate::proofs::PlayLemmas::fault_unparsed))]
+#[tactic(auto, using(crate::proofs::PlayLemmas::fault_unread, crate::proofs::PlayLemmas::fault_unparsed, crate::proofs::PlayLemmas::fault_unpicked))]
 fn play<R: Read, W: Write>(
     alloc: Global,
     reader: &mut R,
@@ -71,7 +76,7 @@ fn play<R: Read, W: Write>(
     ensures fault { IfErr result (λ fault. IfSome (R.remaining reader.old) (λ script. IsFault only script (W.contents writer.old) (W.contents writer.new) fault)) }
 {
     let script = read_script(alloc, reader)?;
-    let steps = pick(parse_script(alloc, &script)?, only);
+    let steps = pick(alloc, parse_script(alloc, &script)?, only)?;
     drop(script);
     play_to_the_end(alloc, writer, &steps)
 }

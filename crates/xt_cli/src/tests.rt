@@ -7,11 +7,13 @@ mod home;
 mod idle;
 mod longest;
 mod maxima;
+mod names;
 mod orders;
 mod places;
 mod rolls;
 mod rows;
 mod shut;
+mod slots;
 
 use crate::script::run_script;
 use asked::*;
@@ -20,11 +22,13 @@ use drive::{Told, drive, home_lines, lines_of, log_lines};
 use home::*;
 use idle::*;
 use longest::*;
+use names::*;
 use orders::*;
 use places::*;
 use rolls::*;
 use rows::*;
 use shut::*;
+use slots::*;
 use std::alloc::Global;
 use std::io::{self, Read, Write};
 use std::process::Abort;
@@ -324,8 +328,80 @@ fn a_broken_order_is_printed_after_what_came_before(rt: HostRuntime) {
 }
 
 #[test]
-fn a_step_of_another_slot_breaks_order(rt: HostRuntime) {
-    says(&rt, rt.alloc(), TWO_SLOTS, "0 life 1\ndisorder 2\n", 3);
+fn slots_are_mounted_side_by_side(rt: HostRuntime) {
+    let want = "0 life 1\n1 life 1\n0 t1\n1 t1\n0 ok\n";
+    says(&rt, rt.alloc(), TWO_SLOTS, want, 0);
+}
+
+/// Asserts what a script prints, and what the steps of each of two of its slots print by themselves.
+fn says_struck(
+    rt: &impl Abort,
+    alloc: Global,
+    input: &str,
+    want: (&str, u8),
+    struck: [(u8, &str); 2],
+) -> Result<(), Fail> {
+    says(rt, alloc, input, want.0, want.1);
+    for (index, want) in struck {
+        let slot = Slot::new(index).ok_or("a slot")?;
+        says_of(rt, alloc, input, Some(slot), want, 0);
+    }
+    Ok(())
+}
+
+#[test]
+fn two_slots_in_turn_say_what_each_says_alone(rt: HostRuntime) -> Result<(), Fail> {
+    says_struck(
+        &rt,
+        rt.alloc(),
+        ROW11_IN,
+        (ROW11_OUT, 0),
+        [(0, ROW11_0), (1, ROW11_1)],
+    )
+}
+
+#[test]
+fn a_take_that_is_not_the_front_breaks_order(rt: HostRuntime) -> Result<(), Fail> {
+    says_struck(
+        &rt,
+        rt.alloc(),
+        ROW12_IN,
+        (ROW12_OUT, 3),
+        [(0, ROW12_0), (1, ROW12_1)],
+    )
+}
+
+#[test]
+fn a_failing_disk_shuts_its_own_slot_alone(rt: HostRuntime) -> Result<(), Fail> {
+    says_struck(
+        &rt,
+        rt.alloc(),
+        ROW13_IN,
+        (ROW13_OUT, 0),
+        [(0, ROW13_0), (1, ROW13_1)],
+    )
+}
+
+#[test]
+fn a_full_slot_leaves_room_in_another(rt: HostRuntime) -> Result<(), Fail> {
+    says_struck(
+        &rt,
+        rt.alloc(),
+        ROW16A_IN,
+        (ROW16A_OUT, 0),
+        [(0, ROW16A_0), (1, ROW16A_1)],
+    )
+}
+
+#[test]
+fn thirty_two_names(rt: HostRuntime) -> Result<(), Fail> {
+    says_struck(
+        &rt,
+        rt.alloc(),
+        NAMES_IN,
+        (NAMES_OUT, 0),
+        [(0, NAMES_0), (15, NAMES_15)],
+    )
 }
 
 #[test]

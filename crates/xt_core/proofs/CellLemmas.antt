@@ -1,5 +1,5 @@
 -- A step of one slot, with what the board shows of it.
-use Rattle.std.proofs.Common.{◌≡◌, ◌∙◌, ◌⊎◌, Bool, Option, Some, None, [], ap, false, inl, inr, refl, subst, sym, true, ℕ, List, length, ◌++◌}
+use Rattle.std.proofs.Common.{◌≡◌, ◌∙◌, Bool, Option, Some, None, [], ap, false, inl, inr, refl, subst, sym, true, ℕ, length, ◌++◌}
 use Rattle.std.proofs.lemmas.Bool.{and_parts, false≢true}
 use Rattle.std.specs.Prelude.{MatchBool, ◌&&◌}
 use Rattle.xt_base.specs.Alone.{alone, on_mount, goes_on}

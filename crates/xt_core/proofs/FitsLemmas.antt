@@ -58,7 +58,7 @@ taken_of_slot w m h = filter_map_filter (λ e. take_by w e.step) (λ e. slot_of 
 pub finished_of_slot : (w m : ℕ) (h : List Event) → finished_by w (of_slot m h) ≡ filter (in_slot m) (finished_by w h)
 finished_of_slot w m h = filter_map_filter (λ e. finish_by w e.reply e.step) (λ e. slot_of e.step == m) (in_slot m) (λ e. finish_in_slot w m e.reply e.step) h
 
-not_among_filter : (p : JobName → Bool) (ns : List JobName) (n : JobName) → is_among ns n ≡ false → is_among (filter p ns) n ≡ false
+pub not_among_filter : (p : JobName → Bool) (ns : List JobName) (n : JobName) → is_among ns n ≡ false → is_among (filter p ns) n ≡ false
 not_among_filter p [] n h = refl
 not_among_filter p (x ∷ xs) n h =
     let parts = or_parts (same_name n x) (is_among xs n) h in
@@ -106,7 +106,7 @@ none_left : (o : Option JobName) → is_none_left (option_to_list o) ≡ is_none
 none_left None = refl
 none_left (Some n) = refl
 
-take_common : (h : List Event) (queue : List JobName) (hand : ℕ → Option JobName) (worker : ℕ) (name : JobName) → IsTurn h queue hand
+pub take_common : (h : List Event) (queue : List JobName) (hand : ℕ → Option JobName) (worker : ℕ) (name : JobName) → IsTurn h queue hand
     → keeps_common h (Take worker name) ≡ keeps_turn queue hand (Take worker name)
 take_common h queue hand worker name t =
     ap (λ q. is_first name q && is_none_left (unfinished worker h)) (waiting_is h queue hand t)
@@ -126,7 +126,7 @@ common_step h queue hand s (Show slot) t below turn suit = refl
 common_step h queue hand s (Peek slot) t below turn suit = refl
 
 -- ---- fits
-hand_of_slot : (h : List Event) (queue : List JobName) (hand : ℕ → Option JobName) (worker : ℕ) (name : JobName) → IsTurn h queue hand
+pub hand_of_slot : (h : List Event) (queue : List JobName) (hand : ℕ → Option JobName) (worker : ℕ) (name : JobName) → IsTurn h queue hand
     → is_first name (unfinished worker (of_slot name.slot h)) ≡ is_first name (held_in hand worker)
 hand_of_slot h queue hand worker name t = ap (is_first name) (unfinished_of_slot h queue hand worker name.slot t) ∙ first_in_slot name (hand worker)
 

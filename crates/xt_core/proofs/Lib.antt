@@ -4,8 +4,10 @@ pub mod LifeLemmas
 pub mod OrderLemmas
 pub mod FitsLemmas
 pub mod RunLemmas
-pub mod OneLemmas
 pub mod MemoryLemmas
-pub mod SoloLemmas
+pub mod StruckLemmas
+pub mod HostLemmas
+pub mod HostRunLemmas
 pub mod CellLemmas
+pub mod PlaceLemmas
 pub mod OfferLemmas

@@ -1,33 +1,26 @@
 -- Over any step of a slot its life does not fall, and within a life the last serial does not: so a name that was given stays given.
-use Rattle.std.proofs.Common.{drop, length-take, suc, zero, ◌≡◌, ◌∙◌, ◌⊎◌, ◌+◌, ◌<◌, ◌≤◌, ◌∷◌, Bool, List, None, Option, Some, [], ap, arith, false, inl, length, inr, refl, sym, true, ℕ}
+use Rattle.std.proofs.Common.{◌≡◌, ◌∙◌, ◌⊎◌, ◌+◌, ◌<◌, ◌≤◌, ◌∷◌, Bool, List, None, Option, Some, [], ap, arith, false, inl, inr, refl, sym, true, ℕ}
 use Rattle.std.proofs.lemmas.Bool.{and_parts, cases_Bool, eqb-true, false_from_ne_true, false≢true}
-use Rattle.std.specs.Prelude.{if◌then◌else◌, is_some, nat_lt, not, ◌&&◌, ◌-◌, ◌==◌, ◌||◌}
+use Rattle.std.specs.Prelude.{if◌then◌else◌, ◌&&◌, ◌==◌, ◌||◌}
 use Rattle.xt_core.proofs.NameLemmas.{AreAlike, alike}
 use Rattle.xt_base.specs.Alone.{Turn, alone, call, called, goes_on, is_okay, mount, mount_refusals, mounted_new, on_mount, shown, step_with, turn, unless_refused, with_mount}
-use Rattle.xt_base.specs.Calls.{Outcome, alloc, alloc_refusals, alone_with, answered, asks_ckpt, asks_flush, brought, cancel, closed, commit, commit_number, committed_of, first_of, force, force_to, force_to_refusals, get, get_refusals, gives, held_of, hold, inval, inval_refusals, io_of, is_absent, is_flight, is_no_room, is_unmount, join, join_refusals, legs_after, locked, log, log_refusals, push, read, read_refusals, release, released, roll, shut_down, shut_if, unhold, unless, unmount, unowned, view, waits_for, with_leg, with_legs, with_owner, with_trans, without_hold}
-use Rattle.xt_base.specs.Jobs.{begin, end, end_of, end_offers, flight_pieces, flush, flush_of, flush_offers, flush_plan, is_owed, is_owed_as, posted}
-use Rattle.xt_base.specs.Legs.{aborted, ended, is_dirty, own_count}
-use Rattle.xt_base.specs.Maps.{at, is_in}
+use Rattle.xt_base.specs.Calls.{Outcome, alone_with, first_of, is_unmount, log}
+use Rattle.xt_base.specs.Jobs.{begin, end, end_offers, flush, flush_offers, is_owed, is_owed_as, posted}
 use Rattle.xt_base.specs.Order.{is_among, mount_is, same_name}
 use Rattle.xt_base.specs.Own.{IsOwnIn, IsOwnOf}
-use Rattle.xt_base.specs.Settle.{Dropped, settled}
+use Rattle.xt_base.specs.Settle.{Dropped}
 use Rattle.xt_base.specs.Sound.{Each}
-use Rattle.xt_base.specs.State.{Flight, Leg, Lone, State, Transaction}
+use Rattle.xt_base.specs.State.{Lone, State}
 use Rattle.xt_base.specs.Steps.{slot_of}
-use Rattle.xt_base.specs.Text.{first_pieces, piece_count, text_of}
 use Rattle.xt_base.specs.declared.names.JobKind.{JobKind}
 use Rattle.xt_base.specs.declared.names.JobName.{JobName}
 use Rattle.xt_base.specs.declared.steps.Answer.{Answer}
 use Rattle.xt_base.specs.declared.steps.Errno.{Errno}
-use Rattle.xt_base.specs.declared.steps.Errno.TheVariants.{Again, Invalid, Io, Stale}
-use Rattle.xt_base.specs.declared.steps.HomeAnswers.{HomeAnswers}
+use Rattle.xt_base.specs.declared.steps.Errno.TheVariants.{Stale}
 use Rattle.xt_base.specs.declared.steps.HomeOffer.{HomeOffer}
-use Rattle.xt_base.specs.declared.steps.LogAnswers.{LogAnswers}
 use Rattle.xt_base.specs.declared.steps.LogOffer.{LogOffer}
 use Rattle.xt_base.specs.declared.steps.Reason.{Reason}
-use Rattle.xt_base.specs.declared.steps.Reason.TheVariants.{CorruptIncore}
-use Rattle.xt_base.specs.declared.steps.Owner.TheVariants.{Trans}
-use Rattle.xt_base.specs.declared.steps.Reply.TheVariants.{Done, Free, Kept, Okay, Refused, Wait}
+use Rattle.xt_base.specs.declared.steps.Reply.TheVariants.{Okay, Refused}
 use Rattle.xt_base.specs.declared.steps.Request.{Request}
 use Rattle.xt_base.specs.declared.steps.Step.{Step}
 use Rattle.xt_base.specs.declared.steps.Step.TheVariants.{Begin, Call, End, Flush, Mount, Peek, Post, Show, Take}

@@ -87,6 +87,50 @@ after_none = record {
   retold = λ n. refl;
 }
 
+-- the states of the slots, one by one the same
+pub run_alike : (done : List Step) (h : List Event) (o : Told) (queue : List JobName) (hand : ℕ → Option JobName) (lone lone' : ℕ → Lone) → ((m : ℕ) → lone m ≡ lone' m) → IsAfter done h o queue hand lone → IsAfter done h o queue hand lone'
+run_alike done h o queue hand lone lone' e a = record {
+  slots = a.slots;
+  shut_room = a.shut_room;
+  refused_room = a.refused_room;
+  wanted = a.wanted;
+  happened = a.happened;
+  turn = a.turn;
+  below = λ m. subst (IsBelow m h) (e m) (a.below m);
+  own = λ m. subst (IsOwnOf m) (e m) (a.own m);
+  state = λ m n. sym (e m) ∙ a.state m n;
+  steps = a.steps;
+  turns = a.turns;
+  shut = λ m. a.shut m ∙ ap (λ (s : Lone). reason_of s.mounted) (e m);
+  for_slot = a.for_slot;
+  whole = a.whole;
+  retold = a.retold;
+}
+
+-- hands that hold the same
+pub run_hands : (done : List Step) (h : List Event) (o : Told) (queue : List JobName) (hand hand' : ℕ → Option JobName) (lone : ℕ → Lone) → ((w : ℕ) → hand' w ≡ hand w) → IsAfter done h o queue hand lone → IsAfter done h o queue hand' lone
+run_hands done h o queue hand hand' lone e a = record {
+  slots = a.slots;
+  shut_room = a.shut_room;
+  refused_room = a.refused_room;
+  wanted = a.wanted;
+  happened = a.happened;
+  turn = turn_hands h queue hand hand' a.turn e;
+  below = a.below;
+  own = a.own;
+  state = a.state;
+  steps = a.steps;
+  turns = a.turns;
+  shut = a.shut;
+  for_slot = a.for_slot;
+  whole = a.whole;
+  retold = a.retold;
+}
+
+-- the events are those of what was told
+pub happened_now : (done : List Step) (h : List Event) (o : Told) (queue : List JobName) (hand : ℕ → Option JobName) (lone : ℕ → Lone) → IsAfter done h o queue hand lone → IsAfter done (events done o.turns) o queue hand lone
+happened_now done h o queue hand lone a = subst (λ g. IsAfter done g o queue hand lone) (sym a.happened) a
+
 -- what was told is told rightly
 pub after_tells : (done : List Step) (h : List Event) (o : Told) (queue : List JobName) (hand : ℕ → Option JobName) (lone : ℕ → Lone) → IsAfter done h o queue hand lone → Tells done o
 after_tells done h o queue hand lone a = record {
@@ -157,7 +201,7 @@ module _ (done : List Step) (h : List Event) (o : Told) (queue : List JobName) (
         ap (λ k. slice_index_or (slice_set o.refused t.slot true) k false) (sym same) ∙ ap (λ k. slice_index_or (slice_set o.refused k true) (slot_of x) false) here
         ∙ get_or-set_same o.refused (slot_of x) true false within
 
-    still : (m : ℕ) → is_refused m (told_refused o t reason) ≡ false → (slot_of x ≢ m) × (is_refused m o ≡ false)
+    pub still : (m : ℕ) → is_refused m (told_refused o t reason) ≡ false → (slot_of x ≢ m) × (is_refused m o ≡ false)
     still m n =
         elim (cases_eq (slot_of x) m) [
           | inl same ↦ absurd (false≢true (sym n ∙ set_there m same))

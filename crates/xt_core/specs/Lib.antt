@@ -1,3 +1,5 @@
 pub mod Turns
 pub mod Cells
-pub mod Solo
+pub mod Host
+pub mod Runs
+pub mod InPlace

@@ -1,10 +1,11 @@
-//! The pure host: one slot with its queue and its workers' hands, run over a list of steps.
+//! The pure host: sixteen slots, one queue of names, and the hands of eight workers, run over a list of steps.
 #![tactic(auto)]
 
 mod cell;
+pub mod host;
+pub mod laws;
 mod offers;
 pub mod run;
-mod solo;
 mod turns;
 
-pub use run::run_one;
+pub use host::HostCore;

@@ -1,66 +1,81 @@
-//! The run of one slot over a list of steps.
+//! Runs over a list of steps, and the steps of one slot of a list.
 
-ghost use Rattle.std.specs.Prelude.{◌≡◌, ◌<◌, true, IfOk, IfErr, OnOk};
-ghost use Rattle.xt_base.specs.Isolation.{told_then, TellsOne};
-ghost use Rattle.xt_base.specs.Order.{suits};
-ghost use Rattle.xt_base.specs.Steps.{slot_of};
-ghost use Rattle.xt_core.specs.Solo.{IsFaultOne, IsMore};
+ghost use Rattle.std.specs.Prelude.{◌≡◌, true, IfErr, IfOk};
+ghost use Rattle.xt_base.specs.Isolation.{Tells};
+ghost use Rattle.xt_base.specs.Order.{orderly};
+ghost use Rattle.xt_base.specs.Steps.{strike};
+ghost use Rattle.xt_base.specs.declared.steps.Errno.{Errno as AnErrno};
+ghost use Rattle.xt_core.specs.Runs.{AreStruckOrderly, GivesSame, IsFaultOf, IsNotOrderly, IsStruckBefore};
 
-use crate::solo::{Solo, is_no_memory};
+use crate::host::HostCore;
 use std::alloc::{AllocError, Global};
-use xt_base::outcomes::{Outcomes, RunFault, Turn};
-use xt_base::steps::{Reason, Step};
+use xt_base::names::Slot;
+use xt_base::outcomes::{Outcomes, RunFault};
+use xt_base::steps::{Errno, Step};
 
-/// Notes a turn, and why its slot is shut then. The one error is want of memory.
-fn note(outcomes: &mut Outcomes, turn: Turn, reason: Option<Reason>) -> Result<(), AllocError>
-    ensures told { OnOk result (outcomes.new ≡ told_then outcomes.old turn reason) }
-    ensures range { OnOk result (turn.slot < 16) }
+/// Copies of the steps that name a slot, in order. The one error is want of memory.
+fn copies(alloc: Global, steps: &[Step], slot: Slot) -> Result<Vec<Step>, AllocError>
+    ensures { IfOk result (λ struck. struck.items ≡ strike steps.now slot) }
 {
-    let slot = turn.slot();
-    let refused = is_no_memory(&turn.reply);
-    outcomes.add(turn)?;
-    outcomes.note_shut(slot, reason);
-    if refused {
-        outcomes.note_refused(slot);
-    }
-    Ok(())
-}
-
-/// Takes a step that may come, and notes its turn.
-fn advance(solo: &mut Solo, outcomes: &mut Outcomes, step: &Step) -> Result<(), AllocError>
-    requires slot { slot_of step.now ≡ solo.old.cell.slot }
-    requires suit { suits step.now solo.old.cell.lone ≡ true }
-    ensures { OnOk result (IsMore step.now solo.new solo.old outcomes.new outcomes.old) }
-{
-    let turn = solo.take(step)?;
-    note(outcomes, turn, solo.shut())
-}
-
-/// Runs steps of one slot from the first on: every step names the slot of the first, and each is answered as the
-/// machine of one mount says, or, where a growth was refused, ENOMEM. `Disorder` where a step names another slot or may not come
-/// after those before it, with its place from 0 and what was told before it; `Memory` where a turn or a copy of an
-/// offer found no memory.
-pub fn run_one(alloc: Global, steps: &[Step]) -> Result<Outcomes, RunFault>
-    ensures ok { IfOk result (λ o. TellsOne steps.now o) }
-    ensures fault { IfErr result (IsFaultOne steps.now) }
-{
-    let Ok(mut outcomes) = Outcomes::new(alloc, steps.len()) else {
-        return Err(RunFault::Memory);
-    };
-    let Some(first) = steps.first() else {
-        return Ok(outcomes);
-    };
-    let mut solo = Solo::new(alloc, first.slot());
-    for (at, step) in steps.iter().enumerate() {
-        if !solo.can_take(step) {
-            return Err(RunFault::Disorder {
-                at,
-                before: outcomes,
-            });
+    let mut struck = Vec::new(alloc);
+    for step in steps {
+        if step.slot() == slot {
+            struck.push(step.copy(alloc)?)?;
         }
-        let Ok(()) = advance(&mut solo, &mut outcomes, step) else {
+    }
+    Ok(struck)
+}
+
+impl HostCore {
+    /// Runs steps of any slots, from a new host on.
+    ///
+    /// For every slot of which no step was answered ENOMEM: its replies, what it offered to its log device and its home device,
+    /// and why it is shut are those of the mount alone on its own steps, all others struck out; its steps are orderly by themselves; and a run
+    /// of them alone tells it the same. Other slots may have been refused memory.
+    ///
+    /// `Disorder` at the first step that may not come after those before it, with its place from 0 and what those before it told,
+    /// of which the same holds: where no slot was refused memory, exactly where the list is not orderly. `Memory`
+    /// where what is told, or a copy of an offer, found none.
+    #[tactic(auto, using(crate::proofs::HostRunLemmas::start))]
+    pub fn run(alloc: Global, steps: &[Step]) -> Result<Outcomes, RunFault>
+        ensures alone { IfOk result (λ outcomes. Tells steps.now outcomes) }
+        ensures struck { IfOk result (λ outcomes. AreStruckOrderly steps.now outcomes) }
+        ensures same { IfOk result (λ outcomes. GivesSame steps.now outcomes) }
+        ensures disorder { IfErr result (λ fault. IsFaultOf steps.now fault) }
+        ensures before { IfErr result (λ fault. IsStruckBefore steps.now fault) }
+        ensures unordered { IfErr result (λ fault. IsNotOrderly steps.now fault) }
+    {
+        let Ok(mut outcomes) = Outcomes::new(alloc, steps.len()) else {
             return Err(RunFault::Memory);
         };
+        let Ok(mut host) = HostCore::new(alloc) else {
+            return Err(RunFault::Memory);
+        };
+        for (at, step) in steps.iter().enumerate() {
+            if !host.can_take(step) {
+                return Err(RunFault::Disorder {
+                    at,
+                    before: outcomes,
+                });
+            }
+            let Ok(()) = host.advance(&mut outcomes, step) else {
+                return Err(RunFault::Memory);
+            };
+        }
+        Ok(outcomes)
     }
-    Ok(outcomes)
+
+    /// The steps that name a slot, in order, copied. Of an orderly list they are orderly, and striking them once more changes
+    /// nothing. The one error is ENOMEM.
+    pub fn strike(alloc: Global, steps: &[Step], slot: Slot) -> Result<Vec<Step>, Errno>
+        ensures list { IfOk result (λ struck. struck.items ≡ strike steps.now slot) }
+        ensures orderly { orderly steps.now ≡ true → orderly (strike steps.now slot) ≡ true }
+        ensures twice { strike (strike steps.now slot) slot ≡ strike steps.now slot }
+        ensures memory { IfErr result (λ errno. errno ≡ AnErrno.NoMemory) }
+    {
+        match copies(alloc, steps, slot) {
+            Ok(struck) => Ok(struck),
+            Err(_) => Err(Errno::NoMemory),
+        }
+    }
 }

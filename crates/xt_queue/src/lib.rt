@@ -10,3 +10,6 @@ mod rule;
 mod tests;
 mod views;
 mod words;
+
+pub use board::{Board, Seat};
+pub use jobs::{JobQueue, Passes, PostPass, WorkPass};

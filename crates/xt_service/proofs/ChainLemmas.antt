@@ -1,11 +1,11 @@
 -- Lines answered one after another.
-use Rattle.std.proofs.Common.{List, Option, [], ap, append-nil, append_assoc, arith, length, refl, subst, sym, take, ℕ, ◌++◌, ◌<◌, ◌≡◌, ◌∙◌, ◌∷◌}
+use Rattle.std.proofs.Common.{List, Option, [], ap, append-nil, append_assoc, refl, subst, sym, take, ℕ, ◌++◌, ◌≡◌, ◌∙◌, ◌∷◌}
 use Rattle.std.specs.Io.KnownBytes.{Appends}
 use Rattle.xt_base.specs.declared.steps.Reply.{Reply}
 use Rattle.xt_base.specs.declared.steps.Step.{Step}
 use Rattle.xt_service.proofs.StreamLemmas.{appends_more, appends_none}
 use Rattle.xt_service.specs.Cut.{ended}
-use Rattle.xt_service.specs.Session.{Answered, Breaks, Says, Says.more, Says.none, Writes}
+use Rattle.xt_service.specs.Session.{Breaks, Says, Says.more, Says.none, Writes}
 use Rattle.xt_service.specs.Turns.{IsPartial, IsWhole}
 
 module _ {C : Type 0} (answers : C → Step → Reply → C → Type 0) where

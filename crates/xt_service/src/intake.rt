@@ -1,7 +1,7 @@
 //! What was read of a session's input and is not answered yet.
 
 ghost use Rattle.std.specs.Io.KnownBytes.{Consumes, IsAtEnd, Keeps};
-ghost use Rattle.std.specs.Prelude.{◌≡◌, ◌≤◌, ◌<◌, ◌+◌, ◌-◌, ◌↔◌, [], IfErr, IfOk, IsTrue, MatchResult, OnErr, drop, length, take};
+ghost use Rattle.std.specs.Prelude.{◌≡◌, ◌≤◌, ◌<◌, ◌+◌, ◌-◌, ◌↔◌, [], IfOk, IsTrue, OnErr, drop, length, take};
 ghost use Rattle.xt_service.specs.Intake.{Fetches};
 
 use std::alloc::{AllocError, Global};

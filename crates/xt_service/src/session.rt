@@ -1,6 +1,6 @@
 //! Sessions: what is read, what is answered, and how they end.
 
-ghost use Rattle.std.specs.Prelude.{◌≡◌, ◌≤◌, ◌<◌, ◌+◌, ◌-◌, [], IfNone, IfSome, drop, length, take};
+ghost use Rattle.std.specs.Prelude.{◌≡◌, ◌≤◌, ◌<◌, ◌+◌, ◌-◌, [], IfNone, IfSome, length, take};
 ghost use Rattle.xt_service.specs.Cut.{cut, line_end};
 ghost use Rattle.xt_service.specs.Session.{Breaks, IsSession, Ran, Writes};
 ghost use Rattle.xt_service.specs.Turns.{IsFirst, Last, Turns};

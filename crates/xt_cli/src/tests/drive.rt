@@ -152,16 +152,16 @@ fn is_ckpt(kind: JobKind) -> bool
     }
 }
 
-/// Whether a job is outstanding and not begun.
+/// Whether a job of the mount's slot is outstanding and not begun.
 fn is_waiting(mount: &Mount, name: &JobName) -> bool
-    ensures { result ≡ is_waiting name.now mount.now }
+    ensures { result ≡ true → is_waiting name.now mount.now ≡ true }
 {
     matches!(mount.stage(name), Some(Stage::Waiting))
 }
 
-/// Whether a checkpoint is begun.
+/// Whether a checkpoint of the mount's slot is begun.
 fn is_begun(mount: &Mount, name: &JobName) -> bool
-    ensures { result ≡ is_begun name.now mount.now }
+    ensures { result ≡ true → is_begun name.now mount.now ≡ true }
 {
     matches!(mount.stage(name), Some(Stage::Begun))
 }

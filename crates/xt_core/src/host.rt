@@ -1,0 +1,198 @@
+//! The pure host: sixteen slots, one queue of names, and the hands of eight workers.
+
+ghost use Rattle.std.specs.Prelude.{◌≡◌, ◌<◌, ◌∷◌, ◌++◌, List, [], None, false, true, IfErr, IfOk, OnOk, is_ok};
+ghost use Rattle.xt_base.specs.Alone.{reason_of};
+ghost use Rattle.xt_base.specs.Isolation.{is_no_memory, told_then};
+ghost use Rattle.xt_base.specs.Order.{fits, post_of, told, Event};
+ghost use Rattle.xt_base.specs.Steps.{slot_of};
+ghost use Rattle.xt_base.specs.declared.steps.Step.{Step as AStep};
+ghost use Rattle.xt_core.specs.Host.{happened, lone_of, may_come, was_refused, IsAfter, IsNew, IsStepped};
+ghost use Rattle.xt_core.specs.InPlace.{AreUnused};
+ghost use Rattle.xt_core.specs.Runs.{IsMore, IsSaid};
+
+use crate::cell::SlotCell;
+use crate::turns::Turns;
+use std::alloc::{AllocError, Global};
+use std::marker::Model;
+use xt_base::names::{JobName, Slot};
+use xt_base::outcomes::{Disorder, Offers, Outcomes, Turn};
+use xt_base::steps::{Errno, Reason, Reply, Step};
+
+/// How many slots a host has.
+const SLOTS: u8 = 16;
+
+/// The host. Clauses see the state of each slot by its number, the names that were posted and not taken, and what each
+/// worker took and has not finished. The memory of a mount comes with the mount: an empty slot has none.
+#[derive(Debug, Drop)]
+pub struct HostCore {
+    alloc: Global,
+    cells: Vec<SlotCell>,
+    turns: Turns,
+}
+
+impl Model for HostCore {
+    ghost use Rattle.xt_core.specs.Host.{Host};
+    ghost use Rattle.xt_core.specs.InPlace.{AreInPlace};
+
+    ghost Value = { Host };
+
+    ghost view = { λ h. record { cells = h.cells.items; queue = h.turns.queue; hands = h.turns.hands } };
+
+    ghost invariant = { λ h. AreInPlace h.cells.items };
+}
+
+/// The slot of a number below sixteen.
+fn slot_at(number: u8) -> Slot
+    requires { number < 16 }
+    ensures { result ≡ number }
+{
+    match Slot::new(number) {
+        Some(slot) => slot,
+        None => unreachable!(),
+    }
+}
+
+/// Sixteen slots that were never mounted. The one error is want of memory.
+fn empty_cells(alloc: Global) -> Result<Vec<SlotCell>, AllocError>
+    ensures { IfOk result (λ cells. AreUnused 16 cells.items) }
+{
+    let mut cells = Vec::with_capacity(alloc, SLOTS as usize)?;
+    for number in 0..SLOTS {
+        cells.push(SlotCell::new(alloc, slot_at(number)))?;
+    }
+    Ok(cells)
+}
+
+impl HostCore {
+    /// A host of which no slot was mounted. The one error is want of memory.
+    pub fn new(alloc: Global) -> Result<Self, AllocError>
+        ensures new { IfOk result (λ core. IsNew core) }
+        ensures history { IfOk result (λ core. IsAfter [] core) }
+    {
+        let cells = empty_cells(alloc)?;
+        Ok(HostCore {
+            alloc,
+            cells,
+            turns: Turns::new(alloc),
+        })
+    }
+
+    /// Why a slot is shut, if it is.
+    fn shut(&self, slot: Slot) -> Option<Reason>
+        ensures { result ≡ reason_of (lone_of self.now slot).mounted }
+    {
+        self.cells[slot.index()].shut()
+    }
+
+    /// Whether a step may come now: the front of the queue and its worker's hand let it come, and the state of its own slot does.
+    pub(crate) fn can_take(&self, step: &Step) -> bool
+        ensures { result ≡ may_come self.now step.now }
+    {
+        self.turns.can_take(step) && self.cells[step.slot().index()].suits(step)
+    }
+
+    /// Posts a job that is owed. Its name goes to the queue first: where that finds no memory, nothing changes.
+    fn post(&mut self, name: &JobName) -> Reply
+        requires { may_come self.old (AStep.Post name.now) ≡ true }
+        ensures stepped { IsStepped (AStep.Post name.now) result self.new self.old }
+        ensures range { name.now.slot < 16 }
+    {
+        match self.turns.put(*name) {
+            Ok(()) => {
+                self.cells[name.slot.index()].posted(name);
+                Reply::Okay
+            }
+            Err(_) => Reply::Refused(Errno::NoMemory),
+        }
+    }
+
+    /// Serves a step that is no post, and passes on what it does to the queue and the hands.
+    fn turn(&mut self, step: &Step) -> Reply
+        requires may { may_come self.old step.now ≡ true }
+        requires other { post_of step.now ≡ None }
+        ensures stepped { IsStepped step.now result self.new self.old }
+        ensures range { slot_of step.now < 16 }
+    {
+        let reply = self.cells[step.slot().index()].serve(step);
+        if !is_no_memory(&reply) {
+            self.turns.pass_on(step, &reply);
+        }
+        reply
+    }
+
+    /// Serves a step that may come.
+    fn serve(&mut self, step: &Step) -> Reply
+        requires { may_come self.old step.now ≡ true }
+        ensures stepped { IsStepped step.now result self.new self.old }
+        ensures range { slot_of step.now < 16 }
+    {
+        match step {
+            Step::Post(name) => self.post(name),
+            _ => self.turn(step),
+        }
+    }
+
+    /// Takes one step. `Disorder` where it may not come now, and then nothing changes: it is no step that a running host
+    /// could make. Else its reply, which its slot alone would give, or ENOMEM, and then nothing changes.
+    ///
+    /// A history is the list of the steps that were taken before, with the replies that were given.
+    pub fn step(&mut self, step: Step) -> Result<Reply, Disorder>
+        ensures disorder { IfErr result (λ _. (may_come self.old step ≡ false) × (self.new ≡ self.old)) }
+        ensures taken { IfOk result (λ reply. IsStepped step reply self.new self.old) }
+        ensures history { (h : List Event) → IsAfter h self.old → IfOk result (λ reply. IsAfter (h ++ record { step = step; reply = reply } ∷ []) self.new) }
+        ensures order { (h : List Event) → IsAfter h self.old → was_refused (slot_of step) h ≡ false → is_ok result ≡ fits (happened h) step }
+        ensures reply { (h : List Event) → IsAfter h self.old → was_refused (slot_of step) h ≡ false → IfOk result (λ reply. is_no_memory reply ≡ false → reply ≡ (told (happened h) step).reply) }
+    {
+        if !self.can_take(&step) {
+            return Err(Disorder);
+        }
+        Ok(self.serve(&step))
+    }
+
+    /// Takes a step that may come, and tells its turn: its reply, and what it offered, which is copied. The one error is want of
+    /// memory for the copy, and then nothing changes.
+    fn take(&mut self, step: &Step) -> Result<Turn, AllocError>
+        requires { may_come self.old step.now ≡ true }
+        ensures { IfOk result (λ turn. IsSaid step.now turn self.new self.old) }
+    {
+        let slot = step.slot();
+        let offers = self.cells[slot.index()].offers(self.alloc, step)?;
+        let reply = self.serve(step);
+        if is_no_memory(&reply) {
+            let offers = Offers::none(slot);
+            return Ok(Turn { reply, offers });
+        }
+        Ok(Turn { reply, offers })
+    }
+
+    /// Takes a step that may come, and notes its turn. The one error is want of memory for what is told.
+    pub(crate) fn advance(&mut self, outcomes: &mut Outcomes, step: &Step) -> Result<(), AllocError>
+        requires { may_come self.old step.now ≡ true }
+        ensures { OnOk result (IsMore step.now self.new self.old outcomes.new outcomes.old) }
+    {
+        let turn = self.take(step)?;
+        note(outcomes, turn, self.shut(step.slot()))
+    }
+}
+
+/// Whether a reply is ENOMEM.
+fn is_no_memory(reply: &Reply) -> bool
+    ensures { result ≡ is_no_memory reply.now }
+{
+    matches!(reply, Reply::Refused(Errno::NoMemory))
+}
+
+/// Notes a turn, and why its slot is shut then. The one error is want of memory.
+fn note(outcomes: &mut Outcomes, turn: Turn, reason: Option<Reason>) -> Result<(), AllocError>
+    ensures told { OnOk result (outcomes.new ≡ told_then outcomes.old turn reason) }
+    ensures range { OnOk result (turn.slot < 16) }
+{
+    let slot = turn.slot();
+    let refused = is_no_memory(&turn.reply);
+    outcomes.add(turn)?;
+    outcomes.note_shut(slot, reason);
+    if refused {
+        outcomes.note_refused(slot);
+    }
+    Ok(())
+}
