@@ -4,6 +4,7 @@ use Rattle.std.proofs.lemmas.Bool.{and_parts, cases_Bool, eqb-true, false≢true
 use Rattle.std.specs.Prelude.{if◌then◌else◌, is_some, nat_lt, not, unwrap_or, ◌&&◌, ◌==◌, ◌||◌}
 use Rattle.xt_base.specs.Calls.{Outcome, alone_with, edited, first_of, gives, hold, inval, inval_refusals, invalidated, is_fresh, is_own, log, log_refusals, logged_leg, not_fresh, released, relse, seen, unhold, unless, unowned, view, with_leg, with_owner, with_trans, without_hold}
 use Rattle.xt_base.specs.Chunks.{marks}
+use Rattle.xt_base.specs.Form.{Form}
 use Rattle.xt_base.specs.Laws.{LooksAlike, uses}
 use Rattle.xt_base.specs.Legs.{change_of, is_stale, own_count}
 use Rattle.xt_base.specs.Maps.{at, has, is_in, with_member}
@@ -45,43 +46,44 @@ module _ (t b : ℕ) (s u : State) (like : LooksAlike t b s u) where
   own_alike = ap is_some like.count
 
   -- what it sees of a block that it has
-  pub seen_alike : (leg : Leg) → is_own s t b ≡ true → seen b leg s.frames ≡ seen b leg u.frames
+  pub seen_alike : (leg : Leg) → is_own s t b ≡ true → seen s.form.size b leg s.frames ≡ seen u.form.size b leg u.frames
   seen_alike leg own =
-      ap (λ x. unwrap_or (change_of b leg).edit (if x || is_stale b leg then zeros else content_at b s.frames.committed)) (like.fresh own)
-      ∙ ap (λ x. unwrap_or (change_of b leg).edit (if is_fresh u b || is_stale b leg then zeros else x)) (like.content own)
+      ap (λ x. unwrap_or (change_of b leg).edit (if x || is_stale b leg then zeros s.form.size else content_at s.form.size b s.frames.committed)) (like.fresh own)
+      ∙ ap (λ x. unwrap_or (change_of b leg).edit (if is_fresh u b || is_stale b leg then zeros s.form.size else x)) (like.content own)
+      ∙ ap (λ (f : Form). unwrap_or (change_of b leg).edit (if is_fresh u b || is_stale b leg then zeros f.size else content_at u.form.size b u.frames.committed)) like.form
 
   trans_alike : (f g : Transaction → Outcome) → ((trans : Transaction) → (f trans).reply ≡ (g trans).reply) → (with_trans (at t s.transactions) s f).reply ≡ (with_trans (at t u.transactions) u g).reply
   trans_alike f g h = trans_open (at t s.transactions) s u f g h ∙ ap (λ o. (with_trans o u g).reply) like.trans
 
   view_alike : (trans : Transaction) → (view t b s trans).reply ≡ (view t b u trans).reply
   view_alike trans =
-      let first : (view t b s trans).reply ≡ (if is_own s t b then Reply.Data (seen b trans.leg s.frames) else Refused Invalid) = reply_if (is_own s t b) (gives (Reply.Data (seen b trans.leg s.frames)) s) (gives (Refused Invalid) s) in
-      let second : (view t b u trans).reply ≡ (if is_own u t b then Reply.Data (seen b trans.leg u.frames) else Refused Invalid) = reply_if (is_own u t b) (gives (Reply.Data (seen b trans.leg u.frames)) u) (gives (Refused Invalid) u) in
+      let first : (view t b s trans).reply ≡ (if is_own s t b then Reply.Data (seen s.form.size b trans.leg s.frames) else Refused Invalid) = reply_if (is_own s t b) (gives (Reply.Data (seen s.form.size b trans.leg s.frames)) s) (gives (Refused Invalid) s) in
+      let second : (view t b u trans).reply ≡ (if is_own u t b then Reply.Data (seen u.form.size b trans.leg u.frames) else Refused Invalid) = reply_if (is_own u t b) (gives (Reply.Data (seen u.form.size b trans.leg u.frames)) u) (gives (Refused Invalid) u) in
       let own_or : Bool → List ℕ → Reply = λ c bytes. if c then Reply.Data bytes else Refused Invalid in
       elim (cases_Bool (is_own s t b)) [
         | inl own ↦
-            first ∙ ap (λ c. own_or c (seen b trans.leg s.frames)) own ∙ ap Reply.Data (seen_alike trans.leg own) ∙ sym (ap (λ c. own_or c (seen b trans.leg u.frames)) (sym own_alike ∙ own)) ∙ sym second
+            first ∙ ap (λ c. own_or c (seen s.form.size b trans.leg s.frames)) own ∙ ap Reply.Data (seen_alike trans.leg own) ∙ sym (ap (λ c. own_or c (seen u.form.size b trans.leg u.frames)) (sym own_alike ∙ own)) ∙ sym second
         | inr other ↦
-            first ∙ ap (λ c. own_or c (seen b trans.leg s.frames)) other ∙ sym (ap (λ c. own_or c (seen b trans.leg u.frames)) (sym own_alike ∙ other)) ∙ sym second
+            first ∙ ap (λ c. own_or c (seen s.form.size b trans.leg s.frames)) other ∙ sym (ap (λ c. own_or c (seen u.form.size b trans.leg u.frames)) (sym own_alike ∙ other)) ∙ sym second
       ]
 
   -- what refuses a log request
   log_refused : (first : ℕ) (bytes : List ℕ) (trans : Transaction) → first_of (log_refusals t b first bytes trans s) ≡ first_of (log_refusals t b first bytes trans u)
   log_refused first bytes trans =
-      let empty : Bool = (length bytes == 0) || nat_lt 4096 (first + length bytes) in
-      let part : Bool = not ((first == 0) && (length bytes == 4096)) in
-      let over : Bool = nat_lt trans.unit (charge (edited b [] (marks first (length bytes)) trans.leg).changes) in
-      let tests : Bool → Bool → Option Errno = λ own fresh. first_of ((not own, Invalid) ∷ (empty, Invalid) ∷ ((fresh || is_stale b trans.leg) && part, Invalid) ∷ (over, NoSpace) ∷ []) in
+      let empty : Form → Bool = λ (f : Form). (length bytes == 0) || nat_lt f.size (first + length bytes) in
+      let part : Form → Bool = λ (f : Form). not ((first == 0) && (length bytes == f.size)) in
+      let over : Form → Bool = λ (f : Form). nat_lt trans.unit (charge f.ends (edited b [] (marks first (length bytes)) trans.leg).changes) in
+      let tests : Form → Bool → Bool → Option Errno = λ f own fresh. first_of ((not own, Invalid) ∷ (empty f, Invalid) ∷ ((fresh || is_stale b trans.leg) && part f, Invalid) ∷ (over f, NoSpace) ∷ []) in
       elim (cases_Bool (is_own s t b)) [
-        | inl own ↦ ap (λ c. tests c (is_fresh s b)) own_alike ∙ ap (tests (is_own u t b)) (like.fresh own)
-        | inr other ↦ ap (λ c. tests c (is_fresh s b)) other ∙ sym (ap (λ c. tests c (is_fresh u b)) (sym own_alike ∙ other))
+        | inl own ↦ ap (λ c. tests s.form c (is_fresh s b)) own_alike ∙ ap (tests s.form (is_own u t b)) (like.fresh own) ∙ ap (λ f. tests f (is_own u t b) (is_fresh u b)) like.form
+        | inr other ↦ ap (λ c. tests s.form c (is_fresh s b)) other ∙ sym (ap (λ c. tests u.form c (is_fresh u b)) (sym own_alike ∙ other))
       ]
 
   log_alike : (first : ℕ) (bytes : List ℕ) (trans : Transaction) → (log t b first bytes s trans).reply ≡ (log t b first bytes u trans).reply
   log_alike first bytes trans =
-      reply_unless (first_of (log_refusals t b first bytes trans s)) s (gives Okay (not_fresh b (with_leg t trans (logged_leg b first bytes s.frames trans.leg) s)))
+      reply_unless (first_of (log_refusals t b first bytes trans s)) s (gives Okay (not_fresh b (with_leg t trans (logged_leg s.form.size b first bytes s.frames trans.leg) s)))
       ∙ ap (λ r. reply_or r Okay) (log_refused first bytes trans)
-      ∙ sym (reply_unless (first_of (log_refusals t b first bytes trans u)) u (gives Okay (not_fresh b (with_leg t trans (logged_leg b first bytes u.frames trans.leg) u))))
+      ∙ sym (reply_unless (first_of (log_refusals t b first bytes trans u)) u (gives Okay (not_fresh b (with_leg t trans (logged_leg u.form.size b first bytes u.frames trans.leg) u))))
 
   hold_alike : (trans : Transaction) → (hold t b s trans).reply ≡ (hold t b u trans).reply
   hold_alike trans =
@@ -97,9 +99,10 @@ module _ (t b : ℕ) (s u : State) (like : LooksAlike t b s u) where
 
   inval_alike : (trans : Transaction) → (inval t b s trans).reply ≡ (inval t b u trans).reply
   inval_alike trans =
-      let over : Bool = nat_lt trans.unit (charge (invalidated b trans.leg).changes) in
+      let over : Form → Bool = λ (f : Form). nat_lt trans.unit (charge f.ends (invalidated b trans.leg).changes) in
       reply_unless (first_of (inval_refusals t b trans s)) s (gives Okay (if is_stale b trans.leg then s else not_fresh b (with_leg t trans (invalidated b trans.leg) s)))
-      ∙ ap (λ c. reply_or (first_of ((not c, Invalid) ∷ (over, NoSpace) ∷ [])) Okay) own_alike
+      ∙ ap (λ c. reply_or (first_of ((not c, Invalid) ∷ (over s.form, NoSpace) ∷ [])) Okay) own_alike
+      ∙ ap (λ f. reply_or (first_of ((not (is_own u t b), Invalid) ∷ (over f, NoSpace) ∷ [])) Okay) like.form
       ∙ sym (reply_unless (first_of (inval_refusals t b trans u)) u (gives Okay (if is_stale b trans.leg then u else not_fresh b (with_leg t trans (invalidated b trans.leg) u))))
 
 -- what a relse answers, by the recursion count

@@ -207,7 +207,7 @@ each_marked : (P : ℕ → Type 0) (ks : List ℕ) → Each P ks → Each (λ (e
 each_marked P [] all = tt
 each_marked P (k ∷ ks) all = (all.0, each_marked P ks all.1)
 
-module _ (log_bytes : ℕ) (owners : List (ℕ × Owner)) (transactions : List (ℕ × Transaction)) (l : Items) (sound : AreSound log_bytes owners transactions l) where
+module _ (ends log_bytes : ℕ) (owners : List (ℕ × Owner)) (transactions : List (ℕ × Transaction)) (l : Items) (sound : AreSound ends log_bytes owners transactions l) where
   module _ {V : Type 0} where
     -- a map whose keys are busy blocks
     pub few_busy : (m : List (ℕ × V)) → IsRising m → Each (λ e. is_busy_in owners l e.0 ≡ true) m → length m ≤ 64

@@ -217,7 +217,7 @@ module _ (t unit count : ℕ) (perm : Bool) (s : State) where
         (λ absent. answered_looked b answer fourth.0 (absent_idle b second.0 fourth.0 absent)) (λ resident. locked_looked b (own_count t (at b m.owners)) fourth.0))
 
     view_looked : (b : ℕ) → IsLooked t (new_trans unit count perm) s (view t b m (new_trans unit count perm)).state
-    view_looked b = fact_either (IsLooked t (new_trans unit count perm) s) (is_own m t b) (gives (Reply.Data (seen b clean_leg m.frames)) m) (gives (Refused Invalid) m) (λ own. k) (λ other. k)
+    view_looked b = fact_either (IsLooked t (new_trans unit count perm) s) (is_own m t b) (gives (Reply.Data (seen m.form.size b clean_leg m.frames)) m) (gives (Refused Invalid) m) (λ own. k) (λ other. k)
 
     free_looked : (b : ℕ) → is_own m t b ≡ true → IsLooked t (new_trans unit count perm) s (settled [] (unowned b (with_leg t (new_trans unit count perm) (without_hold b clean_leg) m)))
     free_looked b own =

@@ -20,32 +20,32 @@ suc_zero n = ne_eqb (suc n) 0 (λ h. omega (arith, h))
 
 -- ---- the cost of a list
 -- the cost of a list with an item
-pub cost-cons : (e : ℕ × List ℕ) (es : List (ℕ × List ℕ)) → cost (e ∷ es) ≡ 32 + sum_by item_cost (e ∷ es)
-cost-cons e es = ap {B = ℕ} (λ b. if b then 0 else 32 + sum_by item_cost (e ∷ es)) (suc_zero (length es))
+pub cost-cons : (ends : ℕ) (e : ℕ × List ℕ) (es : List (ℕ × List ℕ)) → cost ends (e ∷ es) ≡ ends + sum_by item_cost (e ∷ es)
+cost-cons ends e es = ap {B = ℕ} (λ b. if b then 0 else ends + sum_by item_cost (e ∷ es)) (suc_zero (length es))
 
 -- the cost of any list
-pub cost-le : (es : List (ℕ × List ℕ)) → cost es ≤ 32 + sum_by item_cost es
-cost-le [] = omega arith
-cost-le (e ∷ es) = omega (arith, cost-cons e es)
+pub cost-le : (ends : ℕ) (es : List (ℕ × List ℕ)) → cost ends es ≤ ends + sum_by item_cost es
+cost-le ends [] = omega arith
+cost-le ends (e ∷ es) = omega (arith, cost-cons ends e es)
 
 -- a list that is not empty
-pub cost-some : (es : List (ℕ × List ℕ)) → 0 < length es → cost es ≡ 32 + sum_by item_cost es
-cost-some [] h = absurd (omega (arith, h))
-cost-some (e ∷ es) h = cost-cons e es
+pub cost-some : (ends : ℕ) (es : List (ℕ × List ℕ)) → 0 < length es → cost ends es ≡ ends + sum_by item_cost es
+cost-some ends [] h = absurd (omega (arith, h))
+cost-some ends (e ∷ es) h = cost-cons ends e es
 
 -- the charge of a leg with a change
-pub charge-cons : (e : ℕ × Change) (es : List (ℕ × Change)) → charge (e ∷ es) ≡ 32 + sum_by change_cost (e ∷ es)
-charge-cons e es = ap {B = ℕ} (λ b. if b then 0 else 32 + sum_by change_cost (e ∷ es)) (suc_zero (length es))
+pub charge-cons : (ends : ℕ) (e : ℕ × Change) (es : List (ℕ × Change)) → charge ends (e ∷ es) ≡ ends + sum_by change_cost (e ∷ es)
+charge-cons ends e es = ap {B = ℕ} (λ b. if b then 0 else ends + sum_by change_cost (e ∷ es)) (suc_zero (length es))
 
 -- the charge of any leg
-pub charge-le : (es : List (ℕ × Change)) → charge es ≤ 32 + sum_by change_cost es
-charge-le [] = omega arith
-charge-le (e ∷ es) = omega (arith, charge-cons e es)
+pub charge-le : (ends : ℕ) (es : List (ℕ × Change)) → charge ends es ≤ ends + sum_by change_cost es
+charge-le ends [] = omega arith
+charge-le ends (e ∷ es) = omega (arith, charge-cons ends e es)
 
 -- the charge of a leg that is not clean
-pub charge-some : (es : List (ℕ × Change)) → 0 < length es → charge es ≡ 32 + sum_by change_cost es
-charge-some [] h = absurd (omega (arith, h))
-charge-some (e ∷ es) h = charge-cons e es
+pub charge-some : (ends : ℕ) (es : List (ℕ × Change)) → 0 < length es → charge ends es ≡ ends + sum_by change_cost es
+charge-some ends [] h = absurd (omega (arith, h))
+charge-some ends (e ∷ es) h = charge-cons ends e es
 
 -- ---- the marks of a leg joined to an item list
 length-joined_of : (old : Option (List ℕ)) (e : ℕ × Change) (b : Bool) → IsCovered e
@@ -72,12 +72,12 @@ sum_with_marks (e ∷ cs) m r all =
     omega (arith, step, later, sum_by-cons change_cost e cs)
 
 -- what a commit adds to the cost was charged
-pub cost-with_marks : (cs : List (ℕ × Change)) (m : List (ℕ × List ℕ)) → IsRising m → Each IsCovered cs → cost (with_marks cs m) ≤ cost m + charge cs
-cost-with_marks [] m r all = omega arith
-cost-with_marks (e ∷ cs) [] r all =
-    omega (arith, cost-le (with_marks (e ∷ cs) []), sum_with_marks (e ∷ cs) [] r all, charge-cons e cs)
-cost-with_marks (e ∷ cs) (x ∷ m) r all =
-    omega (arith, cost-le (with_marks (e ∷ cs) (x ∷ m)), sum_with_marks (e ∷ cs) (x ∷ m) r all, charge-cons e cs, cost-cons x m)
+pub cost-with_marks : (ends : ℕ) (cs : List (ℕ × Change)) (m : List (ℕ × List ℕ)) → IsRising m → Each IsCovered cs → cost ends (with_marks cs m) ≤ cost ends m + charge ends cs
+cost-with_marks ends [] m r all = omega arith
+cost-with_marks ends (e ∷ cs) [] r all =
+    omega (arith, cost-le ends (with_marks (e ∷ cs) []), sum_with_marks (e ∷ cs) [] r all, charge-cons ends e cs)
+cost-with_marks ends (e ∷ cs) (x ∷ m) r all =
+    omega (arith, cost-le ends (with_marks (e ∷ cs) (x ∷ m)), sum_with_marks (e ∷ cs) (x ∷ m) r all, charge-cons ends e cs, cost-cons ends x m)
 
 -- ---- the charge of one more edit
 edit_step : (o : Option Change) (b more before after : ℕ) (none : Change) → length none.charged ≡ 0
@@ -86,39 +86,39 @@ edit_step : (o : Option Change) (b more before after : ℕ) (none : Change) → 
 edit_step None b more before after none empty e = omega (arith, empty, e)
 edit_step (Some c) b more before after none empty e = omega (arith, e)
 
-charge_step : (es fs : List (ℕ × Change)) → length es ≤ length fs → 0 < length fs
-    → charge fs + sum_by change_cost es ≡ (if length es == 0 then 32 else 0) + sum_by change_cost fs + charge es
-charge_step [] fs h p = omega (arith, charge-some fs p)
-charge_step (e ∷ es) fs h p = omega (arith, charge-some fs p, charge-cons e es, ap {B = ℕ} (λ b. if b then 32 else 0) (suc_zero (length es)))
+charge_step : (ends : ℕ) (es fs : List (ℕ × Change)) → length es ≤ length fs → 0 < length fs
+    → charge ends fs + sum_by change_cost es ≡ (if length es == 0 then ends else 0) + sum_by change_cost fs + charge ends es
+charge_step ends [] fs h p = omega (arith, charge-some ends fs p)
+charge_step ends (e ∷ es) fs h p = omega (arith, charge-some ends fs p, charge-cons ends e es, ap {B = ℕ} (λ b. if b then ends else 0) (suc_zero (length es)))
 
--- the charge after an edit: 32 for the first change of a leg, 16 for a block not charged yet, and 128 for each chunk beyond those charged
-pub charge_logged : (b : ℕ) (content marked : List ℕ) (leg : Leg) → IsRising leg.changes
-    → charge (edited b content marked leg).changes + 128 * length (change_of b leg).charged
-    ≡ (if length leg.changes == 0 then 32 else 0) + (if is_in b leg.changes then 0 else 16) + 128 * length (union (change_of b leg).charged marked) + charge leg.changes
-charge_logged b content marked leg r =
+-- the charge after an edit: the ends for the first change of a leg, 16 for a block not charged yet, and 128 for each chunk beyond those charged
+pub charge_logged : (ends : ℕ) (b : ℕ) (content marked : List ℕ) (leg : Leg) → IsRising leg.changes
+    → charge ends (edited b content marked leg).changes + 128 * length (change_of b leg).charged
+    ≡ (if length leg.changes == 0 then ends else 0) + (if is_in b leg.changes then 0 else 16) + 128 * length (union (change_of b leg).charged marked) + charge ends leg.changes
+charge_logged ends b content marked leg r =
     let c : Change = record { edit = Some content; marks = union (change_of b leg).marks marked; charged = union (change_of b leg).charged marked } in
     let none : Change = record { edit = None; marks = []; charged = [] } in
     let sums = sum_put change_cost 0 b c leg.changes r in
     let step = edit_step (at b leg.changes) b (length (union (change_of b leg).charged marked)) (sum_by change_cost leg.changes) (sum_by change_cost (put b c leg.changes)) none refl sums in
-    let whole = charge_step leg.changes (put b c leg.changes) (length_put_ge b c leg.changes) (length_put_positive b c leg.changes) in
+    let whole = charge_step ends leg.changes (put b c leg.changes) (length_put_ge b c leg.changes) (length_put_positive b c leg.changes) in
     omega (arith, step, whole)
 
--- the charge after an invalidation: 32 for the first change of a leg, and 16 for a block not charged yet
-pub charge_invalidated : (b : ℕ) (leg : Leg) → IsRising leg.changes
-    → charge (invalidated b leg).changes ≡ (if length leg.changes == 0 then 32 else 0) + (if is_in b leg.changes then 0 else 16) + charge leg.changes
-charge_invalidated b leg r =
+-- the charge after an invalidation: the ends for the first change of a leg, and 16 for a block not charged yet
+pub charge_invalidated : (ends : ℕ) (b : ℕ) (leg : Leg) → IsRising leg.changes
+    → charge ends (invalidated b leg).changes ≡ (if length leg.changes == 0 then ends else 0) + (if is_in b leg.changes then 0 else 16) + charge ends leg.changes
+charge_invalidated ends b leg r =
     let c : Change = record { edit = None; marks = []; charged = (change_of b leg).charged } in
     let none : Change = record { edit = None; marks = []; charged = [] } in
     let sums = sum_put change_cost 0 b c leg.changes r in
     let step = edit_step (at b leg.changes) b (length (change_of b leg).charged) (sum_by change_cost leg.changes) (sum_by change_cost (put b c leg.changes)) none refl sums in
-    let whole = charge_step leg.changes (put b c leg.changes) (length_put_ge b c leg.changes) (length_put_positive b c leg.changes) in
+    let whole = charge_step ends leg.changes (put b c leg.changes) (length_put_ge b c leg.changes) (length_put_positive b c leg.changes) in
     omega (arith, step, whole)
 
 -- the charge after an edit, where what was charged is a set of chunks: 128 for each chunk newly charged
-pub charge_logged_newly : (b : ℕ) (content marked : List ℕ) (leg : Leg) (p : ℕ → Bool) → IsRising leg.changes → (change_of b leg).charged ≡ chunks_where p
-    → charge (edited b content marked leg).changes
-    ≡ (if length leg.changes == 0 then 32 else 0) + (if is_in b leg.changes then 0 else 16) + 128 * length (newly (change_of b leg).charged marked) + charge leg.changes
-charge_logged_newly b content marked leg p r is =
+pub charge_logged_newly : (ends : ℕ) (b : ℕ) (content marked : List ℕ) (leg : Leg) (p : ℕ → Bool) → IsRising leg.changes → (change_of b leg).charged ≡ chunks_where p
+    → charge ends (edited b content marked leg).changes
+    ≡ (if length leg.changes == 0 then ends else 0) + (if is_in b leg.changes then 0 else 16) + 128 * length (newly (change_of b leg).charged marked) + charge ends leg.changes
+charge_logged_newly ends b content marked leg p r is =
     let split : length (union (change_of b leg).charged marked) ≡ length (change_of b leg).charged + length (newly (change_of b leg).charged marked) =
     subst (λ (x : List ℕ). length (union x marked) ≡ length x + length (newly x marked)) (sym is) (length-union_newly p marked) in
-    omega (arith, charge_logged b content marked leg r, split)
+    omega (arith, charge_logged ends b content marked leg r, split)

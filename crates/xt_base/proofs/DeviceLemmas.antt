@@ -141,7 +141,7 @@ kept_since ail landed = filter_alike (λ e. is_needed ail e.0) (λ e. is_since (
 
 -- the log space in use
 pub used_since : (s : State) → IsSound s
-    → used s ≡ granted s.transactions + cost s.items.cil + cost (flight_items s.items.flight) + sum_by (λ e. e.1) (landed_since (least_number s.items.ail) s.items.landed)
+    → used s ≡ granted s.transactions + cost s.form.ends s.items.cil + cost s.form.ends (flight_items s.items.flight) + sum_by (λ e. e.1) (landed_since (least_number s.items.ail) s.items.landed)
 used_since s h =
-    ap (λ xs. granted s.transactions + cost s.items.cil + cost (flight_items s.items.flight) + sum_by (λ e. e.1) xs)
+    ap (λ xs. granted s.transactions + cost s.form.ends s.items.cil + cost s.form.ends (flight_items s.items.flight) + sum_by (λ e. e.1) xs)
     (sym (filter_whole (λ e. is_needed s.items.ail e.0) s.items.landed h.parts.landed_needed) ∙ kept_since s.items.ail s.items.landed)

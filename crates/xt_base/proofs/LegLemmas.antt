@@ -143,5 +143,5 @@ pub covered_edit : (b : ℕ) (content marked : List ℕ) (leg : Leg) → Each Is
 covered_edit b content marked leg all = has-union_within (change_of b leg).marks (change_of b leg).charged marked (covered_change b leg (at b leg.changes) refl all)
 
 -- an edit is charged alike whatever it writes
-pub charge_alike : (b : ℕ) (content other marked : List ℕ) (leg : Leg) → IsRising leg.changes → charge (edited b content marked leg).changes ≡ charge (edited b other marked leg).changes
-charge_alike b content other marked leg r = omega (arith, charge_logged b content marked leg r, charge_logged b other marked leg r)
+pub charge_alike : (ends b : ℕ) (content other marked : List ℕ) (leg : Leg) → IsRising leg.changes → charge ends (edited b content marked leg).changes ≡ charge ends (edited b other marked leg).changes
+charge_alike ends b content other marked leg r = omega (arith, charge_logged ends b content marked leg r, charge_logged ends b other marked leg r)

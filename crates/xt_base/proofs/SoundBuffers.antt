@@ -38,7 +38,7 @@ sound_get_call t b s h below = sound_unless (first_of (get_refusals t b s)) s (g
 -- a log request
 pub sound_log_call : (t b first : ℕ) (bytes : List ℕ) (s : State) (trans : Transaction) → IsSound s → at t s.transactions ≡ Some trans → IsSound (log t b first bytes s trans).state
 sound_log_call t b first bytes s trans h is =
-    sound_unless (first_of (log_refusals t b first bytes trans s)) s (gives Okay (not_fresh b (with_leg t trans (logged_leg b first bytes s.frames trans.leg) s))) h
+    sound_unless (first_of (log_refusals t b first bytes trans s)) s (gives Okay (not_fresh b (with_leg t trans (logged_leg s.form.size b first bytes s.frames trans.leg) s))) h
     (λ passes. sound_log t b first bytes s trans h is passes)
 
 -- ---- read
@@ -74,12 +74,13 @@ pub sound_holds : (t : ℕ) (holds : List ℕ) (s : State) (trans : Transaction)
 sound_holds t holds s trans h is rises own =
     let leg : Leg = record trans.leg { holds = holds } in
     let ts : List (ℕ × Transaction) = set_at t (record trans { leg = leg }) s.transactions in
-    let fair : IsFair s.owners (t, trans) = each_at (IsFair s.owners) t trans s.transactions is h.parts.fair in
+    let fair : IsFair s.form.ends s.owners (t, trans) = each_at (IsFair s.form.ends s.owners) t trans s.transactions is h.parts.fair in
     record {
+      form = h.form;
       log_small = h.log_small;
       numbers = each_set_at (λ e. e.0 ≤ s.last_trans) t (record trans { leg = leg }) s.transactions (each_at (λ e. e.0 ≤ s.last_trans) t trans s.transactions is h.numbers) h.numbers;
       parts =
-          parts_leg s.log_bytes s.owners s.transactions s.items h.parts t trans leg is
+          parts_leg s.form.ends s.log_bytes s.owners s.transactions s.items h.parts t trans leg is
           (record { unit = fair.unit; rising = fair.rising; covered = fair.covered; owned = fair.owned; holds_rise = rises; holds_owned = own });
       kept = h.kept;
       ready = h.ready;
@@ -101,7 +102,7 @@ sound_holds t holds s trans h is rises own =
 -- a hold
 pub sound_hold : (t b : ℕ) (s : State) (trans : Transaction) → IsSound s → at t s.transactions ≡ Some trans → IsSound (hold t b s trans).state
 sound_hold t b s trans h is =
-    let fair : IsFair s.owners (t, trans) = each_at (IsFair s.owners) t trans s.transactions is h.parts.fair in
+    let fair : IsFair s.form.ends s.owners (t, trans) = each_at (IsFair s.form.ends s.owners) t trans s.transactions is h.parts.fair in
     sound_either (not (is_own s t b) || is_stale b trans.leg) (gives (Refused Invalid) s) (gives Okay (with_leg t trans (record trans.leg { holds = with_member b trans.leg.holds }) s)) (λ refused. h)
     (λ passes.
     let own : is_own s t b ≡ true = not-false (is_own s t b) (or_parts (not (is_own s t b)) (is_stale b trans.leg) passes).0 in
@@ -111,7 +112,7 @@ sound_hold t b s trans h is =
 -- a leg without a hold mark
 pub sound_without_hold : (t b : ℕ) (s : State) (trans : Transaction) → IsSound s → at t s.transactions ≡ Some trans → IsSound (with_leg t trans (without_hold b trans.leg) s)
 sound_without_hold t b s trans h is =
-    let fair : IsFair s.owners (t, trans) = each_at (IsFair s.owners) t trans s.transactions is h.parts.fair in
+    let fair : IsFair s.form.ends s.owners (t, trans) = each_at (IsFair s.form.ends s.owners) t trans s.transactions is h.parts.fair in
     sound_holds t (without_member b trans.leg.holds) s trans h is (rises_keys_filter 0 (λ k. not (k == b)) trans.leg.holds fair.holds_rise)
     (each_filter (λ q. Owns s.owners t q) (λ k. not (k == b)) trans.leg.holds fair.holds_owned)
 
@@ -126,7 +127,7 @@ sound_unhold t b s trans h is =
 pub sound_unowned : (dropped : Dropped) (b : ℕ) (s : State) → IsSound s → is_cancelled (at b s.owners) ≡ false → Each (IsApart b) s.transactions → IsSound (settled dropped (unowned b s))
 sound_unowned dropped b s h live apart =
     let n : State = unowned b s in
-    sound_settling dropped n h.log_small h.numbers (parts_unowned s.log_bytes s.owners s.transactions s.items h.parts b apart) h.kept.committed_rises h.kept.fresh_rises h.ready h.legs_left
+    sound_settling dropped n h.form h.log_small h.numbers (parts_unowned s.form.ends s.log_bytes s.owners s.transactions s.items h.parts b apart) h.kept.committed_rises h.kept.fresh_rises h.ready h.legs_left
     (λ live.
     each_map (IsUnwritten s.owners s.transactions s.items) (λ q. is_busy n q ≡ true → IsUnwritten n.owners n.transactions n.items q) s.frames.fresh
     (λ q u busy. record { owned = left_true (is_in q n.owners) (is_listed n.items q) u.unlisted busy; unlisted = u.unlisted; unchanged = u.unchanged }) (h.fresh_owned live))
@@ -144,13 +145,13 @@ module _ (dropped : Dropped) (t b : ℕ) (s : State) (trans : Transaction) (h : 
   -- a block that a transaction has, and did not change, is free
   pub sound_freed : is_own s t b ≡ true → is_in b trans.leg.changes ≡ false → IsSound (settled dropped (unowned b (with_leg t trans (without_hold b trans.leg) s)))
   sound_freed own unchanged =
-      let fair : IsFair s.owners (t, trans) = each_at (IsFair s.owners) t trans s.transactions is h.parts.fair in
+      let fair : IsFair s.form.ends s.owners (t, trans) = each_at (IsFair s.form.ends s.owners) t trans s.transactions is h.parts.fair in
       sound_unowned dropped b (with_leg t trans (without_hold b trans.leg) s) (sound_without_hold t b s trans h is) (own_not_cancelled t (at b s.owners) own)
       (each_set_other (IsApart b) 0 t (record trans { leg = without_hold b trans.leg }) s.transactions h.parts.transactions_rise (
         each_unlike b trans.leg.changes unchanged,
         each_map (λ q. Owns s.owners t q × (q ≢ b)) (λ q. q ≢ b) (without_member b trans.leg.holds) (λ q both. both.1) (each_without_member (λ q. Owns s.owners t q) b trans.leg.holds fair.holds_owned),
       )
-      (each_map (IsFair s.owners) (λ e. e.0 ≢ t → IsApart b e) s.transactions
+      (each_map (IsFair s.form.ends s.owners) (λ e. e.0 ≢ t → IsApart b e) s.transactions
       (λ e other_fair other. apart_from b s.owners e other_fair (λ theirs. other (own_one e.0 t (at b s.owners) theirs own))) h.parts.fair))
 
   released_sound : (own : Option ℕ) → own_count t (at b s.owners) ≡ own → IsSound (released dropped t b trans s own).state
@@ -200,5 +201,5 @@ pub sound_release : (dropped : Dropped) (b : ℕ) (s : State) → IsSound s → 
 sound_release dropped b s h =
     sound_either (is_held (at b s.owners)) (gives Okay (settled dropped (unowned b s))) (gives (Refused Invalid) s)
     (λ held.
-    sound_unowned dropped b s h (held_not_cancelled (at b s.owners) held) (each_map (IsFair s.owners) (IsApart b) s.transactions (λ e fair. apart_from b s.owners e fair (λ own. held_no_trans e.0 (at b s.owners) held own)) h.parts.fair))
+    sound_unowned dropped b s h (held_not_cancelled (at b s.owners) held) (each_map (IsFair s.form.ends s.owners) (IsApart b) s.transactions (λ e fair. apart_from b s.owners e fair (λ own. held_no_trans e.0 (at b s.owners) held own)) h.parts.fair))
     (λ other. h)

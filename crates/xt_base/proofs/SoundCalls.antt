@@ -18,7 +18,7 @@ use Rattle.xt_base.specs.declared.steps.Request.{Request}
 
 -- a view changes nothing
 pub sound_view : (t b : ℕ) (s : State) (trans : Transaction) → IsSound s → IsSound (view t b s trans).state
-sound_view t b s trans h = sound_either (is_own s t b) (gives (Reply.Data (seen b trans.leg s.frames)) s) (gives (Refused Invalid) s) (λ own. h) (λ other. h)
+sound_view t b s trans h = sound_either (is_own s t b) (gives (Reply.Data (seen s.form.size b trans.leg s.frames)) s) (gives (Refused Invalid) s) (λ own. h) (λ other. h)
 
 -- an unmount changes no mount
 pub sound_unmount : (s : State) → IsSound s → IsSound (unmount s).state

@@ -49,8 +49,8 @@ sound_flushed dropped plan answers s h =
     let n : State = renewed answers (finished JobKind.Flush (record s { items = l })) in
     let r = h.ready in
     let ready : IsReady l n.jobs = record { numbered = r.numbered; bounded = r.bounded; worth = r.worth; room = r.room } in
-    sound_settling dropped n h.log_small h.numbers
-    (parts_cleaned s.log_bytes s.owners s.transactions s.items h.parts (λ e. not (has blocks e.0))) h.kept.committed_rises h.kept.fresh_rises ready h.legs_left
+    sound_settling dropped n h.form h.log_small h.numbers
+    (parts_cleaned s.form.ends s.log_bytes s.owners s.transactions s.items h.parts (λ e. not (has blocks e.0))) h.kept.committed_rises h.kept.fresh_rises ready h.legs_left
     (λ live.
     each_map (IsUnwritten s.owners s.transactions s.items) (λ b. is_busy n b ≡ true → IsUnwritten n.owners n.transactions n.items b) s.frames.fresh
     (λ b u busy.

@@ -28,8 +28,8 @@ either_state true x y hx hy = hx refl
 either_state false x y hx hy = hy refl
 
 -- a leg with a block invalidated, which is charged within the unit
-pub invalidated_fair : (t b : ℕ) (owners : List (ℕ × Owner)) (trans : Transaction) → IsFair owners (t, trans) → Owns owners t b → charge (invalidated b trans.leg).changes ≤ trans.unit
-    → IsFair owners (t, record trans { leg = invalidated b trans.leg })
+pub invalidated_fair : {ends : ℕ} (t b : ℕ) (owners : List (ℕ × Owner)) (trans : Transaction) → IsFair ends owners (t, trans) → Owns owners t b → charge ends (invalidated b trans.leg).changes ≤ trans.unit
+    → IsFair ends owners (t, record trans { leg = invalidated b trans.leg })
 invalidated_fair t b owners trans fair own room =
     let c : Change = record { edit = None; marks = []; charged = (change_of b trans.leg).charged } in
     record {
@@ -44,8 +44,8 @@ invalidated_fair t b owners trans fair own room =
 -- an invalidation
 pub sound_inval : (t b : ℕ) (s : State) (trans : Transaction) → IsSound s → at t s.transactions ≡ Some trans → IsSound (inval t b s trans).state
 sound_inval t b s trans h is =
-    let over : Bool = nat_lt trans.unit (charge (invalidated b trans.leg).changes) in
-    let fair : IsFair s.owners (t, trans) = each_at (IsFair s.owners) t trans s.transactions is h.parts.fair in
+    let over : Bool = nat_lt trans.unit (charge s.form.ends (invalidated b trans.leg).changes) in
+    let fair : IsFair s.form.ends s.owners (t, trans) = each_at (IsFair s.form.ends s.owners) t trans s.transactions is h.parts.fair in
     sound_unless (first_of (inval_refusals t b trans s)) s (gives Okay (if is_stale b trans.leg then s else not_fresh b (with_leg t trans (invalidated b trans.leg) s))) h
     (λ passes.
     let first = passes_first (not (is_own s t b)) Invalid ((over, NoSpace) ∷ []) passes in
@@ -53,7 +53,7 @@ sound_inval t b s trans h is =
     either_state (is_stale b trans.leg) s (not_fresh b (with_leg t trans (invalidated b trans.leg) s)) (λ stale. h)
     (λ new.
     sound_changed t b (record { edit = None; marks = []; charged = (change_of b trans.leg).charged }) (without_member b trans.leg.holds) s trans h is
-    (invalidated_fair t b s.owners trans fair (not-false (is_own s t b) first.0) (ltb-false trans.unit (charge (invalidated b trans.leg).changes) second.0))))
+    (invalidated_fair t b s.owners trans fair (not-false (is_own s t b) first.0) (ltb-false trans.unit (charge s.form.ends (invalidated b trans.leg).changes) second.0))))
 
 -- ---- cancel
 no_changes : (cs : List (ℕ × Change)) → (length cs == 0) ≡ true → cs ≡ []
@@ -68,7 +68,7 @@ module _ (dropped : Dropped) (t : ℕ) (s : State) (trans : Transaction) (h : Is
   -- a dirty leg is given up, and the mount shut
   pub sound_dirty_cancel : IsSound (settled dropped (shut_down CorruptIncore (closed t (aborted t trans.leg s))))
   sound_dirty_cancel =
-      sound_settling dropped (shut_down CorruptIncore (closed t (aborted t trans.leg s))) h.log_small (each_without (λ e. e.0 ≤ s.last_trans) t s.transactions h.numbers) (parts_aborted s.log_bytes s.owners s.transactions s.items h.parts t trans is)
+      sound_settling dropped (shut_down CorruptIncore (closed t (aborted t trans.leg s))) h.form h.log_small (each_without (λ e. e.0 ≤ s.last_trans) t s.transactions h.numbers) (parts_aborted s.form.ends s.log_bytes s.owners s.transactions s.items h.parts t trans is)
       (rises_filter 0 (λ e. not (is_lost trans.leg e.0)) s.frames.committed h.kept.committed_rises) (rises_with_lost trans.leg.changes trans.leg s.frames.fresh h.kept.fresh_rises) h.ready
       (λ live. absurd (shut_for_some CorruptIncore s.shut live)) (λ live. absurd (shut_for_some CorruptIncore s.shut live)) (given_aborted s.last_trans t trans.leg s.owners h.given)
       (λ live. absurd (shut_for_some CorruptIncore s.shut live))
@@ -78,7 +78,7 @@ module _ (dropped : Dropped) (t : ℕ) (s : State) (trans : Transaction) (h : Is
   sound_clean_cancel clean =
       let n : State = closed t (aborted t trans.leg s) in
       let same : s.frames.fresh ≡ n.frames.fresh = sym (ap (λ (cs : List (ℕ × Change)). with_lost cs trans.leg s.frames.fresh) clean) in
-      sound_settling dropped n h.log_small (each_without (λ e. e.0 ≤ s.last_trans) t s.transactions h.numbers) (parts_aborted s.log_bytes s.owners s.transactions s.items h.parts t trans is)
+      sound_settling dropped n h.form h.log_small (each_without (λ e. e.0 ≤ s.last_trans) t s.transactions h.numbers) (parts_aborted s.form.ends s.log_bytes s.owners s.transactions s.items h.parts t trans is)
       (rises_filter 0 (λ e. not (is_lost trans.leg e.0)) s.frames.committed h.kept.committed_rises) (rises_with_lost trans.leg.changes trans.leg s.frames.fresh h.kept.fresh_rises) h.ready
       (λ live. each_without (λ e. 1 ≤ e.1.legs) t s.transactions (h.legs_left live))
       (λ live.
@@ -91,7 +91,7 @@ module _ (dropped : Dropped) (t : ℕ) (s : State) (trans : Transaction) (h : Is
       })
       (h.fresh_owned live)))
       (given_aborted s.last_trans t trans.leg s.owners h.given)
-      (λ live. written_clean s.owners s.frames.committed s.items (h.written live) t trans h.parts.owners_rise (each_at (IsFair s.owners) t trans s.transactions is h.parts.fair) clean)
+      (λ live. written_clean s.owners s.frames.committed s.items (h.written live) t trans h.parts.owners_rise (each_at (IsFair s.form.ends s.owners) t trans s.transactions is h.parts.fair) clean)
 
   cancel_sound : (dirty : Bool) → is_dirty trans.leg ≡ dirty → IsSound (settled dropped (shut_if dirty CorruptIncore (closed t (aborted t trans.leg s))))
   cancel_sound true has_changes = sound_dirty_cancel
@@ -134,7 +134,7 @@ module _ (dropped : Dropped) (t : ℕ) (s : State) (trans : Transaction) (h : Is
   -- a leg is given up, on a shut mount, and its transaction stays
   pub sound_given_up : is_some s.shut ≡ true → IsSound (settled dropped (with_legs t 0 trans (aborted t trans.leg s)))
   sound_given_up shut =
-      sound_settling dropped (with_legs t 0 trans (aborted t trans.leg s)) h.log_small (each_set_at (λ e. e.0 ≤ s.last_trans) t (record trans { legs = 0; leg = clean_leg }) s.transactions (each_at (λ e. e.0 ≤ s.last_trans) t trans s.transactions is h.numbers) h.numbers) (parts_given_up s.log_bytes s.owners s.transactions s.items h.parts t trans is)
+      sound_settling dropped (with_legs t 0 trans (aborted t trans.leg s)) h.form h.log_small (each_set_at (λ e. e.0 ≤ s.last_trans) t (record trans { legs = 0; leg = clean_leg }) s.transactions (each_at (λ e. e.0 ≤ s.last_trans) t trans s.transactions is h.numbers) h.numbers) (parts_given_up s.form.ends s.log_bytes s.owners s.transactions s.items h.parts t trans is)
       (rises_filter 0 (λ e. not (is_lost trans.leg e.0)) s.frames.committed h.kept.committed_rises) (rises_with_lost trans.leg.changes trans.leg s.frames.fresh h.kept.fresh_rises) h.ready
       (λ live. absurd (is_none_some s.shut live shut)) (λ live. absurd (is_none_some s.shut live shut)) (given_aborted s.last_trans t trans.leg s.owners h.given) (λ live. absurd (is_none_some s.shut live shut))
 
@@ -142,11 +142,11 @@ module _ (dropped : Dropped) (t : ℕ) (s : State) (trans : Transaction) (h : Is
   room_after : is_none s.shut ≡ true → is_no_room t trans s ≡ false → used (ungranted t trans s) + trans.unit * legs_after trans.legs ≤ s.log_bytes
   room_after live room =
       let legs : 1 ≤ trans.legs = each_at (λ e. 1 ≤ e.1.legs) t trans s.transactions is (h.legs_left live) in
-      let fair : IsFair s.owners (t, trans) = each_at (IsFair s.owners) t trans s.transactions is h.parts.fair in
+      let fair : IsFair s.form.ends s.owners (t, trans) = each_at (IsFair s.form.ends s.owners) t trans s.transactions is h.parts.fair in
       let unit = fair.unit in
       let space = h.parts.space in
-      let less = granted_less s.log_bytes s.owners s.transactions s.items h.parts t trans is in
-      let added = cost_added s.log_bytes s.owners s.transactions s.items h.parts t trans is in
+      let less = granted_less s.form.ends s.log_bytes s.owners s.transactions s.items h.parts t trans is in
+      let added = cost_added s.form.ends s.log_bytes s.owners s.transactions s.items h.parts t trans is in
       elim (unit_after trans.unit trans.legs legs) [
         | inl more ↦ omega (arith, more, unit, space, less, added)
         | inr last ↦
@@ -164,8 +164,8 @@ module _ (dropped : Dropped) (t : ℕ) (s : State) (trans : Transaction) (h : Is
       let legs : ℕ = legs_after trans.legs in
       let n : State = with_legs t legs trans (ended t trans.leg s) in
       let after = room_after live room in
-      sound_settling dropped n h.log_small (each_set_at (λ e. e.0 ≤ s.last_trans) t (record trans { legs = legs; leg = clean_leg }) s.transactions (each_at (λ e. e.0 ≤ s.last_trans) t trans s.transactions is h.numbers) h.numbers)
-      (parts_rolled s.log_bytes s.owners s.transactions s.items h.parts t trans is legs (omega (arith, after)))
+      sound_settling dropped n h.form h.log_small (each_set_at (λ e. e.0 ≤ s.last_trans) t (record trans { legs = legs; leg = clean_leg }) s.transactions (each_at (λ e. e.0 ≤ s.last_trans) t trans s.transactions is h.numbers) h.numbers)
+      (parts_rolled s.form.ends s.log_bytes s.owners s.transactions s.items h.parts t trans is legs (omega (arith, after)))
       (rises_with_edits trans.leg.changes s.frames.committed h.kept.committed_rises) h.kept.fresh_rises (ready_ended s.items trans.leg.changes s.jobs h.ready)
       (λ l. each_set_at (λ e. 1 ≤ e.1.legs) t (record trans { legs = legs; leg = clean_leg }) s.transactions (legs_some trans.legs) (h.legs_left l))
       (λ l.
@@ -181,7 +181,7 @@ module _ (dropped : Dropped) (t : ℕ) (s : State) (trans : Transaction) (h : Is
       })
       (h.fresh_owned l))
       (given_ended s.last_trans t trans.leg s.items.open_number s.owners h.given)
-      (λ l. written_ended s.owners s.frames.committed s.items (h.written l) t trans h.parts.owners_rise (each_at (IsFair s.owners) t trans s.transactions is h.parts.fair) h.parts.flying)
+      (λ l. written_ended s.owners s.frames.committed s.items (h.written l) t trans h.parts.owners_rise (each_at (IsFair s.form.ends s.owners) t trans s.transactions is h.parts.fair) h.parts.flying)
 
   -- a roll
   pub sound_roll : IsSound (roll dropped t s trans).state

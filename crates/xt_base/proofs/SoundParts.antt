@@ -67,7 +67,7 @@ none_else t b owners free u here = own_one t u (at b owners) (mine_if (is_in b o
 
 -- ---- fairness under other owners
 -- a transaction stays fair where it keeps its blocks
-pub fair_with : (os ns : List (ℕ × Owner)) (e : ℕ × Transaction) → ((b : ℕ) → Owns os e.0 b → Owns ns e.0 b) → IsFair os e → IsFair ns e
+pub fair_with : {ends : ℕ} (os ns : List (ℕ × Owner)) (e : ℕ × Transaction) → ((b : ℕ) → Owns os e.0 b → Owns ns e.0 b) → IsFair ends os e → IsFair ends ns e
 fair_with os ns e still fair = record {
   unit = fair.unit;
   rising = fair.rising;
@@ -82,7 +82,7 @@ abbrev pub IsApart : ℕ → ℕ × Transaction → Type 0
 IsApart b e = Each (λ c. c.0 ≢ b) e.1.leg.changes × Each (λ k. k ≢ b) e.1.leg.holds
 
 -- a transaction stays fair where it loses a block that its leg is apart from
-pub fair_without : (b : ℕ) (owners : List (ℕ × Owner)) (e : ℕ × Transaction) → IsFair owners e → IsApart b e → IsFair (without b owners) e
+pub fair_without : {ends : ℕ} (b : ℕ) (owners : List (ℕ × Owner)) (e : ℕ × Transaction) → IsFair ends owners e → IsApart b e → IsFair ends (without b owners) e
 fair_without b owners e fair apart =
     let still : (q : ℕ) → Owns owners e.0 q → q ≢ b → Owns (without b owners) e.0 q = λ q own other. ap (λ o. is_some (own_count e.0 o)) (at_without_other b q owners other) ∙ own in
     record {
@@ -99,7 +99,7 @@ fair_without b owners e fair apart =
     }
 
 -- a leg is apart from what its transaction does not have
-pub apart_from : (b : ℕ) (owners : List (ℕ × Owner)) (e : ℕ × Transaction) → IsFair owners e → (Owns owners e.0 b → ⊥) → IsApart b e
+pub apart_from : {ends : ℕ} (b : ℕ) (owners : List (ℕ × Owner)) (e : ℕ × Transaction) → IsFair ends owners e → (Owns owners e.0 b → ⊥) → IsApart b e
 apart_from b owners e fair none = (
   each_map (λ c. Owns owners e.0 c.0) (λ c. c.0 ≢ b) e.1.leg.changes (λ c own same. none (subst (λ (x : ℕ). Owns owners e.0 x) same own)) fair.owned,
   each_map (λ q. Owns owners e.0 q) (λ q. q ≢ b) e.1.leg.holds (λ q own same. none (subst (λ (x : ℕ). Owns owners e.0 x) same own)) fair.holds_owned,
@@ -114,14 +114,14 @@ between_cleaned : (o : Option Flight) (l : Items) (ail : List (ℕ × ℕ)) (q :
 between_cleaned None l ail q h = tt
 between_cleaned (Some f) l ail q h = (h.0, each_filter (λ e. e.0 < f.number) q l.landed h.1)
 
-no_flight : (o : Option Flight) → is_none o ≡ true → cost (flight_items o) ≡ 0
-no_flight None h = refl
-no_flight (Some f) h = absurd (cc)
+no_flight : (ends : ℕ) (o : Option Flight) → is_none o ≡ true → cost ends (flight_items o) ≡ 0
+no_flight ends None h = refl
+no_flight ends (Some f) h = absurd (cc)
 
 -- ---- a new mount
 -- a new mount
-pub parts_empty : (log_bytes : ℕ) → AreSound log_bytes [] [] (record { open_number = 1; cil = []; flight = None; ail = []; landed = [] })
-parts_empty log_bytes = record {
+pub parts_empty : (ends log_bytes : ℕ) → AreSound ends log_bytes [] [] (record { open_number = 1; cil = []; flight = None; ail = []; landed = [] })
+parts_empty ends log_bytes = record {
   space = omega arith;
   busy = omega arith;
   owners_rise = tt;
@@ -175,11 +175,11 @@ owns_landed number u b owners h =
     let own = own_trans u (at b owners) h in
     ap (λ o. is_some (own_count u o)) (at_filter b (Trans u own.0) (λ e. not (waits_on number e.1)) owners own.1 refl) ∙ ap is_some (own_itself u own.0)
 
-module _ (log_bytes : ℕ) (owners : List (ℕ × Owner)) (ts : List (ℕ × Transaction)) (l : Items) (h : AreSound log_bytes owners ts l) where
+module _ (ends log_bytes : ℕ) (owners : List (ℕ × Owner)) (ts : List (ℕ × Transaction)) (l : Items) (h : AreSound ends log_bytes owners ts l) where
   -- ---- a transaction opens
   -- a transaction opens, within the log
-  pub parts_opened : (t : ℕ) (trans : Transaction) → IsFair owners (t, trans)
-      → granted ts + cost l.cil + cost (flight_items l.flight) + sum_by (λ e. e.1) l.landed + trans.unit * trans.legs ≤ log_bytes → AreSound log_bytes owners (put t trans ts) l
+  pub parts_opened : (t : ℕ) (trans : Transaction) → IsFair ends owners (t, trans)
+      → granted ts + cost ends l.cil + cost ends (flight_items l.flight) + sum_by (λ e. e.1) l.landed + trans.unit * trans.legs ≤ log_bytes → AreSound ends log_bytes owners (put t trans ts) l
   parts_opened t trans fair room = record {
     space = omega (arith, room, sum_put_le (λ e. e.1.unit * e.1.legs) t trans ts);
     busy = h.busy;
@@ -192,12 +192,12 @@ module _ (log_bytes : ℕ) (owners : List (ℕ × Owner)) (ts : List (ℕ × Tra
     landed_below = h.landed_below;
     landed_needed = h.landed_needed;
     flying = h.flying;
-    fair = each_put (IsFair owners) t trans ts fair h.fair;
+    fair = each_put (IsFair ends owners) t trans ts fair h.fair;
   }
 
   -- ---- a transaction has another leg
   -- a transaction has another leg
-  pub parts_leg : (t : ℕ) (trans : Transaction) (leg : Leg) → at t ts ≡ Some trans → IsFair owners (t, record trans { leg = leg }) → AreSound log_bytes owners (set_at t (record trans { leg = leg }) ts) l
+  pub parts_leg : (t : ℕ) (trans : Transaction) (leg : Leg) → at t ts ≡ Some trans → IsFair ends owners (t, record trans { leg = leg }) → AreSound ends log_bytes owners (set_at t (record trans { leg = leg }) ts) l
   parts_leg t trans leg is fair =
       let space = h.space in
       record {
@@ -212,7 +212,7 @@ module _ (log_bytes : ℕ) (owners : List (ℕ × Owner)) (ts : List (ℕ × Tra
         landed_below = h.landed_below;
         landed_needed = h.landed_needed;
         flying = h.flying;
-        fair = each_set_at (IsFair owners) t (record trans { leg = leg }) ts fair h.fair;
+        fair = each_set_at (IsFair ends owners) t (record trans { leg = leg }) ts fair h.fair;
       }
 
   -- ---- a transaction locks a block that no other has
@@ -239,7 +239,7 @@ module _ (log_bytes : ℕ) (owners : List (ℕ × Owner)) (ts : List (ℕ × Tra
         ]
 
     -- a transaction locks a block that no other has, where it is busy or one more may be
-    pub parts_locked : (is_busy_in owners l b ≡ true) ⊎ (length owners + count_beside owners l < 64) → AreSound log_bytes (put b (Trans t count) owners) ts l
+    pub parts_locked : (is_busy_in owners l b ≡ true) ⊎ (length owners + count_beside owners l < 64) → AreSound ends log_bytes (put b (Trans t count) owners) ts l
     parts_locked room =
         let rises : IsRising (put b (Trans t count) owners) = rises_put 0 b (Trans t count) owners (omega arith) h.owners_rise in
         let few = h.busy in
@@ -259,7 +259,7 @@ module _ (log_bytes : ℕ) (owners : List (ℕ × Owner)) (ts : List (ℕ × Tra
           landed_below = h.landed_below;
           landed_needed = h.landed_needed;
           flying = h.flying;
-          fair = each_map (IsFair owners) (IsFair (put b (Trans t count) owners)) ts (λ e fair. fair_with owners (put b (Trans t count) owners) e (λ q own. owns_locked e.0 q own) fair) h.fair;
+          fair = each_map (IsFair ends owners) (IsFair ends (put b (Trans t count) owners)) ts (λ e fair. fair_with owners (put b (Trans t count) owners) e (λ q own. owns_locked e.0 q own) fair) h.fair;
         }
 
   -- ---- a transaction ends
@@ -268,9 +268,9 @@ module _ (log_bytes : ℕ) (owners : List (ℕ × Owner)) (ts : List (ℕ × Tra
     pub granted_less : granted (without t ts) + trans.unit * trans.legs ≡ granted ts
     granted_less = omega (arith, sum_without (λ e. e.1.unit * e.1.legs) t ts, ap (weight_at (λ e. e.1.unit * e.1.legs) t) is)
 
-    fair_others : (ns : List (ℕ × Owner)) → ((u b : ℕ) → u ≢ t → Owns owners u b → Owns ns u b) → Each (IsFair ns) (without t ts)
+    fair_others : (ns : List (ℕ × Owner)) → ((u b : ℕ) → u ≢ t → Owns owners u b → Owns ns u b) → Each (IsFair ends ns) (without t ts)
     fair_others ns still =
-        each_map (λ e. IsFair owners e × (e.0 ≢ t)) (IsFair ns) (without t ts) (λ e both. fair_with owners ns e (λ b own. still e.0 b both.1 own) both.0) (each_other (IsFair owners) 0 t ts h.transactions_rise h.fair)
+        each_map (λ e. IsFair ends owners e × (e.0 ≢ t)) (IsFair ends ns) (without t ts) (λ e both. fair_with owners ns e (λ b own. still e.0 b both.1 own) both.0) (each_other (IsFair ends owners) 0 t ts h.transactions_rise h.fair)
 
     -- the transaction with a clean leg, and so many legs left
     abbrev pub rolled : ℕ → List (ℕ × Transaction)
@@ -280,12 +280,12 @@ module _ (log_bytes : ℕ) (owners : List (ℕ × Owner)) (ts : List (ℕ × Tra
     pub granted_rolled : (legs : ℕ) → granted (rolled legs) ≡ granted (without t ts) + trans.unit * legs
     granted_rolled legs = omega (arith, granted_less, sum_set (λ e. e.1.unit * e.1.legs) t trans (record trans { legs = legs; leg = clean_leg }) ts is)
 
-    fair_rolled : (ns : List (ℕ × Owner)) (legs : ℕ) → ((u b : ℕ) → u ≢ t → Owns owners u b → Owns ns u b) → Each (IsFair ns) (rolled legs)
+    fair_rolled : (ns : List (ℕ × Owner)) (legs : ℕ) → ((u b : ℕ) → u ≢ t → Owns owners u b → Owns ns u b) → Each (IsFair ends ns) (rolled legs)
     fair_rolled ns legs still =
-        each_set_other (IsFair ns) 0 t (record trans { legs = legs; leg = clean_leg }) ts h.transactions_rise (record { unit = omega arith; rising = tt; covered = tt; owned = tt; holds_rise = tt; holds_owned = tt })
-        (each_map (IsFair owners) (λ e. e.0 ≢ t → IsFair ns e) ts (λ e fair other. fair_with owners ns e (λ b own. still e.0 b other own) fair) h.fair)
+        each_set_other (IsFair ends ns) 0 t (record trans { legs = legs; leg = clean_leg }) ts h.transactions_rise (record { unit = omega arith; rising = tt; covered = tt; owned = tt; holds_rise = tt; holds_owned = tt })
+        (each_map (IsFair ends owners) (λ e. e.0 ≢ t → IsFair ends ns e) ts (λ e fair other. fair_with owners ns e (λ b own. still e.0 b other own) fair) h.fair)
 
-    aborted_with : (us : List (ℕ × Transaction)) → granted us ≤ granted ts → IsRising us → Each (IsFair (filter_map (owner_aborted t trans.leg) owners)) us → AreSound log_bytes (filter_map (owner_aborted t trans.leg) owners) us l
+    aborted_with : (us : List (ℕ × Transaction)) → granted us ≤ granted ts → IsRising us → Each (IsFair ends (filter_map (owner_aborted t trans.leg) owners)) us → AreSound ends log_bytes (filter_map (owner_aborted t trans.leg) owners) us l
     aborted_with us less rising fair =
         let ns : List (ℕ × Owner) = filter_map (owner_aborted t trans.leg) owners in
         let rises : IsRising ns = rises_filter_map 0 (owner_aborted t trans.leg) owners (keeps_owner_aborted t trans.leg) h.owners_rise in
@@ -314,24 +314,24 @@ module _ (log_bytes : ℕ) (owners : List (ℕ × Owner)) (ts : List (ℕ × Tra
         }
 
     -- a leg is given up and its transaction ends
-    pub parts_aborted : AreSound log_bytes (filter_map (owner_aborted t trans.leg) owners) (without t ts) l
+    pub parts_aborted : AreSound ends log_bytes (filter_map (owner_aborted t trans.leg) owners) (without t ts) l
     parts_aborted =
         aborted_with (without t ts) (omega (arith, granted_less)) (rises_without 0 t ts h.transactions_rise)
         (fair_others (filter_map (owner_aborted t trans.leg) owners) (λ u b other own. owns_aborted t u b trans.leg owners other own))
 
     -- a leg is given up and its transaction stays, with no leg left
-    pub parts_given_up : AreSound log_bytes (filter_map (owner_aborted t trans.leg) owners) (rolled 0) l
+    pub parts_given_up : AreSound ends log_bytes (filter_map (owner_aborted t trans.leg) owners) (rolled 0) l
     parts_given_up =
         aborted_with (rolled 0) (omega (arith, granted_less, granted_rolled 0)) (rises_set_at 0 t (record trans { legs = 0; leg = clean_leg }) ts h.transactions_rise)
         (fair_rolled (filter_map (owner_aborted t trans.leg) owners) 0 (λ u b other own. owns_aborted t u b trans.leg owners other own))
 
-    ended_with : (us : List (ℕ × Transaction)) → granted us + cost (with_marks trans.leg.changes l.cil) + cost (flight_items l.flight) + sum_by (λ e. e.1) l.landed ≤ log_bytes → IsRising us
-        → Each (IsFair (filter_map (owner_after t trans.leg l.open_number) owners)) us
-        → AreSound log_bytes (filter_map (owner_after t trans.leg l.open_number) owners) us (record l { cil = with_marks trans.leg.changes l.cil })
+    ended_with : (us : List (ℕ × Transaction)) → granted us + cost ends (with_marks trans.leg.changes l.cil) + cost ends (flight_items l.flight) + sum_by (λ e. e.1) l.landed ≤ log_bytes → IsRising us
+        → Each (IsFair ends (filter_map (owner_after t trans.leg l.open_number) owners)) us
+        → AreSound ends log_bytes (filter_map (owner_after t trans.leg l.open_number) owners) us (record l { cil = with_marks trans.leg.changes l.cil })
     ended_with us space rising fair =
         let ns : List (ℕ × Owner) = filter_map (owner_after t trans.leg l.open_number) owners in
         let n : Items = record l { cil = with_marks trans.leg.changes l.cil } in
-        let old : IsFair owners (t, trans) = each_at (IsFair owners) t trans ts is h.fair in
+        let old : IsFair ends owners (t, trans) = each_at (IsFair ends owners) t trans ts is h.fair in
         let rises : IsRising ns = rises_filter_map 0 (owner_after t trans.leg l.open_number) owners (keeps_owner_after t trans.leg l.open_number) h.owners_rise in
         let marked : IsRising n.cil = rises_with_marks trans.leg.changes l.cil h.cil_rises in
         let few = h.busy in
@@ -364,29 +364,29 @@ module _ (log_bytes : ℕ) (owners : List (ℕ × Owner)) (ts : List (ℕ × Tra
         }
 
     -- what a commit adds to the items was charged
-    pub cost_added : cost (with_marks trans.leg.changes l.cil) ≤ cost l.cil + charge trans.leg.changes
+    pub cost_added : cost ends (with_marks trans.leg.changes l.cil) ≤ cost ends l.cil + charge ends trans.leg.changes
     cost_added =
-        let old : IsFair owners (t, trans) = each_at (IsFair owners) t trans ts is h.fair in
-        cost-with_marks trans.leg.changes l.cil h.cil_rises old.covered
+        let old : IsFair ends owners (t, trans) = each_at (IsFair ends owners) t trans ts is h.fair in
+        cost-with_marks ends trans.leg.changes l.cil h.cil_rises old.covered
 
     -- the marks that reach the list were charged, and the grant goes
-    pub parts_ended : charge trans.leg.changes ≤ trans.unit * trans.legs
-        → AreSound log_bytes (filter_map (owner_after t trans.leg l.open_number) owners) (without t ts) (record l { cil = with_marks trans.leg.changes l.cil })
+    pub parts_ended : charge ends trans.leg.changes ≤ trans.unit * trans.legs
+        → AreSound ends log_bytes (filter_map (owner_after t trans.leg l.open_number) owners) (without t ts) (record l { cil = with_marks trans.leg.changes l.cil })
     parts_ended within =
         let space = h.space in
         ended_with (without t ts) (omega (arith, space, within, granted_less, cost_added)) (rises_without 0 t ts h.transactions_rise)
         (fair_others (filter_map (owner_after t trans.leg l.open_number) owners) (λ u b other own. owns_after t u b trans.leg l.open_number owners other own))
 
     -- a leg is committed and its transaction goes on, with so many legs left for which there is room
-    pub parts_rolled : (legs : ℕ) → granted (without t ts) + trans.unit * legs + cost (with_marks trans.leg.changes l.cil) + cost (flight_items l.flight) + sum_by (λ e. e.1) l.landed ≤ log_bytes
-        → AreSound log_bytes (filter_map (owner_after t trans.leg l.open_number) owners) (rolled legs) (record l { cil = with_marks trans.leg.changes l.cil })
+    pub parts_rolled : (legs : ℕ) → granted (without t ts) + trans.unit * legs + cost ends (with_marks trans.leg.changes l.cil) + cost ends (flight_items l.flight) + sum_by (λ e. e.1) l.landed ≤ log_bytes
+        → AreSound ends log_bytes (filter_map (owner_after t trans.leg l.open_number) owners) (rolled legs) (record l { cil = with_marks trans.leg.changes l.cil })
     parts_rolled legs room =
         ended_with (rolled legs) (omega (arith, room, granted_rolled legs)) (rises_set_at 0 t (record trans { legs = legs; leg = clean_leg }) ts h.transactions_rise)
         (fair_rolled (filter_map (owner_after t trans.leg l.open_number) owners) legs (λ u b other own. owns_after t u b trans.leg l.open_number owners other own))
 
   -- ---- a block loses its owner
   -- a block loses its owner, where the open transactions are fair without it
-  pub parts_unowned : (b : ℕ) → Each (IsApart b) ts → AreSound log_bytes (without b owners) ts l
+  pub parts_unowned : (b : ℕ) → Each (IsApart b) ts → AreSound ends log_bytes (without b owners) ts l
   parts_unowned b apart =
       let ns : List (ℕ × Owner) = without b owners in
       let rises : IsRising ns = rises_without 0 b owners h.owners_rise in
@@ -409,12 +409,12 @@ module _ (log_bytes : ℕ) (owners : List (ℕ × Owner)) (ts : List (ℕ × Tra
         landed_below = h.landed_below;
         landed_needed = h.landed_needed;
         flying = h.flying;
-        fair = each_map (λ e. IsFair owners e × IsApart b e) (IsFair ns) ts (λ e both. fair_without b owners e both.0 both.1) (each_both (IsFair owners) (IsApart b) ts h.fair apart);
+        fair = each_map (λ e. IsFair ends owners e × IsApart b e) (IsFair ends ns) ts (λ e both. fair_without b owners e both.0 both.1) (each_both (IsFair ends owners) (IsApart b) ts h.fair apart);
       }
 
   -- ---- blocks leave the active list
   -- blocks leave the active list, and landed checkpoints count no more
-  pub parts_cleaned : (p : ℕ × ℕ → Bool) → AreSound log_bytes owners ts (with_active (filter p l.ail) l.landed l)
+  pub parts_cleaned : (p : ℕ × ℕ → Bool) → AreSound ends log_bytes owners ts (with_active (filter p l.ail) l.landed l)
   parts_cleaned p =
       let q : ℕ × ℕ → Bool = λ e. is_needed (filter p l.ail) e.0 in
       let n : Items = record l { ail = filter p l.ail; landed = filter q l.landed } in
@@ -445,13 +445,13 @@ module _ (log_bytes : ℕ) (owners : List (ℕ × Owner)) (ts : List (ℕ × Tra
   -- ---- a checkpoint begins
   -- a checkpoint begins
   pub parts_flown : (pieces : List (List ℕ)) → is_none l.flight ≡ true
-      → AreSound log_bytes owners ts (record l { open_number = l.open_number + 1; cil = []; flight = Some (record { number = l.open_number; items = l.cil; pieces = pieces }) })
+      → AreSound ends log_bytes owners ts (record l { open_number = l.open_number + 1; cil = []; flight = Some (record { number = l.open_number; items = l.cil; pieces = pieces }) })
   parts_flown pieces none =
       let n : Items = record l { open_number = l.open_number + 1; cil = []; flight = Some (record { number = l.open_number; items = l.cil; pieces = pieces }) } in
       let space = h.space in
       let few = h.busy in
       record {
-        space = omega (arith, space, no_flight l.flight none);
+        space = omega (arith, space, no_flight ends l.flight none);
         busy =
             omega (
               arith,
@@ -473,7 +473,7 @@ module _ (log_bytes : ℕ) (owners : List (ℕ × Owner)) (ts : List (ℕ × Tra
 
   -- ---- the flight is given up
   -- the flight is given up
-  pub parts_failed : AreSound log_bytes owners ts (record l { flight = None })
+  pub parts_failed : AreSound ends log_bytes owners ts (record l { flight = None })
   parts_failed =
       let n : Items = record l { flight = None } in
       let space = h.space in
@@ -501,11 +501,11 @@ module _ (log_bytes : ℕ) (owners : List (ℕ × Owner)) (ts : List (ℕ × Tra
 
   -- ---- the flight is on the log
   -- the flight is on the log
-  pub parts_landed : (f : Flight) → l.flight ≡ Some f → AreSound log_bytes (filter (λ e. not (waits_on f.number e.1)) owners) ts (landed_items f l)
+  pub parts_landed : (f : Flight) → l.flight ≡ Some f → AreSound ends log_bytes (filter (λ e. not (waits_on f.number e.1)) owners) ts (landed_items ends f l)
   parts_landed f is =
       let ns : List (ℕ × Owner) = filter (λ e. not (waits_on f.number e.1)) owners in
       let ail : List (ℕ × ℕ) = activated f.number f.items l.ail in
-      let n : Items = landed_items f l in
+      let n : Items = landed_items ends f l in
       let between : (f.number < l.open_number) × AllBelow f.number l.landed = subst (λ o. IsBetween o l) is h.flying in
       let rises : IsRising ns = rises_filter 0 (λ e. not (waits_on f.number e.1)) owners h.owners_rise in
       let active : IsRising ail = rises_activated f.number f.items l.ail h.ail_rises in
@@ -514,7 +514,7 @@ module _ (log_bytes : ℕ) (owners : List (ℕ × Owner)) (ts : List (ℕ × Tra
       let few = h.busy in
       record {
         space =
-            omega (arith, space, ap (λ o. cost (flight_items o)) is, sum_filter_le (λ e. e.1) (λ e. is_needed ail e.0) (put f.number (cost f.items) l.landed), sum_put_le (λ e. e.1) f.number (cost f.items) l.landed);
+            omega (arith, space, ap (λ o. cost ends (flight_items o)) is, sum_filter_le (λ e. e.1) (λ e. is_needed ail e.0) (put f.number (cost ends f.items) l.landed), sum_put_le (λ e. e.1) f.number (cost ends f.items) l.landed);
         busy =
             omega (
               arith,
@@ -528,11 +528,11 @@ module _ (log_bytes : ℕ) (owners : List (ℕ × Owner)) (ts : List (ℕ × Tra
         cil_rises = h.cil_rises;
         flight_rises = tt;
         ail_rises = active;
-        landed_rises = rises_filter 0 (λ e. is_needed ail e.0) (put f.number (cost f.items) l.landed) (rises_put 0 f.number (cost f.items) l.landed (omega arith) h.landed_rises);
+        landed_rises = rises_filter 0 (λ e. is_needed ail e.0) (put f.number (cost ends f.items) l.landed) (rises_put 0 f.number (cost ends f.items) l.landed (omega arith) h.landed_rises);
         landed_below =
-            each_filter (λ e. e.0 < l.open_number) (λ e. is_needed ail e.0) (put f.number (cost f.items) l.landed)
-            (each_put (λ e. e.0 < l.open_number) f.number (cost f.items) l.landed between.0 h.landed_below);
-        landed_needed = each_passes (λ e. is_needed ail e.0) (put f.number (cost f.items) l.landed);
+            each_filter (λ e. e.0 < l.open_number) (λ e. is_needed ail e.0) (put f.number (cost ends f.items) l.landed)
+            (each_put (λ e. e.0 < l.open_number) f.number (cost ends f.items) l.landed between.0 h.landed_below);
+        landed_needed = each_passes (λ e. is_needed ail e.0) (put f.number (cost ends f.items) l.landed);
         flying = tt;
-        fair = each_map (IsFair owners) (IsFair ns) ts (λ e fair. fair_with owners ns e (λ b own. owns_landed f.number e.0 b owners own) fair) h.fair;
+        fair = each_map (IsFair ends owners) (IsFair ends ns) ts (λ e fair. fair_with owners ns e (λ b own. owns_landed f.number e.0 b owners own) fair) h.fair;
       }

@@ -14,6 +14,7 @@ use Rattle.xt_base.proofs.WrittenLemmas.{free_not_cancelled, written_ended, writ
 use Rattle.xt_base.specs.declared.steps.Reply.TheVariants.{Failed, Landed, Nothing, Okay, Refused, Wait}
 use Rattle.xt_base.specs.Calls.{Outcome, commit_number, committed_of, gives, held_of, io_of, alloc, alloc_refusals, allocated, asks_ckpt, asks_flush, at_end, brought, busied, closed, commit, edited, first_of, force, get_refusals, is_elsewhere, is_fresh, is_own, locked, log_refusals, logged_leg, made_fresh, new_trans, not_fresh, overwritten, push, seen, shut_down, shut_for, shutdown, unless, waits_for, with_leg, with_owner}
 use Rattle.xt_base.specs.Chunks.{marks, union}
+use Rattle.xt_base.specs.Form.{Form, IsForm}
 use Rattle.xt_base.specs.Jobs.{activated, begin, begun, end, end_of, failed, finished, flown, is_ckpt, is_ok, is_outstanding, is_owed, is_serial, is_waiting, is_wanted, job, landed, landed_items, next_pieces, posted, waits_on}
 use Rattle.xt_base.specs.Legs.{aborted, change_of, ended, is_dirty, is_lost, is_stale, own_count, with_marks}
 use Rattle.xt_base.specs.Maps.{at, is_in, put, set_at, without_member}
@@ -23,6 +24,7 @@ use Rattle.xt_base.specs.Space.{busy_count, change_cost, charge, cost, flight_it
 use Rattle.xt_base.specs.State.{Change, Flight, Frames, Items, Jobs, Leg, State, Transaction, mount_of}
 use Rattle.xt_base.specs.declared.names.JobKind.{JobKind}
 use Rattle.xt_base.specs.declared.names.JobName.{JobName}
+use Rattle.xt_base.specs.declared.sizes.TheConstants.{MOST_LOG}
 use Rattle.xt_base.specs.declared.steps.Errno.{Errno}
 use Rattle.xt_base.specs.declared.steps.Errno.TheVariants.{Again, Invalid, Io, NoBufs, NoSpace}
 use Rattle.xt_base.specs.declared.steps.LogAnswers.{LogAnswers}
@@ -95,7 +97,7 @@ not_marked cs m b changed old =
     (λ there. elim (is_in_with_marks b cs m there) [ inl now ↦ false≢true (sym changed ∙ now) | inr was ↦ false≢true (sym old ∙ was) ])
 
 -- a block that nobody has was changed by nobody
-unchanged_by : (owners : List (ℕ × Owner)) (e : ℕ × Transaction) (b : ℕ) → is_in b owners ≡ false → IsFair owners e → is_in b e.1.leg.changes ≡ false
+unchanged_by : {ends : ℕ} (owners : List (ℕ × Owner)) (e : ℕ × Transaction) (b : ℕ) → is_in b owners ≡ false → IsFair ends owners e → is_in b e.1.leg.changes ≡ false
 unchanged_by owners e b other fair =
     false_from_ne_true (is_in b e.1.leg.changes) (λ there. false≢true (sym other ∙ owned_there e.0 b owners (each_in (λ q. Owns owners e.0 q) b e.1.leg.changes there fair.owned)))
 
@@ -121,6 +123,7 @@ shut_for_some reason (Some first) h = absurd (cc)
 -- a mount is shut
 pub sound_shut_down : (reason : Reason) (s : State) → IsSound s → IsSound (shut_down reason s)
 sound_shut_down reason s h = record {
+  form = h.form;
   log_small = h.log_small;
   numbers = h.numbers;
   parts = h.parts;
@@ -143,6 +146,7 @@ ready_jobs l j k same r = record {
 -- other jobs, with the same outstanding checkpoint
 pub sound_jobs : (k : Jobs) (s : State) → k.ckpt ≡ s.jobs.ckpt → IsSound s → IsSound (record s { jobs = k })
 sound_jobs k s same h = record {
+  form = h.form;
   log_small = h.log_small;
   numbers = h.numbers;
   parts = h.parts;
@@ -178,11 +182,12 @@ sound_shutdown s h = sound_shut_down ForceUmount s h
 
 -- ---- mount
 -- a new mount with a log of at most 16 MiB
-pub sound_mount : (slot life log_bytes blocks : ℕ) → log_bytes ≤ 16777216 → IsSound (mount_of slot life log_bytes blocks)
-sound_mount slot life log_bytes blocks small = record {
+pub sound_mount : (slot life log_bytes blocks : ℕ) (form : Form) → IsForm form → log_bytes ≤ MOST_LOG → IsSound (mount_of slot life log_bytes blocks form)
+sound_mount slot life log_bytes blocks form is small = record {
+  form = is;
   log_small = small;
   numbers = tt;
-  parts = parts_empty log_bytes;
+  parts = parts_empty form.ends log_bytes;
   kept = record { committed_rises = tt; committed_busy = tt; fresh_rises = tt; fresh_busy = tt };
   ready = record { numbered = omega arith; bounded = omega arith; worth = λ out none. absurd (cc out); room = λ out none. absurd (cc out) };
   legs_left = λ live. tt;
@@ -193,11 +198,12 @@ sound_mount slot life log_bytes blocks small = record {
 
 -- ---- settling
 -- what holds of a state as it settles: what is not busy leaves its frames
-pub sound_settling : (dropped : Dropped) (s : State) → s.log_bytes ≤ 16777216 → AreNumbered s.last_trans s.transactions → AreSound s.log_bytes s.owners s.transactions s.items → IsRising s.frames.committed → RisesFromKeys 0 s.frames.fresh → IsReady s.items s.jobs
+pub sound_settling : (dropped : Dropped) (s : State) → IsForm s.form → s.log_bytes ≤ MOST_LOG → AreNumbered s.last_trans s.transactions → AreSound s.form.ends s.log_bytes s.owners s.transactions s.items → IsRising s.frames.committed → RisesFromKeys 0 s.frames.fresh → IsReady s.items s.jobs
     → (is_none s.shut ≡ true → Each (λ e. 1 ≤ e.1.legs) s.transactions)
     → (is_none s.shut ≡ true → Each (λ b. is_busy s b ≡ true → IsUnwritten s.owners s.transactions s.items b) s.frames.fresh)
     → AreGiven s.last_trans s.owners → (is_none s.shut ≡ true → AreWritten s.owners s.frames.committed s.items) → IsSound (settled dropped s)
-sound_settling dropped s small numbers parts committed fresh ready legs unwritten given written = record {
+sound_settling dropped s form small numbers parts committed fresh ready legs unwritten given written = record {
+  form = form;
   log_small = small;
   numbers = numbers;
   parts = parts;
@@ -220,16 +226,17 @@ sound_settling dropped s small numbers parts committed fresh ready legs unwritte
 -- a sound mount settles
 pub sound_settled : (dropped : Dropped) (s : State) → IsSound s → IsSound (settled dropped s)
 sound_settled dropped s h =
-    sound_settling dropped s h.log_small h.numbers h.parts h.kept.committed_rises h.kept.fresh_rises h.ready h.legs_left
+    sound_settling dropped s h.form h.log_small h.numbers h.parts h.kept.committed_rises h.kept.fresh_rises h.ready h.legs_left
     (λ live. each_map (IsUnwritten s.owners s.transactions s.items) (λ b. is_busy s b ≡ true → IsUnwritten s.owners s.transactions s.items b) s.frames.fresh (λ b u busy. u) (h.fresh_owned live)) h.given h.written
 
 -- ---- alloc
 -- a transaction opens, where its grant finds room
 pub sound_allocated : (unit count : ℕ) (perm : Bool) (s : State) → IsSound s → 1 ≤ count → used s + unit * count ≤ s.log_bytes → IsSound (allocated unit count perm s).state
 sound_allocated unit count perm s h some room = record {
+  form = h.form;
   log_small = h.log_small;
   numbers = each_put (λ e. e.0 ≤ s.last_trans + 1) (s.last_trans + 1) (new_trans unit count perm) s.transactions (omega arith) (each_map (λ e. e.0 ≤ s.last_trans) (λ e. e.0 ≤ s.last_trans + 1) s.transactions (λ e below. omega (arith, below)) h.numbers);
-  parts = parts_opened s.log_bytes s.owners s.transactions s.items h.parts (s.last_trans + 1) (new_trans unit count perm) (record { unit = omega arith; rising = tt; covered = tt; owned = tt; holds_rise = tt; holds_owned = tt }) room;
+  parts = parts_opened s.form.ends s.log_bytes s.owners s.transactions s.items h.parts (s.last_trans + 1) (new_trans unit count perm) (record { unit = omega arith; rising = tt; covered = tt; owned = tt; holds_rise = tt; holds_owned = tt }) room;
   kept = h.kept;
   ready = h.ready;
   legs_left = λ live. each_put (λ e. 1 ≤ e.1.legs) (s.last_trans + 1) (new_trans unit count perm) s.transactions some (h.legs_left live);
@@ -264,7 +271,7 @@ ready_posted JobKind.Ckpt s r wanted =
     let last : Bool = s.items.open_number == greatest in
     let empty : Bool = length s.items.cil == 0 in
     let least : ℕ = if s.jobs.asked_ckpt then 0 else s.log_bytes / 8 in
-    let three : (is_none s.items.flight && not last && not empty) ≡ true = (and_parts (is_none s.items.flight && not last && not empty) (nat_le least (cost s.items.cil)) wanted).0 in
+    let three : (is_none s.items.flight && not last && not empty) ≡ true = (and_parts (is_none s.items.flight && not last && not empty) (nat_le least (cost s.form.ends s.items.cil)) wanted).0 in
     let two : (is_none s.items.flight && not last) ≡ true = (and_parts (is_none s.items.flight && not last) (not empty) three).0 in
     let some : empty ≡ false = not-true empty (and_parts (is_none s.items.flight && not last) (not empty) three).1 in
     let left : last ≡ false = not-true last (and_parts (is_none s.items.flight) (not last) two).1 in
@@ -280,6 +287,7 @@ ready_posted JobKind.Flush s r wanted = ready_jobs s.items s.jobs (posted JobKin
 -- a job that is owed is posted
 pub sound_posted : (kind : JobKind) (s : State) → IsSound s → is_owed kind s ≡ true → IsSound (posted kind s)
 sound_posted kind s h owed = record {
+  form = h.form;
   log_small = h.log_small;
   numbers = h.numbers;
   parts = h.parts;
@@ -313,6 +321,7 @@ ready_finished l n j same r =
 -- no checkpoint is outstanding
 pub sound_finished : (s : State) → IsSound s → IsSound (finished JobKind.Ckpt s)
 sound_finished s h = record {
+  form = h.form;
   log_small = h.log_small;
   numbers = h.numbers;
   parts = h.parts;
@@ -345,9 +354,10 @@ module _ (s : State) (h : IsSound s) where
       let room = h.ready.room out none in
       let n : State = flown pieces s in
       record {
+        form = h.form;
         log_small = h.log_small;
         numbers = h.numbers;
-        parts = parts_flown s.log_bytes s.owners s.transactions s.items h.parts pieces none;
+        parts = parts_flown s.form.ends s.log_bytes s.owners s.transactions s.items h.parts pieces none;
         kept = kept_on n (λ b busy. busy_by s.owners s.items b (is_busy n b) (busy_owned n.owners n.items b) (busy_flying n.owners n.items b) (λ there. absurd (none_flying s.items.flight b none there)) (busy_active n.owners n.items b) busy);
         ready = record {
           numbered = omega arith;
@@ -378,17 +388,17 @@ module _ (s : State) (h : IsSound s) where
   -- the flight is given up, and the mount is shut
   pub sound_failed : (dropped : Dropped) → IsSound (failed dropped s)
   sound_failed dropped =
-      sound_settling dropped (finished JobKind.Ckpt (shut_down LogIoError (record s { items = record s.items { flight = None } }))) h.log_small h.numbers
-      (parts_failed s.log_bytes s.owners s.transactions s.items h.parts) h.kept.committed_rises h.kept.fresh_rises (ready_finished s.items (record s.items { flight = None }) s.jobs refl h.ready)
+      sound_settling dropped (finished JobKind.Ckpt (shut_down LogIoError (record s { items = record s.items { flight = None } }))) h.form h.log_small h.numbers
+      (parts_failed s.form.ends s.log_bytes s.owners s.transactions s.items h.parts) h.kept.committed_rises h.kept.fresh_rises (ready_finished s.items (record s.items { flight = None }) s.jobs refl h.ready)
       (λ live. absurd (shut_for_some LogIoError s.shut live)) (λ live. absurd (shut_for_some LogIoError s.shut live)) h.given (λ live. absurd (shut_for_some LogIoError s.shut live))
 
   -- the flight is on the log
   pub sound_landed : (dropped : Dropped) (f : Flight) → s.items.flight ≡ Some f → IsSound (landed dropped f s)
   sound_landed dropped f is =
       let ns : List (ℕ × Owner) = filter (λ e. not (waits_on f.number e.1)) s.owners in
-      let n : Items = landed_items f s.items in
-      sound_settling dropped (finished JobKind.Ckpt (record s { owners = ns; items = n })) h.log_small h.numbers
-      (parts_landed s.log_bytes s.owners s.transactions s.items h.parts f is) h.kept.committed_rises h.kept.fresh_rises (ready_finished s.items n s.jobs refl h.ready) h.legs_left
+      let n : Items = landed_items s.form.ends f s.items in
+      sound_settling dropped (finished JobKind.Ckpt (record s { owners = ns; items = n })) h.form h.log_small h.numbers
+      (parts_landed s.form.ends s.log_bytes s.owners s.transactions s.items h.parts f is) h.kept.committed_rises h.kept.fresh_rises (ready_finished s.items n s.jobs refl h.ready) h.legs_left
       (λ live.
       each_map (IsUnwritten s.owners s.transactions s.items) (λ b. is_busy_in ns n b ≡ true → IsUnwritten ns s.transactions n b) s.frames.fresh
       (λ b u busy.
@@ -398,7 +408,7 @@ module _ (s : State) (h : IsSound s) where
       record { owned = left_true (is_in b ns) (is_listed n b) unlisted busy; unlisted = unlisted; unchanged = u.unchanged })
       (h.fresh_owned live))
       (each_filter (IsGiven s.last_trans) (λ e. not (waits_on f.number e.1)) s.owners h.given)
-      (λ live. written_landed s.owners s.frames.committed s.items (h.written live) f is (flies_below s.items f is h.parts.flying) h.parts.owners_rise (subst (λ o. IsRising (flight_items o)) is h.parts.flight_rises) h.parts.ail_rises)
+      (λ live. written_landed s.owners s.frames.committed s.items (h.written live) s.form.ends f is (flies_below s.items f is h.parts.flying) h.parts.owners_rise (subst (λ o. IsRising (flight_items o)) is h.parts.flight_rises) h.parts.ail_rises)
 
   end_sound : (dropped : Dropped) (answers : LogAnswers) (o : Option Flight) → s.items.flight ≡ o → IsSound (end_of dropped answers s o).state
   end_sound dropped answers None is = h
@@ -429,9 +439,10 @@ module _ (t b count : ℕ) (s : State) (h : IsSound s) (below : t ≤ s.last_tra
       → (is_none s.shut ≡ true → Each (IsUnwritten (put b (Trans t count) s.owners) s.transactions s.items) frames.fresh) → ((q : ℕ) → is_in q s.frames.committed ≡ true → is_in q frames.committed ≡ true)
       → IsSound (with_owner b (Trans t count) (record s { frames = frames }))
   sound_owner frames room kept unwritten more = record {
+    form = h.form;
     log_small = h.log_small;
     numbers = h.numbers;
-    parts = parts_locked s.log_bytes s.owners s.transactions s.items h.parts t b count free room;
+    parts = parts_locked s.form.ends s.log_bytes s.owners s.transactions s.items h.parts t b count free room;
     kept = kept;
     ready = h.ready;
     legs_left = h.legs_left;
@@ -470,7 +481,7 @@ module _ (t b count : ℕ) (s : State) (h : IsSound s) (below : t ≤ s.last_tra
       let new : IsUnwritten (put b (Trans t count) s.owners) s.transactions s.items b = record {
         owned = ap is_some (at_put_same b (Trans t count) s.owners);
         unlisted = apart.1;
-        unchanged = each_map (IsFair s.owners) (λ e. is_in b e.1.leg.changes ≡ false) s.transactions (λ e fair. unchanged_by s.owners e b apart.0 fair) h.parts.fair;
+        unchanged = each_map (IsFair s.form.ends s.owners) (λ e. is_in b e.1.leg.changes ≡ false) s.transactions (λ e fair. unchanged_by s.owners e b apart.0 fair) h.parts.fair;
       } in
       sound_owner (made_fresh b s).frames (inr room)
       (record {
@@ -508,12 +519,12 @@ sound_get t b s h below passes =
 
 -- ---- log
 -- a leg with one more edit, which is charged within the unit
-pub edit_fair : (t b : ℕ) (content marked : List ℕ) (owners : List (ℕ × Owner)) (trans : Transaction) → IsFair owners (t, trans) → Owns owners t b
-    → charge (edited b [] marked trans.leg).changes ≤ trans.unit → IsFair owners (t, record trans { leg = edited b content marked trans.leg })
-edit_fair t b content marked owners trans fair own room =
+pub edit_fair : (ends t b : ℕ) (content marked : List ℕ) (owners : List (ℕ × Owner)) (trans : Transaction) → IsFair ends owners (t, trans) → Owns owners t b
+    → charge ends (edited b [] marked trans.leg).changes ≤ trans.unit → IsFair ends owners (t, record trans { leg = edited b content marked trans.leg })
+edit_fair ends t b content marked owners trans fair own room =
     let c : Change = record { edit = Some content; marks = union (change_of b trans.leg).marks marked; charged = union (change_of b trans.leg).charged marked } in
     record {
-      unit = omega (arith, room, charge_alike b content [] marked trans.leg fair.rising);
+      unit = omega (arith, room, charge_alike ends b content [] marked trans.leg fair.rising);
       rising = rises_put 0 b c trans.leg.changes (omega arith) fair.rising;
       covered = each_put IsCovered b c trans.leg.changes (covered_edit b content marked trans.leg fair.covered) fair.covered;
       owned = each_put (λ e. Owns owners t e.0) b c trans.leg.changes own fair.owned;
@@ -523,14 +534,15 @@ edit_fair t b content marked owners trans fair own room =
 
 -- a transaction's leg changes one more block, which is fresh no more
 pub sound_changed : (t b : ℕ) (c : Change) (holds : List ℕ) (s : State) (trans : Transaction) → IsSound s → at t s.transactions ≡ Some trans
-    → IsFair s.owners (t, record trans { leg = record { changes = put b c trans.leg.changes; holds = holds } }) → IsSound (not_fresh b (with_leg t trans (record { changes = put b c trans.leg.changes; holds = holds }) s))
+    → IsFair s.form.ends s.owners (t, record trans { leg = record { changes = put b c trans.leg.changes; holds = holds } }) → IsSound (not_fresh b (with_leg t trans (record { changes = put b c trans.leg.changes; holds = holds }) s))
 sound_changed t b c holds s trans h is fair =
     let leg : Leg = record { changes = put b c trans.leg.changes; holds = holds } in
     let ts : List (ℕ × Transaction) = set_at t (record trans { leg = leg }) s.transactions in
     record {
+      form = h.form;
       log_small = h.log_small;
       numbers = each_set_at (λ e. e.0 ≤ s.last_trans) t (record trans { leg = leg }) s.transactions (each_at (λ e. e.0 ≤ s.last_trans) t trans s.transactions is h.numbers) h.numbers;
-      parts = parts_leg s.log_bytes s.owners s.transactions s.items h.parts t trans leg is fair;
+      parts = parts_leg s.form.ends s.log_bytes s.owners s.transactions s.items h.parts t trans leg is fair;
       kept = record {
         committed_rises = h.kept.committed_rises;
         committed_busy = h.kept.committed_busy;
@@ -555,51 +567,51 @@ sound_changed t b c holds s trans h is fair =
 
 -- a block that a transaction has is edited, within its unit
 pub sound_edited : (t b : ℕ) (content marked : List ℕ) (s : State) (trans : Transaction) → IsSound s → at t s.transactions ≡ Some trans → is_own s t b ≡ true
-    → charge (edited b [] marked trans.leg).changes ≤ trans.unit → IsSound (not_fresh b (with_leg t trans (edited b content marked trans.leg) s))
+    → charge s.form.ends (edited b [] marked trans.leg).changes ≤ trans.unit → IsSound (not_fresh b (with_leg t trans (edited b content marked trans.leg) s))
 sound_edited t b content marked s trans h is own room =
-    let fair : IsFair s.owners (t, trans) = each_at (IsFair s.owners) t trans s.transactions is h.parts.fair in
+    let fair : IsFair s.form.ends s.owners (t, trans) = each_at (IsFair s.form.ends s.owners) t trans s.transactions is h.parts.fair in
     sound_changed t b (record { edit = Some content; marks = union (change_of b trans.leg).marks marked; charged = union (change_of b trans.leg).charged marked }) trans.leg.holds s trans h is
-    (edit_fair t b content marked s.owners trans fair own room)
+    (edit_fair s.form.ends t b content marked s.owners trans fair own room)
 
 -- a log request that nothing refuses
 pub sound_log : (t b first : ℕ) (bytes : List ℕ) (s : State) (trans : Transaction) → IsSound s → at t s.transactions ≡ Some trans → None ≡ first_of (log_refusals t b first bytes trans s)
-    → IsSound (not_fresh b (with_leg t trans (logged_leg b first bytes s.frames trans.leg) s))
+    → IsSound (not_fresh b (with_leg t trans (logged_leg s.form.size b first bytes s.frames trans.leg) s))
 sound_log t b first bytes s trans h is passes =
-    let empty : Bool = (length bytes == 0) || nat_lt 4096 (first + length bytes) in
-    let partly : Bool = (is_fresh s b || is_stale b trans.leg) && not ((first == 0) && (length bytes == 4096)) in
-    let over : Bool = nat_lt trans.unit (charge (edited b [] (marks first (length bytes)) trans.leg).changes) in
+    let empty : Bool = (length bytes == 0) || nat_lt s.form.size (first + length bytes) in
+    let partly : Bool = (is_fresh s b || is_stale b trans.leg) && not ((first == 0) && (length bytes == s.form.size)) in
+    let over : Bool = nat_lt trans.unit (charge s.form.ends (edited b [] (marks first (length bytes)) trans.leg).changes) in
     let one = passes_first (not (is_own s t b)) Invalid ((empty, Invalid) ∷ (partly, Invalid) ∷ (over, NoSpace) ∷ []) passes in
     let two = passes_first empty Invalid ((partly, Invalid) ∷ (over, NoSpace) ∷ []) one.1 in
     let three = passes_first partly Invalid ((over, NoSpace) ∷ []) two.1 in
     let four = passes_first over NoSpace [] three.1 in
-    sound_edited t b (overwritten first bytes (seen b trans.leg s.frames)) (marks first (length bytes)) s trans h is (not-false (is_own s t b) one.0)
-    (ltb-false trans.unit (charge (edited b [] (marks first (length bytes)) trans.leg).changes) four.0)
+    sound_edited t b (overwritten first bytes (seen s.form.size b trans.leg s.frames)) (marks first (length bytes)) s trans h is (not-false (is_own s t b) one.0)
+    (ltb-false trans.unit (charge s.form.ends (edited b [] (marks first (length bytes)) trans.leg).changes) four.0)
 
 -- ---- commit
 -- on a live mount a grant covers the charge
-pub charge_granted : (t : ℕ) (s : State) (trans : Transaction) → IsSound s → at t s.transactions ≡ Some trans → is_none s.shut ≡ true → charge trans.leg.changes ≤ trans.unit * trans.legs
+pub charge_granted : (t : ℕ) (s : State) (trans : Transaction) → IsSound s → at t s.transactions ≡ Some trans → is_none s.shut ≡ true → charge s.form.ends trans.leg.changes ≤ trans.unit * trans.legs
 charge_granted t s trans h is live =
-    let fair : IsFair s.owners (t, trans) = each_at (IsFair s.owners) t trans s.transactions is h.parts.fair in
+    let fair : IsFair s.form.ends s.owners (t, trans) = each_at (IsFair s.form.ends s.owners) t trans s.transactions is h.parts.fair in
     let legs : 1 ≤ trans.legs = each_at (λ e. 1 ≤ e.1.legs) t trans s.transactions is (h.legs_left live) in
     let unit = fair.unit in
     omega (arith, unit, le-mul_of_pos_right {m = trans.legs} trans.unit (omega (arith, legs)))
 
-clean_charge : (leg : Leg) → is_dirty leg ≡ false → charge leg.changes ≡ 0
-clean_charge leg clean = ap {B = ℕ} (λ (b : Bool). if b then 0 else 32 + sum_by change_cost leg.changes) (not-false (length leg.changes == 0) clean)
+clean_charge : (ends : ℕ) (leg : Leg) → is_dirty leg ≡ false → charge ends leg.changes ≡ 0
+clean_charge ends leg clean = ap {B = ℕ} (λ (b : Bool). if b then 0 else ends + sum_by change_cost leg.changes) (not-false (length leg.changes == 0) clean)
 
 module _ (dropped : Dropped) (t : ℕ) (s : State) (trans : Transaction) (h : IsSound s) (is : at t s.transactions ≡ Some trans) where
   -- a leg that is given up, on a shut mount
   pub sound_aborted : is_some s.shut ≡ true → IsSound (settled dropped (closed t (aborted t trans.leg s)))
   sound_aborted shut =
-      sound_settling dropped (closed t (aborted t trans.leg s)) h.log_small (each_without (λ e. e.0 ≤ s.last_trans) t s.transactions h.numbers) (parts_aborted s.log_bytes s.owners s.transactions s.items h.parts t trans is)
+      sound_settling dropped (closed t (aborted t trans.leg s)) h.form h.log_small (each_without (λ e. e.0 ≤ s.last_trans) t s.transactions h.numbers) (parts_aborted s.form.ends s.log_bytes s.owners s.transactions s.items h.parts t trans is)
       (rises_filter 0 (λ e. not (is_lost trans.leg e.0)) s.frames.committed h.kept.committed_rises) (rises_with_lost trans.leg.changes trans.leg s.frames.fresh h.kept.fresh_rises) h.ready
       (λ live. absurd (is_none_some s.shut live shut)) (λ live. absurd (is_none_some s.shut live shut)) (given_aborted s.last_trans t trans.leg s.owners h.given) (λ live. absurd (is_none_some s.shut live shut))
 
   -- a leg that is committed
-  pub sound_ended : charge trans.leg.changes ≤ trans.unit * trans.legs → IsSound (settled dropped (closed t (ended t trans.leg s)))
+  pub sound_ended : charge s.form.ends trans.leg.changes ≤ trans.unit * trans.legs → IsSound (settled dropped (closed t (ended t trans.leg s)))
   sound_ended within =
       let n : State = closed t (ended t trans.leg s) in
-      sound_settling dropped n h.log_small (each_without (λ e. e.0 ≤ s.last_trans) t s.transactions h.numbers) (parts_ended s.log_bytes s.owners s.transactions s.items h.parts t trans is within)
+      sound_settling dropped n h.form h.log_small (each_without (λ e. e.0 ≤ s.last_trans) t s.transactions h.numbers) (parts_ended s.form.ends s.log_bytes s.owners s.transactions s.items h.parts t trans is within)
       (rises_with_edits trans.leg.changes s.frames.committed h.kept.committed_rises) h.kept.fresh_rises (ready_ended s.items trans.leg.changes s.jobs h.ready)
       (λ live. each_without (λ e. 1 ≤ e.1.legs) t s.transactions (h.legs_left live))
       (λ live.
@@ -615,7 +627,7 @@ module _ (dropped : Dropped) (t : ℕ) (s : State) (trans : Transaction) (h : Is
       })
       (h.fresh_owned live))
       (given_ended s.last_trans t trans.leg s.items.open_number s.owners h.given)
-      (λ live. written_ended s.owners s.frames.committed s.items (h.written live) t trans h.parts.owners_rise (each_at (IsFair s.owners) t trans s.transactions is h.parts.fair) h.parts.flying)
+      (λ live. written_ended s.owners s.frames.committed s.items (h.written live) t trans h.parts.owners_rise (each_at (IsFair s.form.ends s.owners) t trans s.transactions is h.parts.fair) h.parts.flying)
 
   -- a commit, on a live mount or a shut one
   pub sound_commit : IsSound (commit dropped t s trans).state
@@ -625,6 +637,6 @@ module _ (dropped : Dropped) (t : ℕ) (s : State) (trans : Transaction) (h : Is
       (λ shut. sound_aborted (and_parts (is_dirty trans.leg) (is_some s.shut) shut).1)
       (λ commits.
       elim (and_cases (is_dirty trans.leg) (is_some s.shut) commits) [
-        | inl clean ↦ sound_ended (omega (arith, clean_charge trans.leg clean))
+        | inl clean ↦ sound_ended (omega (arith, clean_charge s.form.ends trans.leg clean))
         | inr live ↦ sound_ended (charge_granted t s trans h is (is_none_not s.shut live))
       ])

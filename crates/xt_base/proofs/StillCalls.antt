@@ -54,7 +54,7 @@ module _ (t b : ℕ) (s : State) (h : IsSound s) (own : is_own s t b ≡ true) w
   -- another transaction's leg changed other blocks
   other_changes : (u : ℕ) (trans : Transaction) → u ≢ t → at u s.transactions ≡ Some trans → Each (λ c. c.0 ≢ b) trans.leg.changes
   other_changes u trans other is =
-      (apart_from b s.owners (u, trans) (each_at (IsFair s.owners) u trans s.transactions is h.parts.fair) (λ theirs. other (own_one u t (at b s.owners) theirs own))).0
+      (apart_from b s.owners (u, trans) (each_at (IsFair s.form.ends s.owners) u trans s.transactions is h.parts.fair) (λ theirs. other (own_one u t (at b s.owners) theirs own))).0
 
   -- ---- get and read
   brought_still : (u c : ℕ) (idle : Option (List ℕ)) → c ≢ b → IsStill t b s (with_owner c (Trans u 0) (brought c idle s))
@@ -105,7 +105,7 @@ module _ (t b : ℕ) (s : State) (h : IsSound s) (own : is_own s t b ≡ true) w
   -- ---- the leg
   still_view : (u c : ℕ) (trans : Transaction) → IsStill t b s (view u c s trans).state
   still_view u c trans =
-      fact_either (IsStill t b s) (is_own s u c) (gives (Reply.Data (seen c trans.leg s.frames)) s) (gives (Refused Invalid) s) (λ theirs. still_same t b s) (λ not_theirs. still_same t b s)
+      fact_either (IsStill t b s) (is_own s u c) (gives (Reply.Data (seen s.form.size c trans.leg s.frames)) s) (gives (Refused Invalid) s) (λ theirs. still_same t b s) (λ not_theirs. still_same t b s)
 
   changed_still : (u c : ℕ) (trans : Transaction) (leg : Leg) → u ≢ t → c ≢ b → IsStill t b s (not_fresh c (with_leg u trans leg s))
   changed_still u c trans leg other apart =
@@ -113,10 +113,10 @@ module _ (t b : ℕ) (s : State) (h : IsSound s) (own : is_own s t b ≡ true) w
 
   still_log : (u c first : ℕ) (bytes : List ℕ) (trans : Transaction) → u ≢ t → IsStill t b s (log u c first bytes s trans).state
   still_log u c first bytes trans other =
-      let leg : Leg = logged_leg c first bytes s.frames trans.leg in
-      let empty : Bool = (length bytes == 0) || nat_lt 4096 (first + length bytes) in
-      let partly : Bool = (is_fresh s c || is_stale c trans.leg) && not ((first == 0) && (length bytes == 4096)) in
-      let over : Bool = nat_lt trans.unit (charge (edited c [] (marks first (length bytes)) trans.leg).changes) in
+      let leg : Leg = logged_leg s.form.size c first bytes s.frames trans.leg in
+      let empty : Bool = (length bytes == 0) || nat_lt s.form.size (first + length bytes) in
+      let partly : Bool = (is_fresh s c || is_stale c trans.leg) && not ((first == 0) && (length bytes == s.form.size)) in
+      let over : Bool = nat_lt trans.unit (charge s.form.ends (edited c [] (marks first (length bytes)) trans.leg).changes) in
       fact_unless (IsStill t b s) (first_of (log_refusals u c first bytes trans s)) s (gives Okay (not_fresh c (with_leg u trans leg s))) (still_same t b s)
       (λ passes.
       let theirs : is_own s u c ≡ true = not-false (is_own s u c) (passes_first (not (is_own s u c)) Invalid ((empty, Invalid) ∷ (partly, Invalid) ∷ (over, NoSpace) ∷ []) passes).0 in
@@ -125,7 +125,7 @@ module _ (t b : ℕ) (s : State) (h : IsSound s) (own : is_own s t b ≡ true) w
   still_inval : (u c : ℕ) (trans : Transaction) → u ≢ t → IsStill t b s (inval u c s trans).state
   still_inval u c trans other =
       let leg : Leg = invalidated c trans.leg in
-      let over : Bool = nat_lt trans.unit (charge leg.changes) in
+      let over : Bool = nat_lt trans.unit (charge s.form.ends leg.changes) in
       fact_unless (IsStill t b s) (first_of (inval_refusals u c trans s)) s (gives Okay (if is_stale c trans.leg then s else not_fresh c (with_leg u trans leg s))) (still_same t b s)
       (λ passes.
       let theirs : is_own s u c ≡ true = not-false (is_own s u c) (passes_first (not (is_own s u c)) Invalid ((over, NoSpace) ∷ []) passes).0 in
@@ -207,7 +207,7 @@ module _ (t b : ℕ) (s : State) (h : IsSound s) (own : is_own s t b ≡ true) w
         fact_either (IsStill t b s) (is_some s.shut) up (if is_no_room u trans s then wait else on)
         (λ shut. still_settled t b its_count s its_owner dropped (with_legs u 0 trans (aborted u trans.leg s)) (legs_still 0 (aborted u trans.leg s) given_up))
         (λ live.
-        fact_either (IsStill t b s) (is_no_room u trans s) wait on (λ full. record { trans = refl; owner = refl; fresh = refl; content = refl })
+        fact_either (IsStill t b s) (is_no_room u trans s) wait on (λ full. record { form = refl; trans = refl; owner = refl; fresh = refl; content = refl })
         (λ room. still_settled t b its_count s its_owner dropped (with_legs u (legs_after trans.legs) trans (ended u trans.leg s)) (legs_still (legs_after trans.legs) (ended u trans.leg s) went_on))))
 
   -- ---- calls that name no transaction
@@ -218,8 +218,9 @@ module _ (t b : ℕ) (s : State) (h : IsSound s) (own : is_own s t b ≡ true) w
       let waits : Outcome = gives (Refused Again) (asks_flush (asks_ckpt s)) in
       fact_unless (IsStill t b s) (first_of (alloc_refusals unit count perm s)) s (if full then waits else allocated unit count perm s) (still_same t b s)
       (λ passes.
-      fact_either (IsStill t b s) full waits (allocated unit count perm s) (λ lack. record { trans = refl; owner = refl; fresh = refl; content = refl })
+      fact_either (IsStill t b s) full waits (allocated unit count perm s) (λ lack. record { form = refl; trans = refl; owner = refl; fresh = refl; content = refl })
       (λ room. record {
+        form = refl;
         trans = at_put_other (s.last_trans + 1) t (new_trans unit count perm) s.transactions (λ same. omega (arith, same, below));
         owner = refl;
         fresh = refl;
@@ -232,7 +233,7 @@ module _ (t b : ℕ) (s : State) (h : IsSound s) (own : is_own s t b ≡ true) w
       fact_either (IsStill t b s) (is_some s.shut) (gives (Refused Io) s) rest (λ shut. still_same t b s)
       (λ live.
       fact_either (IsStill t b s) (length s.items.cil == 0) (gives (waits_for s.items.flight) s) (gives (Wait s.items.open_number) (asks_ckpt s)) (λ none. still_same t b s)
-      (λ some. record { trans = refl; owner = refl; fresh = refl; content = refl }))
+      (λ some. record { form = refl; trans = refl; owner = refl; fresh = refl; content = refl }))
 
   still_force_to : (number : ℕ) → IsStill t b s (force_to number s).state
   still_force_to number =
@@ -240,11 +241,11 @@ module _ (t b : ℕ) (s : State) (h : IsSound s) (own : is_own s t b ≡ true) w
       let rest : Outcome = if is_flight number s.items.flight then gives (Wait number) s else gives Done s in
       fact_unless (IsStill t b s) (first_of (force_to_refusals number s)) s (if asked then gives (Wait number) (asks_ckpt s) else rest) (still_same t b s)
       (λ passes.
-      fact_either (IsStill t b s) asked (gives (Wait number) (asks_ckpt s)) rest (λ now. record { trans = refl; owner = refl; fresh = refl; content = refl })
+      fact_either (IsStill t b s) asked (gives (Wait number) (asks_ckpt s)) rest (λ now. record { form = refl; trans = refl; owner = refl; fresh = refl; content = refl })
       (λ then_done. fact_either (IsStill t b s) (is_flight number s.items.flight) (gives (Wait number) s) (gives Done s) (λ flies. still_same t b s) (λ lands. still_same t b s)))
 
   still_push : IsStill t b s (push s).state
-  still_push = fact_either (IsStill t b s) (is_some s.shut) (gives (Refused Io) s) (gives Okay (asks_flush s)) (λ shut. still_same t b s) (λ live. record { trans = refl; owner = refl; fresh = refl; content = refl })
+  still_push = fact_either (IsStill t b s) (is_some s.shut) (gives (Refused Io) s) (gives Okay (asks_flush s)) (λ shut. still_same t b s) (λ live. record { form = refl; trans = refl; owner = refl; fresh = refl; content = refl })
 
   still_unmount : IsStill t b s (unmount s).state
   still_unmount = fact_either (IsStill t b s) (is_kept s) (gives (Refused Busy) s) (gives Okay s) (λ kept. still_same t b s) (λ left. still_same t b s)
@@ -272,19 +273,19 @@ module _ (t b : ℕ) (s : State) (h : IsSound s) (own : is_own s t b ≡ true) w
   still_call Request.Force answer dropped there other = still_force
   still_call (Request.ForceTo number) answer dropped there other = still_force_to number
   still_call Request.Push answer dropped there other = still_push
-  still_call Request.Shutdown answer dropped there other = record { trans = refl; owner = refl; fresh = refl; content = refl }
+  still_call Request.Shutdown answer dropped there other = record { form = refl; trans = refl; owner = refl; fresh = refl; content = refl }
   still_call Request.Unmount answer dropped there other = still_unmount
 
   -- ---- jobs
   -- a job is posted
   pub still_posted : (kind : JobKind) → IsStill t b s (posted kind s)
-  still_posted kind = record { trans = refl; owner = refl; fresh = refl; content = refl }
+  still_posted kind = record { form = refl; trans = refl; owner = refl; fresh = refl; content = refl }
 
   -- a checkpoint begins
   pub still_begin : IsStill t b s (begin s).state
   still_begin =
-      fact_either (IsStill t b s) (is_some s.shut) (gives Nothing (finished JobKind.Ckpt s)) (begun (next_pieces s) s) (λ shut. record { trans = refl; owner = refl; fresh = refl; content = refl })
-      (λ live. record { trans = refl; owner = refl; fresh = refl; content = refl })
+      fact_either (IsStill t b s) (is_some s.shut) (gives Nothing (finished JobKind.Ckpt s)) (begun (next_pieces s) s) (λ shut. record { form = refl; trans = refl; owner = refl; fresh = refl; content = refl })
+      (λ live. record { form = refl; trans = refl; owner = refl; fresh = refl; content = refl })
 
   end_still : (dropped : Dropped) (answers : LogAnswers) (flight : Option Flight) → IsStill t b s (end_of dropped answers s flight).state
   end_still dropped answers None = still_same t b s
@@ -292,11 +293,11 @@ module _ (t b : ℕ) (s : State) (h : IsSound s) (own : is_own s t b ≡ true) w
       let still : IsStill t b s (record s { owners = filter (λ e. not (waits_on f.number e.1)) s.owners }) = still_landed t b its_count s its_owner f.number in
       fact_either (IsStill t b s) (is_ok answers.sync) (gives (Landed f.number) (landed dropped f s)) (gives (Failed f.number) (failed dropped s))
       (λ ok.
-      still_settled t b its_count s its_owner dropped (finished JobKind.Ckpt (record s { owners = filter (λ e. not (waits_on f.number e.1)) s.owners; items = landed_items f s.items }))
-      (record { trans = refl; owner = still.owner; fresh = refl; content = refl }))
+      still_settled t b its_count s its_owner dropped (finished JobKind.Ckpt (record s { owners = filter (λ e. not (waits_on f.number e.1)) s.owners; items = landed_items s.form.ends f s.items }))
+      (record { form = refl; trans = refl; owner = still.owner; fresh = refl; content = refl }))
       (λ bad.
       still_settled t b its_count s its_owner dropped (finished JobKind.Ckpt (shut_down LogIoError (record s { items = record s.items { flight = None } })))
-      (record { trans = refl; owner = refl; fresh = refl; content = refl }))
+      (record { form = refl; trans = refl; owner = refl; fresh = refl; content = refl }))
 
   -- a checkpoint ends
   pub still_end : (answers : LogAnswers) (dropped : Dropped) → IsStill t b s (end dropped answers s).state
@@ -305,7 +306,7 @@ module _ (t b : ℕ) (s : State) (h : IsSound s) (own : is_own s t b ≡ true) w
   -- a flush
   pub still_flush : (answers : HomeAnswers) (dropped : Dropped) → IsStill t b s (flush dropped answers s).state
   still_flush answers dropped =
-      fact_either (IsStill t b s) (length (flush_plan s) == 0) (gives Nothing (unflushed s)) (flushed dropped (flush_plan s) answers s) (λ none. record { trans = refl; owner = refl; fresh = refl; content = refl })
+      fact_either (IsStill t b s) (length (flush_plan s) == 0) (gives Nothing (unflushed s)) (flushed dropped (flush_plan s) answers s) (λ none. record { form = refl; trans = refl; owner = refl; fresh = refl; content = refl })
       (λ some.
       still_settled t b its_count s its_owner dropped (renewed answers (finished JobKind.Flush (record s { items = cleaned (gone (flush_plan s) answers) s.items })))
-      (record { trans = refl; owner = refl; fresh = refl; content = refl }))
+      (record { form = refl; trans = refl; owner = refl; fresh = refl; content = refl }))

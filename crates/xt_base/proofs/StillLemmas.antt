@@ -8,6 +8,7 @@ use Rattle.xt_base.proofs.MapLemmas.{at_put_other, at_set_other, at_without_othe
 use Rattle.xt_base.proofs.RisingLemmas.{each_in}
 use Rattle.xt_base.proofs.SoundParts.{busy_owned}
 use Rattle.xt_base.specs.Calls.{Outcome, busied, closed, made_fresh, not_fresh, shut_if, unless, unowned, with_leg, with_legs, with_owner, with_trans}
+use Rattle.xt_base.specs.Form.{Form}
 use Rattle.xt_base.specs.Jobs.{waits_on}
 use Rattle.xt_base.specs.Laws.{LooksAlike}
 use Rattle.xt_base.specs.Legs.{aborted, clean_leg, ended, is_lost, is_stale, own_count, owner_aborted, owner_after, with_edit, with_edits, with_lost}
@@ -16,7 +17,7 @@ use Rattle.xt_base.specs.Settle.{Dropped, settled}
 use Rattle.xt_base.specs.Sound.{Each}
 use Rattle.xt_base.specs.Space.{is_busy}
 use Rattle.xt_base.specs.State.{Change, Leg, State, Transaction}
-use Rattle.xt_base.specs.Text.{zeros}
+use Rattle.xt_base.specs.Text.{content_at, zeros}
 use Rattle.xt_base.specs.declared.steps.Errno.{Errno}
 use Rattle.xt_base.specs.declared.steps.Owner.{Owner}
 use Rattle.xt_base.specs.declared.steps.Owner.TheVariants.{Held, Stale, Trans}
@@ -44,8 +45,9 @@ fact_with_trans P None s f h each = h
 fact_with_trans P (Some trans) s f h each = each trans refl
 
 -- ---- as it was
--- a transaction's record, and of a block its owner, its fresh mark and its committed content, are as they were
+-- the form, a transaction's record, and of a block its owner, its fresh mark and its committed content, are as they were
 pub record IsStill (t b : ℕ) (s n : State) : Type 0 where
+  pub form : n.form ≡ s.form
   pub trans : at t n.transactions ≡ at t s.transactions
   pub owner : at b n.owners ≡ at b s.owners
   pub fresh : has n.frames.fresh b ≡ has s.frames.fresh b
@@ -53,19 +55,20 @@ pub record IsStill (t b : ℕ) (s n : State) : Type 0 where
 
 -- nothing was done
 pub still_same : (t b : ℕ) (s : State) → IsStill t b s s
-still_same t b s = record { trans = refl; owner = refl; fresh = refl; content = refl }
+still_same t b s = record { form = refl; trans = refl; owner = refl; fresh = refl; content = refl }
 
 -- one step after another
 pub still_then : (t b : ℕ) (s m n : State) → IsStill t b s m → IsStill t b m n → IsStill t b s n
-still_then t b s m n one two = record { trans = two.trans ∙ one.trans; owner = two.owner ∙ one.owner; fresh = two.fresh ∙ one.fresh; content = two.content ∙ one.content }
+still_then t b s m n one two = record { form = two.form ∙ one.form; trans = two.trans ∙ one.trans; owner = two.owner ∙ one.owner; fresh = two.fresh ∙ one.fresh; content = two.content ∙ one.content }
 
 -- what is as it was looks alike
 pub still_alike : (t b : ℕ) (s n : State) → IsStill t b s n → LooksAlike t b s n
 still_alike t b s n still = record {
+  form = sym still.form;
   trans = sym still.trans;
   count = sym (ap (own_count t) still.owner);
   fresh = λ own. sym still.fresh;
-  content = λ own. sym (ap (λ o. unwrap_or o zeros) still.content);
+  content = λ own. ap (λ (f : Form). content_at f.size b s.frames.committed) (sym still.form) ∙ sym (ap (λ o. unwrap_or o (zeros n.form.size)) still.content);
 }
 
 -- ---- other blocks and other transactions
@@ -98,6 +101,7 @@ module _ (t b count : ℕ) (s : State) (own : at b s.owners ≡ Some (Trans t co
   still_settled dropped m still =
       let busy : is_busy m b ≡ true = busy_owned m.owners m.items b (ap is_some (still.owner ∙ own)) in
       record {
+        form = still.form;
         trans = still.trans;
         owner = still.owner;
         fresh = has_filter b (is_busy m) m.frames.fresh busy ∙ still.fresh;
@@ -106,39 +110,40 @@ module _ (t b count : ℕ) (s : State) (own : at b s.owners ≡ Some (Trans t co
 
   -- another block has another owner
   pub still_owner : (c : ℕ) (o : Owner) → c ≢ b → IsStill t b s (with_owner c o s)
-  still_owner c o other = record { trans = refl; owner = at_put_other c b o s.owners (λ same. other (sym same)); fresh = refl; content = refl }
+  still_owner c o other = record { form = refl; trans = refl; owner = at_put_other c b o s.owners (λ same. other (sym same)); fresh = refl; content = refl }
 
   -- another block has none
   pub still_unowned : (c : ℕ) → c ≢ b → IsStill t b s (unowned c s)
-  still_unowned c other = record { trans = refl; owner = at_without_other c b s.owners (λ same. other (sym same)); fresh = refl; content = refl }
+  still_unowned c other = record { form = refl; trans = refl; owner = at_without_other c b s.owners (λ same. other (sym same)); fresh = refl; content = refl }
 
   -- another transaction has another leg
   pub still_leg : (u : ℕ) (trans : Transaction) (leg : Leg) → u ≢ t → IsStill t b s (with_leg u trans leg s)
-  still_leg u trans leg other = record { trans = at_set_other u t (record trans { leg = leg }) s.transactions (λ same. other (sym same)); owner = refl; fresh = refl; content = refl }
+  still_leg u trans leg other = record { form = refl; trans = at_set_other u t (record trans { leg = leg }) s.transactions (λ same. other (sym same)); owner = refl; fresh = refl; content = refl }
 
   -- another block is fresh no more
   pub still_not_fresh : (c : ℕ) → c ≢ b → IsStill t b s (not_fresh c s)
-  still_not_fresh c other = record { trans = refl; owner = refl; fresh = has_filter b (λ k. not (k == c)) s.frames.fresh (ap not (ne_eqb b c (λ same. other (sym same)))); content = refl }
+  still_not_fresh c other = record { form = refl; trans = refl; owner = refl; fresh = has_filter b (λ k. not (k == c)) s.frames.fresh (ap not (ne_eqb b c (λ same. other (sym same)))); content = refl }
 
   -- another block comes with its content
   pub still_busied : (c : ℕ) (content : List ℕ) → c ≢ b → IsStill t b s (busied c content s)
-  still_busied c content other = record { trans = refl; owner = refl; fresh = refl; content = at_put_other c b content s.frames.committed (λ same. other (sym same)) }
+  still_busied c content other = record { form = refl; trans = refl; owner = refl; fresh = refl; content = at_put_other c b content s.frames.committed (λ same. other (sym same)) }
 
   -- another block is fresh
   pub still_made_fresh : (c : ℕ) → c ≢ b → IsStill t b s (made_fresh c s)
-  still_made_fresh c other = record { trans = refl; owner = refl; fresh = has_with_member b c s.frames.fresh (λ same. other (sym same)); content = refl }
+  still_made_fresh c other = record { form = refl; trans = refl; owner = refl; fresh = has_with_member b c s.frames.fresh (λ same. other (sym same)); content = refl }
 
   -- another transaction is gone
   pub still_closed : (u : ℕ) → u ≢ t → IsStill t b s (closed u s)
-  still_closed u other = record { trans = at_without_other u t s.transactions (λ same. other (sym same)); owner = refl; fresh = refl; content = refl }
+  still_closed u other = record { form = refl; trans = at_without_other u t s.transactions (λ same. other (sym same)); owner = refl; fresh = refl; content = refl }
 
   -- another transaction has other legs
   pub still_legs : (u legs : ℕ) (trans : Transaction) → u ≢ t → IsStill t b s (with_legs u legs trans s)
-  still_legs u legs trans other = record { trans = at_set_other u t (record trans { legs = legs; leg = clean_leg }) s.transactions (λ same. other (sym same)); owner = refl; fresh = refl; content = refl }
+  still_legs u legs trans other = record { form = refl; trans = at_set_other u t (record trans { legs = legs; leg = clean_leg }) s.transactions (λ same. other (sym same)); owner = refl; fresh = refl; content = refl }
 
   -- another leg, which did not change the block, is committed
   pub still_ended : (u : ℕ) (leg : Leg) → u ≢ t → Each (λ c. c.0 ≢ b) leg.changes → IsStill t b s (ended u leg s)
   still_ended u leg other apart = record {
+    form = refl;
     trans = refl;
     owner =
         at_filter_map b (Trans t count) (owner_after u leg s.items.open_number) s.owners (keeps_owner_after u leg s.items.open_number) own
@@ -151,6 +156,7 @@ module _ (t b count : ℕ) (s : State) (own : at b s.owners ≡ Some (Trans t co
   -- another leg, which did not change the block, is given up
   pub still_aborted : (u : ℕ) (leg : Leg) → u ≢ t → Each (λ c. c.0 ≢ b) leg.changes → IsStill t b s (aborted u leg s)
   still_aborted u leg other apart = record {
+    form = refl;
     trans = refl;
     owner =
         at_filter_map b (Trans t count) (owner_aborted u leg) s.owners (keeps_owner_aborted u leg) own
@@ -162,9 +168,9 @@ module _ (t b count : ℕ) (s : State) (own : at b s.owners ≡ Some (Trans t co
 
   -- a checkpoint lands
   pub still_landed : (number : ℕ) → IsStill t b s (record s { owners = filter (λ e. not (waits_on number e.1)) s.owners })
-  still_landed number = record { trans = refl; owner = at_filter b (Trans t count) (λ e. not (waits_on number e.1)) s.owners own refl ∙ sym own; fresh = refl; content = refl }
+  still_landed number = record { form = refl; trans = refl; owner = at_filter b (Trans t count) (λ e. not (waits_on number e.1)) s.owners own refl ∙ sym own; fresh = refl; content = refl }
 
 -- a mount is shut where this holds
 pub still_shut_if : (t b : ℕ) (s n : State) (dirty : Bool) (reason : Reason) → IsStill t b s n → IsStill t b s (shut_if dirty reason n)
-still_shut_if t b s n true reason still = record { trans = still.trans; owner = still.owner; fresh = still.fresh; content = still.content }
+still_shut_if t b s n true reason still = record { form = still.form; trans = still.trans; owner = still.owner; fresh = still.fresh; content = still.content }
 still_shut_if t b s n false reason still = still

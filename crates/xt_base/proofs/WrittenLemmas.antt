@@ -368,11 +368,11 @@ module _ (owners : List (ℕ × Owner)) (committed : List (ℕ × List ℕ)) (l 
   }
 
   -- the flight is on the log
-  pub written_landed : (f : Flight) → l.flight ≡ Some f → f.number < l.open_number → IsRising owners → IsRising f.items → IsRising l.ail
-      → AreWritten (filter (λ e. not (waits_on f.number e.1)) owners) committed (landed_items f l)
-  written_landed f is below rises flew active =
+  pub written_landed : (ends : ℕ) (f : Flight) → l.flight ≡ Some f → f.number < l.open_number → IsRising owners → IsRising f.items → IsRising l.ail
+      → AreWritten (filter (λ e. not (waits_on f.number e.1)) owners) committed (landed_items ends f l)
+  written_landed ends f is below rises flew active =
       let ns : List (ℕ × Owner) = filter (λ e. not (waits_on f.number e.1)) owners in
-      let n : Items = landed_items f l in
+      let n : Items = landed_items ends f l in
       let was : (b : ℕ) → is_listed n b ≡ true → is_listed l b ≡ true =
       λ b there.
       by_three (is_in b l.cil) false (is_in b n.ail) (is_listed l b) (in_cil l b) (λ h. absurd (false≢true h))
@@ -410,7 +410,7 @@ module _ (owners : List (ℕ × Owner)) (committed : List (ℕ × List ℕ)) (l 
       }
 
   -- ---- the end of a leg
-  module _ (t : ℕ) (trans : Transaction) (rises : IsRising owners) (fair : IsFair owners (t, trans)) where
+  module _ {ends : ℕ} (t : ℕ) (trans : Transaction) (rises : IsRising owners) (fair : IsFair ends owners (t, trans)) where
     stale_stays : (b n number : ℕ) → at b owners ≡ Some (Stale n) → at b (filter_map (owner_after t trans.leg number) owners) ≡ Some (Stale n)
     stale_stays b n number h = at_filter_map b (Stale n) (owner_after t trans.leg number) owners (keeps_owner_after t trans.leg number) h refl
 

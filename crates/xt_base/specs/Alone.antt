@@ -1,10 +1,12 @@
 -- One slot alone: any of its steps, and lists of them.
 use Rattle.std.specs.Prelude.{Bool, List, None, Option, Some, [], false, if◌then◌else◌, is_some, nat_lt, true, ℕ, ◌&&◌, ◌+◌, ◌==◌, ◌||◌, ◌∷◌, ◌≡◌, ◌⊎◌}
 use Rattle.xt_base.specs.Calls.{Outcome, alone_with, first_of, gives, is_unmount, log}
+use Rattle.xt_base.specs.Form.{form_one}
 use Rattle.xt_base.specs.Jobs.{begin, end, end_offers, flush, flush_offers, posted}
 use Rattle.xt_base.specs.Settle.{Dropped}
 use Rattle.xt_base.specs.State.{Lone, State, empty, mount_of}
 use Rattle.xt_base.specs.Steps.{slot_of}
+use Rattle.xt_base.specs.declared.sizes.TheConstants.{LEAST_LOG, MOST_BLOCKS, MOST_LOG}
 use Rattle.xt_base.specs.declared.steps.Answer.{Answer}
 use Rattle.xt_base.specs.declared.steps.Errno.{Errno}
 use Rattle.xt_base.specs.declared.steps.Errno.TheVariants.{Busy, Invalid, NoDevice, NoMemory, NoSpace}
@@ -33,13 +35,13 @@ turn r s = record { reply = r; slot = s; log = []; home = [] }
 abbrev pub mount_refusals : ℕ → ℕ → Lone → List (Bool × Errno)
 mount_refusals log_bytes blocks s =
     (is_some s.mounted, Busy)
-    ∷ (nat_lt log_bytes 65536 || nat_lt 16777216 log_bytes || (blocks == 0) || nat_lt 1099511627776 blocks, Invalid)
+    ∷ (nat_lt log_bytes LEAST_LOG || nat_lt MOST_LOG log_bytes || (blocks == 0) || nat_lt MOST_BLOCKS blocks, Invalid)
     ∷ (s.last_life == 4294967295, NoSpace)
     ∷ []
 
 -- the next life
 abbrev pub mounted_new : ℕ → ℕ → ℕ → Lone → Turn
-mounted_new slot log_bytes blocks s = turn (Reply.Life (s.last_life + 1)) (record s { last_life = s.last_life + 1; mounted = Some (mount_of slot (s.last_life + 1) log_bytes blocks) })
+mounted_new slot log_bytes blocks s = turn (Reply.Life (s.last_life + 1)) (record s { last_life = s.last_life + 1; mounted = Some (mount_of slot (s.last_life + 1) log_bytes blocks form_one) })
 
 -- refused and unchanged, or else this
 abbrev pub unless_refused : Option Errno → Lone → Turn → Turn

@@ -8,6 +8,7 @@ use Rattle.xt_base.specs.Settle.{Dropped, settled}
 use Rattle.xt_base.specs.Space.{busy_count, charge, greatest, is_busy, used}
 use Rattle.xt_base.specs.State.{Flight, Frames, Leg, State, Transaction}
 use Rattle.xt_base.specs.Text.{content_at, zeros}
+use Rattle.xt_base.specs.declared.sizes.TheConstants.{BUSY_BLOCKS, GRANTED_LEGS, OPEN_TRANSACTIONS}
 use Rattle.xt_base.specs.declared.steps.Answer.{Answer}
 use Rattle.xt_base.specs.declared.steps.Errno.{Errno}
 use Rattle.xt_base.specs.declared.steps.Errno.TheVariants.{Again, Busy, Invalid, Io, NoBufs, NoSpace}
@@ -66,12 +67,12 @@ is_held (Some Held) = true
 is_held other = false
 
 -- what a leg sees of a block that is fresh or not, and has a committed content: its edit, or zeros, or that content
-abbrev pub seen_with : ℕ → Leg → Bool → List ℕ → List ℕ
-seen_with b leg fresh committed = unwrap_or (change_of b leg).edit (if fresh || is_stale b leg then zeros else committed)
+abbrev pub seen_with : ℕ → ℕ → Leg → Bool → List ℕ → List ℕ
+seen_with size b leg fresh committed = unwrap_or (change_of b leg).edit (if fresh || is_stale b leg then zeros size else committed)
 
 -- what a transaction sees of a block that it owns
-abbrev pub seen : ℕ → Leg → Frames → List ℕ
-seen b leg frames = seen_with b leg (has frames.fresh b) (content_at b frames.committed)
+abbrev pub seen : ℕ → ℕ → Leg → Frames → List ℕ
+seen size b leg frames = seen_with size b leg (has frames.fresh b) (content_at size b frames.committed)
 
 -- ---- small changes of a state
 -- a block with another owner
@@ -119,10 +120,10 @@ asks_flush s = record s { jobs = record s.jobs { asked_flush = true } }
 -- what refuses an alloc before the space does
 abbrev pub alloc_refusals : ℕ → ℕ → Bool → State → List (Bool × Errno)
 alloc_refusals unit count perm s =
-    ((unit == 0) || (count == 0) || nat_lt 8 count || (nat_lt 1 count && not perm) || nat_lt s.log_bytes (unit * count), Invalid)
+    ((unit == 0) || (count == 0) || nat_lt GRANTED_LEGS count || (nat_lt 1 count && not perm) || nat_lt s.log_bytes (unit * count), Invalid)
     ∷ (is_some s.shut, Io)
     ∷ (s.last_trans == greatest, NoSpace)
-    ∷ (nat_le 32 (length s.transactions), Again)
+    ∷ (nat_le OPEN_TRANSACTIONS (length s.transactions), Again)
     ∷ []
 
 -- a clean transaction
@@ -153,7 +154,7 @@ get_refusals t b s =
     ∷ (is_some s.shut, Io)
     ∷ (at_end (own_count t (at b s.owners)), Invalid)
     ∷ (is_elsewhere s t b, Again)
-    ∷ (not (is_busy s b) && nat_le 64 (busy_count s), NoBufs)
+    ∷ (not (is_busy s b) && nat_le BUSY_BLOCKS (busy_count s), NoBufs)
     ∷ []
 
 -- what refuses a read before its device is asked
@@ -163,7 +164,7 @@ read_refusals t b leg s =
     ∷ (is_some s.shut, Io)
     ∷ (at_end (own_count t (at b s.owners)) || (is_own s t b && (is_fresh s b || is_stale b leg)), Invalid)
     ∷ (is_elsewhere s t b, Again)
-    ∷ (not (is_busy s b) && nat_le 64 (busy_count s), NoBufs)
+    ∷ (not (is_busy s b) && nat_le BUSY_BLOCKS (busy_count s), NoBufs)
     ∷ []
 
 -- a block with a content becomes busy, and is idle no more
@@ -211,7 +212,7 @@ read_asks t b s (Some trans) = is_none (first_of (read_refusals t b trans.leg s)
 -- ---- view
 -- what the transaction sees of its block
 abbrev pub view : ℕ → ℕ → State → Transaction → Outcome
-view t b s trans = if is_own s t b then gives (Reply.Data (seen b trans.leg s.frames)) s else gives (Refused Invalid) s
+view t b s trans = if is_own s t b then gives (Reply.Data (seen s.form.size b trans.leg s.frames)) s else gives (Refused Invalid) s
 
 -- ---- log
 -- bytes written from first on
@@ -229,23 +230,23 @@ edited b content marked leg = record leg {
 }
 
 -- the leg after a log request
-abbrev pub logged_leg : ℕ → ℕ → List ℕ → Frames → Leg → Leg
-logged_leg b first bytes frames leg = edited b (overwritten first bytes (seen b leg frames)) (marks first (length bytes)) leg
+abbrev pub logged_leg : ℕ → ℕ → ℕ → List ℕ → Frames → Leg → Leg
+logged_leg size b first bytes frames leg = edited b (overwritten first bytes (seen size b leg frames)) (marks first (length bytes)) leg
 
 -- what refuses a log request
 abbrev pub log_refusals : ℕ → ℕ → ℕ → List ℕ → Transaction → State → List (Bool × Errno)
 log_refusals t b first bytes trans s =
     (not (is_own s t b), Invalid)
-    ∷ ((length bytes == 0) || nat_lt 4096 (first + length bytes), Invalid)
-    ∷ ((is_fresh s b || is_stale b trans.leg) && not ((first == 0) && (length bytes == 4096)), Invalid)
-    ∷ (nat_lt trans.unit (charge (edited b [] (marks first (length bytes)) trans.leg).changes), NoSpace)
+    ∷ ((length bytes == 0) || nat_lt s.form.size (first + length bytes), Invalid)
+    ∷ ((is_fresh s b || is_stale b trans.leg) && not ((first == 0) && (length bytes == s.form.size)), Invalid)
+    ∷ (nat_lt trans.unit (charge s.form.ends (edited b [] (marks first (length bytes)) trans.leg).changes), NoSpace)
     ∷ []
 
 -- writes bytes in the leg and marks their chunks
 abbrev pub log : ℕ → ℕ → ℕ → List ℕ → State → Transaction → Outcome
 log t b first bytes s trans =
     unless (first_of (log_refusals t b first bytes trans s)) s
-    (gives Okay (not_fresh b (with_leg t trans (logged_leg b first bytes s.frames trans.leg) s)))
+    (gives Okay (not_fresh b (with_leg t trans (logged_leg s.form.size b first bytes s.frames trans.leg) s)))
 
 -- ---- hold, unhold, relse
 -- a block that stays locked when the leg ends
@@ -301,7 +302,7 @@ invalidated b leg = record {
 abbrev pub inval_refusals : ℕ → ℕ → Transaction → State → List (Bool × Errno)
 inval_refusals t b trans s =
     (not (is_own s t b), Invalid)
-    ∷ (nat_lt trans.unit (charge (invalidated b trans.leg).changes), NoSpace)
+    ∷ (nat_lt trans.unit (charge s.form.ends (invalidated b trans.leg).changes), NoSpace)
     ∷ []
 
 -- gives a block up for good

@@ -1,7 +1,8 @@
--- Sets of the 32 chunks of 128 bytes that a block has. A set is the rising list of its numbers.
+-- Sets of the chunks that a block has. A set is the rising list of its numbers.
 use Rattle.std.specs.Int.{bit_at}
 use Rattle.std.specs.Prelude.{Bool, List, [], filter, nat_lt, set, suc, sum_by, zero, ℕ, ◌&&◌, ◌*◌, ◌++◌, ◌+◌, ◌==◌, ◌^◌, ◌||◌, ◌∷◌}
 use Rattle.xt_base.specs.Maps.{has}
+use Rattle.xt_base.specs.declared.sizes.TheConstants.{CHUNKS, CHUNK_BYTES}
 
 -- the numbers below n
 abbrev pub below : ℕ → List ℕ
@@ -10,15 +11,15 @@ below (suc n) = below n ++ n ∷ []
 
 -- the chunks that a test holds of
 unfoldable pub chunks_where : (ℕ → Bool) → List ℕ
-chunks_where p = filter p (below 32)
+chunks_where p = filter p (below CHUNKS)
 
 -- the chunks of either set
 abbrev pub union : List ℕ → List ℕ → List ℕ
 union a b = chunks_where (λ k. has a k || has b k)
 
--- whether a byte of first to first + n - 1 lies in 128 k to 128 k + 127
+-- whether a byte of first to first + n - 1 lies in a chunk
 abbrev pub touches : ℕ → ℕ → ℕ → Bool
-touches first n k = nat_lt 0 n && nat_lt (128 * k) (first + n) && nat_lt first (128 * k + 128)
+touches first n k = nat_lt 0 n && nat_lt (CHUNK_BYTES * k) (first + n) && nat_lt first (CHUNK_BYTES * k + CHUNK_BYTES)
 
 -- the chunks of which those bytes mark some
 abbrev pub marks : ℕ → ℕ → List ℕ

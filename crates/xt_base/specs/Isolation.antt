@@ -4,6 +4,7 @@ use Rattle.std.specs.Prelude.{Bool, List, None, Option, [], false, filter, if◌
 use Rattle.xt_base.specs.Alone.{Said, alone_run, shut_after}
 use Rattle.xt_base.specs.Order.{Event, fits, orderly, orderly_for}
 use Rattle.xt_base.specs.Steps.{slot_of, strike}
+use Rattle.xt_base.specs.declared.sizes.TheConstants.{SLOTS}
 use Rattle.xt_base.specs.declared.steps.Errno.{Errno}
 use Rattle.xt_base.specs.declared.steps.Errno.TheVariants.{NoMemory}
 use Rattle.xt_base.specs.declared.steps.Reason.{Reason}
@@ -11,7 +12,7 @@ use Rattle.xt_base.specs.declared.steps.Reply.{Reply}
 use Rattle.xt_base.specs.declared.steps.Reply.TheVariants.{Refused}
 use Rattle.xt_base.specs.declared.steps.Step.{Step}
 
--- what a run told: its turns in order, and for each of sixteen slots why it is shut, and whether it was refused memory
+-- what a run told: its turns in order, and for each slot why it is shut, and whether it was refused memory
 pub record Told : Type 0 where
   pub turns : List Said
   pub shut : List (Option Reason)
@@ -19,7 +20,7 @@ pub record Told : Type 0 where
 
 -- a run of no step
 abbrev pub untold : Told
-untold = record { turns = []; shut = replicate 16 None; refused = replicate 16 false }
+untold = record { turns = []; shut = replicate SLOTS None; refused = replicate SLOTS false }
 
 -- the turns of a slot, in order
 abbrev pub turns_of : ℕ → List Said → List Said

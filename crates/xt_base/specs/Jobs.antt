@@ -9,6 +9,7 @@ use Rattle.xt_base.specs.State.{Flight, Items, Jobs, State}
 use Rattle.xt_base.specs.Text.{content_at, log_offers_of, pieces, text_of}
 use Rattle.xt_base.specs.declared.names.JobKind.{JobKind}
 use Rattle.xt_base.specs.declared.names.JobName.{JobName}
+use Rattle.xt_base.specs.declared.sizes.TheConstants.{FLUSH_BLOCKS}
 use Rattle.xt_base.specs.declared.steps.HomeAnswers.{HomeAnswers}
 use Rattle.xt_base.specs.declared.steps.HomeOffer.{HomeOffer}
 use Rattle.xt_base.specs.declared.steps.LogAnswers.{LogAnswers}
@@ -30,12 +31,12 @@ with_job JobKind.Ckpt serial j = record j { ckpt = serial }
 with_job JobKind.Flush serial j = record j { flush = serial }
 
 -- something to write, whose text has at least so many bytes, nothing in flight, and a number for the list after it
-abbrev pub is_worth : ℕ → Items → Bool
-is_worth n l = is_none l.flight && not (l.open_number == greatest) && not (length l.cil == 0) && nat_le n (cost l.cil)
+abbrev pub is_worth : ℕ → ℕ → Items → Bool
+is_worth ends n l = is_none l.flight && not (l.open_number == greatest) && not (length l.cil == 0) && nat_le n (cost ends l.cil)
 
 -- a checkpoint is wanted if it was asked, or the committed items cost an eighth of the log; a flush if it was asked
 abbrev pub is_wanted : JobKind → State → Bool
-is_wanted JobKind.Ckpt s = is_worth (if s.jobs.asked_ckpt then 0 else s.log_bytes / 8) s.items
+is_wanted JobKind.Ckpt s = is_worth s.form.ends (if s.jobs.asked_ckpt then 0 else s.log_bytes / 8) s.items
 is_wanted JobKind.Flush s = s.jobs.asked_flush
 
 -- whether a live mount owes a job of a kind
@@ -79,7 +80,7 @@ finished kind s = record s { jobs = with_job kind None s.jobs }
 -- ---- begin
 -- the pieces that a checkpoint would have now
 abbrev pub next_pieces : State → List (List ℕ)
-next_pieces s = pieces (text_of s.items.open_number s.items.cil s.frames.committed)
+next_pieces s = pieces (text_of s.form.size s.items.open_number s.items.cil s.frames.committed)
 
 -- the committed item list becomes the flight, the next number opens, and the asking is met
 abbrev pub flown : List (List ℕ) → State → State
@@ -107,8 +108,8 @@ abbrev pub with_active : List (ℕ × ℕ) → List (ℕ × ℕ) → Items → I
 with_active ail landed l = record l { ail = ail; landed = still_needed ail landed }
 
 -- the lists after the flight has landed
-abbrev pub landed_items : Flight → Items → Items
-landed_items f l = with_active (activated f.number f.items l.ail) (put f.number (cost f.items) l.landed) (record l { flight = None })
+abbrev pub landed_items : ℕ → Flight → Items → Items
+landed_items ends f l = with_active (activated f.number f.items l.ail) (put f.number (cost ends f.items) l.landed) (record l { flight = None })
 
 -- whether an owner waits for a checkpoint
 abbrev pub waits_on : ℕ → Owner → Bool
@@ -117,7 +118,7 @@ waits_on number other = false
 
 -- the checkpoint is on the log
 abbrev pub landed : Dropped → Flight → State → State
-landed dropped f s = settled dropped (finished JobKind.Ckpt (record s { owners = filter (λ e. not (waits_on f.number e.1)) s.owners; items = landed_items f s.items }))
+landed dropped f s = settled dropped (finished JobKind.Ckpt (record s { owners = filter (λ e. not (waits_on f.number e.1)) s.owners; items = landed_items s.form.ends f s.items }))
 
 -- the flight is given up
 abbrev pub failed : Dropped → State → State
@@ -169,9 +170,9 @@ abbrev pub by_number : List (ℕ × ℕ) → List (ℕ × ℕ)
 by_number [] = []
 by_number (e ∷ es) = placed e (by_number es)
 
--- the blocks that a flush writes, the first 8; none on a shut mount
+-- the blocks that a flush writes, the first ones; none on a shut mount
 abbrev pub flush_plan : State → List ℕ
-flush_plan s = if is_some s.shut then [] else map (λ e. e.0) (take 8 (by_number (eligible s)))
+flush_plan s = if is_some s.shut then [] else map (λ e. e.0) (take FLUSH_BLOCKS (by_number (eligible s)))
 
 -- the blocks whose write was answered Ok
 abbrev pub written : List ℕ → List Bool → List ℕ
@@ -218,10 +219,10 @@ abbrev pub flush : Dropped → HomeAnswers → State → Outcome
 flush dropped answers s = flush_of dropped answers s (flush_plan s)
 
 -- each write with its answer
-abbrev pub writes : List (ℕ × List ℕ) → List ℕ → List Bool → List HomeOffer
-writes contents [] answers = []
-writes contents (b ∷ bs) [] = []
-writes contents (b ∷ bs) (ok ∷ oks) = HomeOffer.Write b (content_at b contents) ok ∷ writes contents bs oks
+abbrev pub writes : ℕ → List (ℕ × List ℕ) → List ℕ → List Bool → List HomeOffer
+writes size contents [] answers = []
+writes size contents (b ∷ bs) [] = []
+writes size contents (b ∷ bs) (ok ∷ oks) = HomeOffer.Write b (content_at size b contents) ok ∷ writes size contents bs oks
 
 -- the sync with its answer, where something was written
 abbrev pub sync_offer : HomeAnswers → List HomeOffer
@@ -229,7 +230,7 @@ sync_offer answers = if answers.count == 0 then [] else HomeOffer.Sync answers.s
 
 -- what a flush offered to the home device
 abbrev pub flush_offers : HomeAnswers → State → List HomeOffer
-flush_offers answers s = writes s.frames.committed (flush_plan s) (write_answers answers) ++ sync_offer answers
+flush_offers answers s = writes s.form.size s.frames.committed (flush_plan s) (write_answers answers) ++ sync_offer answers
 
 -- one answer for each planned write (and one for the sync, where there is one)
 abbrev pub fits_plan : HomeAnswers → List ℕ → Bool

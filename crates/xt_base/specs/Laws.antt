@@ -8,12 +8,13 @@ use Rattle.xt_base.specs.Text.{content_at}
 use Rattle.xt_base.specs.declared.steps.Answer.{Answer}
 use Rattle.xt_base.specs.declared.steps.Request.{Request}
 
--- two states look alike to a transaction at a block: its record is the same; it has the block in both, with the same recursion count, or in neither; and where it has it, the fresh mark and the committed content are the same
+-- two states look alike to a transaction at a block: their form and its record are the same; it has the block in both, with the same recursion count, or in neither; and where it has it, the fresh mark and the committed content are the same
 pub record LooksAlike (t b : ℕ) (s u : State) : Type 0 where
+  pub form : s.form ≡ u.form
   pub trans : at t s.transactions ≡ at t u.transactions
   pub count : own_count t (at b s.owners) ≡ own_count t (at b u.owners)
   pub fresh : is_own s t b ≡ true → is_fresh s b ≡ is_fresh u b
-  pub content : is_own s t b ≡ true → content_at b s.frames.committed ≡ content_at b u.frames.committed
+  pub content : is_own s t b ≡ true → content_at s.form.size b s.frames.committed ≡ content_at u.form.size b u.frames.committed
 
 -- the requests by which a transaction uses a block that it has: view, log, hold, unhold, relse, inval
 abbrev pub uses : ℕ → ℕ → Request → Bool

@@ -3,10 +3,12 @@ pub mod Places
 pub mod Views
 pub mod Chunks
 pub mod ChunkWords
+pub mod Form
 pub mod State
 pub mod Space
 pub mod Settle
 pub mod Steps
+pub mod Errors
 pub mod Text
 pub mod Legs
 pub mod Calls

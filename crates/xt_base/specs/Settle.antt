@@ -3,6 +3,7 @@ use Rattle.std.specs.Prelude.{List, filter, if◌then◌else◌, is_none, not, r
 use Rattle.xt_base.specs.Maps.{has}
 use Rattle.xt_base.specs.Space.{is_busy}
 use Rattle.xt_base.specs.State.{State}
+use Rattle.xt_base.specs.declared.sizes.TheConstants.{IDLE_BLOCKS}
 
 -- blocks whose settle found no memory
 abbrev pub Dropped : Type 0
@@ -12,9 +13,9 @@ Dropped = List ℕ
 abbrev pub leaving : Dropped → State → List (ℕ × List ℕ)
 leaving dropped s = filter (λ e. not (is_busy s e.0) && not (has dropped e.0)) s.frames.committed
 
--- the idle list with these before it, the greatest block first, cut at 64
+-- the idle list with these before it, the greatest block first, cut where it is full
 abbrev pub rested : List (ℕ × List ℕ) → List (ℕ × List ℕ) → List (ℕ × List ℕ)
-rested more idle = take 64 (reverse more ++ idle)
+rested more idle = take IDLE_BLOCKS (reverse more ++ idle)
 
 -- what is no longer busy leaves the frames; on a live mount its content goes to the front of the idle list
 abbrev pub settled : Dropped → State → State

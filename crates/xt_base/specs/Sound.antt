@@ -1,10 +1,12 @@
--- What holds of every mount: its log space is within the log, at most 64 blocks are busy, its maps rise, what is granted covers what is changed,
+-- What holds of every mount: its log space is within the log, few blocks are busy, its maps rise, what is granted covers what is changed,
 -- and what is listed has a committed content.
 use Rattle.std.specs.Prelude.{Bool, List, None, Option, Some, [], false, is_none, is_some, length, suc, sum_by, true, ℕ, ◌+◌, ◌<◌, ◌||◌, ◌∷◌, ◌≡◌, ◌≤◌, ◌⊎◌}
+use Rattle.xt_base.specs.Form.{IsForm}
 use Rattle.xt_base.specs.Legs.{own_count, owned_by}
 use Rattle.xt_base.specs.Maps.{at, has, is_in}
 use Rattle.xt_base.specs.Space.{charge, cost, count_beside, flight_items, granted, greatest, is_busy, is_listed, is_needed}
 use Rattle.xt_base.specs.State.{Change, Flight, Frames, Items, Jobs, State, Transaction}
+use Rattle.xt_base.specs.declared.sizes.TheConstants.{BUSY_BLOCKS, MOST_LOG}
 use Rattle.xt_base.specs.declared.steps.Owner.{Owner}
 use Rattle.xt_base.specs.declared.steps.Owner.TheVariants.{Stale}
 
@@ -37,8 +39,8 @@ abbrev pub Owns : List (ℕ × Owner) → ℕ → ℕ → Type 0
 Owns owners t b = is_some (own_count t (at b owners)) ≡ true
 
 -- a leg of an open transaction is charged within its unit, what it marked was charged, and it owns what it changed and what has its hold mark
-pub record IsFair (owners : List (ℕ × Owner)) (e : ℕ × Transaction) : Type 0 where
-  pub unit : charge e.1.leg.changes ≤ e.1.unit
+pub record IsFair (ends : ℕ) (owners : List (ℕ × Owner)) (e : ℕ × Transaction) : Type 0 where
+  pub unit : charge ends e.1.leg.changes ≤ e.1.unit
   pub rising : IsRising e.1.leg.changes
   pub covered : Each IsCovered e.1.leg.changes
   pub owned : Each (λ c. Owns owners e.0 c.0) e.1.leg.changes
@@ -55,9 +57,9 @@ IsBetween None l = Unit {0}
 IsBetween (Some f) l = (f.number < l.open_number) × AllBelow f.number l.landed
 
 -- what holds of a log of so many bytes, the owners, the open transactions and the item lists
-pub record AreSound (log_bytes : ℕ) (owners : List (ℕ × Owner)) (transactions : List (ℕ × Transaction)) (l : Items) : Type 0 where
-  pub space : granted transactions + cost l.cil + cost (flight_items l.flight) + sum_by (λ e. e.1) l.landed ≤ log_bytes
-  pub busy : length owners + count_beside owners l ≤ 64
+pub record AreSound (ends log_bytes : ℕ) (owners : List (ℕ × Owner)) (transactions : List (ℕ × Transaction)) (l : Items) : Type 0 where
+  pub space : granted transactions + cost ends l.cil + cost ends (flight_items l.flight) + sum_by (λ e. e.1) l.landed ≤ log_bytes
+  pub busy : length owners + count_beside owners l ≤ BUSY_BLOCKS
   pub owners_rise : IsRising owners
   pub transactions_rise : IsRising transactions
   pub cil_rises : IsRising l.cil
@@ -67,7 +69,7 @@ pub record AreSound (log_bytes : ℕ) (owners : List (ℕ × Owner)) (transactio
   pub landed_below : AllBelow l.open_number l.landed
   pub landed_needed : Each (λ e. is_needed l.ail e.0 ≡ true) l.landed
   pub flying : IsBetween l.flight l
-  pub fair : Each (IsFair owners) transactions
+  pub fair : Each (IsFair ends owners) transactions
 
 -- what holds of the frames: contents and fresh marks are of busy blocks
 pub record AreKept (busy : ℕ → Bool) (frames : Frames) : Type 0 where
@@ -118,9 +120,10 @@ pub record AreWritten (owners : List (ℕ × Owner)) (committed : List (ℕ × L
 
 -- what holds of every mount
 pub record IsSound (s : State) : Type 0 where
-  pub log_small : s.log_bytes ≤ 16777216
+  pub form : IsForm s.form
+  pub log_small : s.log_bytes ≤ MOST_LOG
   pub numbers : AreNumbered s.last_trans s.transactions
-  pub parts : AreSound s.log_bytes s.owners s.transactions s.items
+  pub parts : AreSound s.form.ends s.log_bytes s.owners s.transactions s.items
   pub kept : AreKept (is_busy s) s.frames
   pub ready : IsReady s.items s.jobs
   -- on a live mount each open transaction has a leg left, so that its grant covers its charge; where one is shut, nothing that was changed is committed

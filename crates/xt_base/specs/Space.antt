@@ -3,27 +3,28 @@ use Rattle.std.specs.List.{list_any}
 use Rattle.std.specs.Prelude.{◌∷◌, Bool, List, None, Option, Some, [], count_by, filter, if◌then◌else◌, length, nat_le, not, sum_by, ℕ, ◌*◌, ◌+◌, ◌==◌, ◌||◌}
 use Rattle.xt_base.specs.Maps.{is_in}
 use Rattle.xt_base.specs.State.{Change, Flight, Items, State, Transaction}
+use Rattle.xt_base.specs.declared.sizes.TheConstants.{CHUNK_COST, ITEM_COST}
 use Rattle.xt_base.specs.declared.steps.Owner.{Owner}
 
 -- the greatest number of a counter
 abbrev pub greatest : ℕ
 greatest = 18446744073709551615
 
--- what one item costs: 16, and 128 for each chunk
+-- what one item costs, with its chunks
 abbrev pub item_cost : ℕ × List ℕ → ℕ
-item_cost e = 16 + 128 * length e.1
+item_cost e = ITEM_COST + CHUNK_COST * length e.1
 
--- the cost of a list of items, which is the length of its checkpoint text
-abbrev pub cost : List (ℕ × List ℕ) → ℕ
-cost es = if length es == 0 then 0 else 32 + sum_by item_cost es
+-- the cost of a list of items, which is the length of its checkpoint text, with the bytes that a text has beside its items
+abbrev pub cost : ℕ → List (ℕ × List ℕ) → ℕ
+cost ends es = if length es == 0 then 0 else ends + sum_by item_cost es
 
 -- what a leg is charged for one block
 abbrev pub change_cost : ℕ × Change → ℕ
-change_cost e = 16 + 128 * length e.1.charged
+change_cost e = ITEM_COST + CHUNK_COST * length e.1.charged
 
 -- a leg's charge
-abbrev pub charge : List (ℕ × Change) → ℕ
-charge es = if length es == 0 then 0 else 32 + sum_by change_cost es
+abbrev pub charge : ℕ → List (ℕ × Change) → ℕ
+charge ends es = if length es == 0 then 0 else ends + sum_by change_cost es
 
 -- what is in flight
 abbrev pub flight_items : Option Flight → List (ℕ × List ℕ)
@@ -54,7 +55,7 @@ granted ts = sum_by (λ e. e.1.unit * e.1.legs) ts
 
 -- the log space in use
 abbrev pub used : State → ℕ
-used s = granted s.transactions + cost s.items.cil + cost (flight_items s.items.flight) + sum_by (λ e. e.1) s.items.landed
+used s = granted s.transactions + cost s.form.ends s.items.cil + cost s.form.ends (flight_items s.items.flight) + sum_by (λ e. e.1) s.items.landed
 
 -- whether a block is on a list
 abbrev pub is_listed : Items → ℕ → Bool

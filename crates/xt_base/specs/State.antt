@@ -1,5 +1,6 @@
 -- What one slot is: the values of its layers side by side.
 use Rattle.std.specs.Prelude.{Bool, List, None, Option, [], false, ℕ, ◌≡◌}
+use Rattle.xt_base.specs.Form.{Form}
 use Rattle.xt_base.specs.declared.steps.Owner.{Owner}
 use Rattle.xt_base.specs.declared.steps.Reason.{Reason}
 
@@ -57,6 +58,7 @@ pub record State : Type 0 where
   pub life : ℕ
   pub log_bytes : ℕ
   pub blocks : ℕ
+  pub form : Form
   pub frames : Frames
   pub owners : List (ℕ × Owner)
   pub transactions : List (ℕ × Transaction)
@@ -77,12 +79,13 @@ abbrev pub empty : Lone
 empty = record { last_life = 0; seen_life = 0; seen_reason = None; mounted = None }
 
 -- a new mount
-abbrev pub mount_of : ℕ → ℕ → ℕ → ℕ → State
-mount_of slot life log_bytes blocks = record {
+abbrev pub mount_of : ℕ → ℕ → ℕ → ℕ → Form → State
+mount_of slot life log_bytes blocks form = record {
   slot = slot;
   life = life;
   log_bytes = log_bytes;
   blocks = blocks;
+  form = form;
   frames = record { committed = []; fresh = []; idle = [] };
   owners = [];
   transactions = [];

@@ -1,22 +1,23 @@
 -- The text of a checkpoint, its pieces, and what is offered of them.
 use Rattle.std.specs.Int.{to_be_bytes, w32, w64}
-use Rattle.std.specs.Prelude.{Bool, List, None, Option, Some, [], codes, drop, false, flat_map, if◌then◌else◌, length, map, replicate, set, suc, take, true, unwrap_or, zero, ℕ, ◌*◌, ◌++◌, ◌+◌, ◌/◌, ◌==◌, ◌∷◌}
+use Rattle.std.specs.Prelude.{Bool, List, None, Option, Some, [], codes, drop, false, flat_map, if◌then◌else◌, length, map, replicate, set, suc, take, true, unwrap_or, zero, ℕ, ◌*◌, ◌++◌, ◌+◌, ◌-◌, ◌/◌, ◌==◌, ◌∷◌}
 use Rattle.xt_base.specs.Chunks.{word_of}
 use Rattle.xt_base.specs.Maps.{at}
+use Rattle.xt_base.specs.declared.sizes.TheConstants.{CHUNK_BYTES, PIECE_BYTES}
 use Rattle.xt_base.specs.declared.steps.LogAnswers.{LogAnswers}
 use Rattle.xt_base.specs.declared.steps.LogOffer.{LogOffer}
 
 -- a block of zeros
-abbrev pub zeros : List ℕ
-zeros = replicate 4096 0
+abbrev pub zeros : ℕ → List ℕ
+zeros size = replicate size 0
 
--- what a map of contents has at a block
-abbrev pub content_at : ℕ → List (ℕ × List ℕ) → List ℕ
-content_at b contents = unwrap_or (at b contents) zeros
+-- what a map of contents of a size has at a block
+abbrev pub content_at : ℕ → ℕ → List (ℕ × List ℕ) → List ℕ
+content_at size b contents = unwrap_or (at b contents) (zeros size)
 
--- the 128 bytes of one chunk
+-- the bytes of one chunk
 abbrev pub chunk : List ℕ → ℕ → List ℕ
-chunk content k = take 128 (drop (128 * k) content)
+chunk content k = take CHUNK_BYTES (drop (CHUNK_BYTES * k) content)
 
 -- the bytes of some chunks, one after another
 abbrev pub chunk_bytes : List ℕ → List ℕ → List ℕ
@@ -32,19 +33,19 @@ text_with number count body =
     codes "XCP1" ++ to_be_bytes w64 number ++ to_be_bytes w32 count ++ body ++ codes "XCE1" ++ to_be_bytes w32 count ++ to_be_bytes w64 number
 
 -- the text of a checkpoint: its number, and its items with these contents
-abbrev pub text_of : ℕ → List (ℕ × List ℕ) → List (ℕ × List ℕ) → List ℕ
-text_of number items contents = text_with number (length items) (flat_map (λ e. item_text e.0 e.1 (chunk_bytes (content_at e.0 contents) e.1)) items)
+abbrev pub text_of : ℕ → ℕ → List (ℕ × List ℕ) → List (ℕ × List ℕ) → List ℕ
+text_of size number items contents = text_with number (length items) (flat_map (λ e. item_text e.0 e.1 (chunk_bytes (content_at size e.0 contents) e.1)) items)
 
--- how many pieces of 4,096 bytes a text has, the last one shorter or whole
+-- how many pieces a text has, the last one shorter or whole
 abbrev pub piece_count : List ℕ → ℕ
-piece_count text = (length text + 4095) / 4096
+piece_count text = (length text + (PIECE_BYTES - 1)) / PIECE_BYTES
 
 -- the first n pieces
 abbrev pub first_pieces : ℕ → List ℕ → List (List ℕ)
 first_pieces zero text = []
-first_pieces (suc n) text = take 4096 text ∷ first_pieces n (drop 4096 text)
+first_pieces (suc n) text = take PIECE_BYTES text ∷ first_pieces n (drop PIECE_BYTES text)
 
--- the text cut every 4,096 bytes
+-- the text cut into pieces
 abbrev pub pieces : List ℕ → List (List ℕ)
 pieces text = first_pieces (piece_count text) text
 

@@ -4,13 +4,8 @@ ghost use Rattle.std.specs.Prelude.{◌≡◌, ◌+◌, ◌≤◌, ◌<◌, ◌^
 ghost use Rattle.xt_base.specs.Chunks.{chunks_where, union as either, marks, touches, places_of, word_of};
 ghost use Rattle.xt_base.specs.Maps.{has as is_in_set};
 
+use crate::sizes::{BLOCK_BYTES, CHUNK_BYTES, CHUNKS};
 use std::marker::Model;
-
-/// How many chunks a block has.
-pub const CHUNKS: u32 = 32;
-
-/// How many bytes a chunk has (`XFS_BLF_CHUNK` of `xfs_log_format.h`).
-pub const CHUNK_BYTES: usize = 128;
 
 /// A set of chunks, numbered 0 to 31. Clauses see the rising list of its numbers.
 #[derive(Clone, Copy, Debug)]
@@ -62,7 +57,7 @@ impl Chunks {
 
     /// The chunks of which the bytes `first` to `first + n - 1` mark some.
     pub fn mark(first: u32, n: u32) -> Self
-        requires { first + n ≤ 4096 }
+        requires { first + n ≤ BLOCK_BYTES }
         ensures { result ≡ marks first n }
     {
         let mut bits = 0u32;
@@ -86,7 +81,7 @@ impl Chunks {
     /// How many chunks of another set it lacks, 0 to 32.
     pub fn lacks(self, other: Chunks) -> u32
         ensures value { length (either self other) ≡ length self + result }
-        ensures range { result ≤ 32 }
+        ensures range { result ≤ CHUNKS }
     {
         let before = self.bits.count_ones();
         self.union(other).count() - before
@@ -95,14 +90,14 @@ impl Chunks {
     /// How many chunks it has, 0 to 32.
     pub fn count(self) -> u32
         ensures value { result ≡ length self }
-        ensures range { result ≤ 32 }
+        ensures range { result ≤ CHUNKS }
     {
         self.bits.count_ones()
     }
 
     /// Whether it has chunk `k`.
     pub fn has(self, k: u32) -> bool
-        requires { k < 32 }
+        requires { k < CHUNKS }
         ensures { result ≡ is_in_set self k }
     {
         self.bits >> k & 1 == 1
@@ -118,9 +113,10 @@ impl Chunks {
 
 /// Whether one of the bytes `first` to `first + n - 1` lies in chunk `k`.
 fn is_touched(first: u32, n: u32, k: u32) -> bool
-    requires bytes { first + n ≤ 4096 }
-    requires chunk { k < 32 }
+    requires bytes { first + n ≤ BLOCK_BYTES }
+    requires chunk { k < CHUNKS }
     ensures { result ≡ touches first n k }
 {
-    n > 0 && 128 * k < first + n && first < 128 * k + 128
+    let start = CHUNK_BYTES as u32 * k;
+    n > 0 && start < first + n && first < start + CHUNK_BYTES as u32
 }

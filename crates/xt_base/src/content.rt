@@ -2,12 +2,11 @@
 
 ghost use Rattle.std.specs.Prelude.{◌≡◌, ◌+◌, ◌≤◌, ◌<◌, ◌++◌, ◌↔◌, List, ℕ, length, take, drop, replicate, IfOk, IsSome, IfSome};
 
+use crate::form::Form;
 use crate::names::Block;
+use crate::sizes::{BLOCK_BYTES, BUSY_BLOCKS, DATA_BYTES};
 use std::alloc::{AllocError, Global};
 use std::marker::Model;
-
-/// The bytes of a block.
-pub const BLOCK_BYTES: usize = 4096;
 
 /// The content of a block: exactly 4,096 bytes, in a box, so that what has a content is small.
 #[derive(Debug, Drop)]
@@ -17,26 +16,39 @@ pub struct Content {
 
 impl Model for Content {
     ghost use Rattle.std.specs.Prelude.{◌≡◌, List, ℕ, length};
+    ghost use Rattle.xt_base.specs.declared.sizes.TheConstants.{BLOCK_BYTES};
 
     ghost Value = { List ℕ };
 
     ghost view = { λ c. c.bytes.value.items };
 
-    ghost invariant = { λ c. length c.bytes.value.items ≡ 4096 };
+    ghost invariant = { λ c. length c.bytes.value.items ≡ BLOCK_BYTES };
 }
 
 impl Content {
-    /// A block of zeros. The one error is want of memory.
-    pub fn zeros(alloc: Global) -> Result<Self, AllocError>
-        ensures { IfOk result (λ content. content ≡ replicate 4096 0) }
+    /// A block of zeros, of the size that a form says. The one error is want of memory.
+    pub fn zeros(alloc: Global, form: Form) -> Result<Self, AllocError>
+        ensures { IfOk result (λ content. content ≡ replicate form.size 0) }
     {
-        let bytes = Box::new(alloc, vec![in alloc; 0u8; 4096]?)?;
+        let bytes = Box::new(alloc, vec![in alloc; 0u8; form.block_bytes()]?)?;
         Ok(Content { bytes })
     }
 
-    /// The content of these bytes; None where they are not 4,096. The one error is want of memory.
-    pub fn of(alloc: Global, bytes: Vec<u8>) -> Result<Option<Self>, AllocError>
-        ensures whole { IfOk result (λ found. IsSome found ↔ (length bytes.items ≡ 4096)) }
+    /// The content of these bytes, which are copied; None where they are not 4,096. The one error is want of memory.
+    pub fn of(alloc: Global, bytes: &[u8]) -> Result<Option<Self>, AllocError>
+        ensures whole { IfOk result (λ found. IsSome found ↔ (length bytes.now ≡ BLOCK_BYTES)) }
+        ensures value { IfOk result (λ found. IfSome found (λ content. content ≡ bytes.now)) }
+    {
+        if bytes.len() != BLOCK_BYTES {
+            return Ok(None);
+        }
+        let copy = bytes.to_vec(alloc)?;
+        Content::of_vec(alloc, copy)
+    }
+
+    /// The content of these bytes, which are taken over; None where they are not 4,096. The one error is want of memory.
+    pub fn of_vec(alloc: Global, bytes: Vec<u8>) -> Result<Option<Self>, AllocError>
+        ensures whole { IfOk result (λ found. IsSome found ↔ (length bytes.items ≡ BLOCK_BYTES)) }
         ensures value { IfOk result (λ found. IfSome found (λ content. content ≡ bytes.items)) }
     {
         if bytes.len() != BLOCK_BYTES {
@@ -72,14 +84,14 @@ impl Content {
     /// Its bytes.
     pub fn bytes(&self) -> &[u8]
         ensures value { result.now ≡ self.now }
-        ensures whole { length result.now ≡ 4096 }
+        ensures whole { length result.now ≡ BLOCK_BYTES }
     {
         &self.bytes
     }
 
     /// Writes bytes from `first` on.
     pub fn write(&mut self, first: usize, bytes: &[u8])
-        requires { first + length bytes.now ≤ 4096 }
+        requires { first + length bytes.now ≤ BLOCK_BYTES }
         ensures { self.new ≡ take first self.old ++ bytes.now ++ drop (first + length bytes.now) self.old }
     {
         let end = first + bytes.len();
@@ -95,21 +107,34 @@ pub struct Data {
 
 impl Model for Data {
     ghost use Rattle.std.specs.Prelude.{◌≤◌, List, ℕ, length};
+    ghost use Rattle.xt_base.specs.declared.sizes.TheConstants.{DATA_BYTES};
 
     ghost Value = { List ℕ };
 
     ghost view = { λ d. d.bytes.value.items };
 
-    ghost invariant = { λ d. length d.bytes.value.items ≤ 4096 };
+    ghost invariant = { λ d. length d.bytes.value.items ≤ DATA_BYTES };
 }
 
 impl Data {
-    /// Bytes that are few enough; else None. The one error is want of memory.
-    pub fn of(alloc: Global, bytes: Vec<u8>) -> Result<Option<Self>, AllocError>
-        ensures valid { IfOk result (λ found. IsSome found ↔ (length bytes.items ≤ 4096)) }
+    /// These bytes, which are copied; None where they are more than 4,096. The one error is want of memory.
+    pub fn of(alloc: Global, bytes: &[u8]) -> Result<Option<Self>, AllocError>
+        ensures valid { IfOk result (λ found. IsSome found ↔ (length bytes.now ≤ DATA_BYTES)) }
+        ensures value { IfOk result (λ found. IfSome found (λ carried. carried ≡ bytes.now)) }
+    {
+        if bytes.len() > DATA_BYTES {
+            return Ok(None);
+        }
+        let copy = bytes.to_vec(alloc)?;
+        Data::of_vec(alloc, copy)
+    }
+
+    /// These bytes, which are taken over; None where they are more than 4,096. The one error is want of memory.
+    pub fn of_vec(alloc: Global, bytes: Vec<u8>) -> Result<Option<Self>, AllocError>
+        ensures valid { IfOk result (λ found. IsSome found ↔ (length bytes.items ≤ DATA_BYTES)) }
         ensures value { IfOk result (λ found. IfSome found (λ carried. carried ≡ bytes.items)) }
     {
-        if bytes.len() > BLOCK_BYTES {
+        if bytes.len() > DATA_BYTES {
             return Ok(None);
         }
         let bytes = Box::new(alloc, bytes)?;
@@ -127,7 +152,7 @@ impl Data {
     /// Its bytes.
     pub fn bytes(&self) -> &[u8]
         ensures value { result.now ≡ self.now }
-        ensures short { length result.now ≤ 4096 }
+        ensures short { length result.now ≤ DATA_BYTES }
     {
         &self.bytes
     }
@@ -141,21 +166,22 @@ pub struct HeldBlocks {
 
 impl Model for HeldBlocks {
     ghost use Rattle.std.specs.Prelude.{◌<◌, ◌≤◌, List, ℕ, length};
+    ghost use Rattle.xt_base.specs.declared.sizes.TheConstants.{BUSY_BLOCKS};
 
     ghost Value = { List ℕ };
 
     ghost view = { λ h. h.blocks.value.items };
 
-    ghost invariant = { λ h. (0 < length h.blocks.value.items) × (length h.blocks.value.items ≤ 64) };
+    ghost invariant = { λ h. (0 < length h.blocks.value.items) × (length h.blocks.value.items ≤ BUSY_BLOCKS) };
 }
 
 impl HeldBlocks {
     /// The blocks of a list of 1 to 64; else None. The one error is want of memory.
     pub fn of(alloc: Global, blocks: Vec<Block>) -> Result<Option<Self>, AllocError>
-        ensures valid { IfOk result (λ found. IsSome found ↔ ((0 < length blocks.items) × (length blocks.items ≤ 64))) }
+        ensures valid { IfOk result (λ found. IsSome found ↔ ((0 < length blocks.items) × (length blocks.items ≤ BUSY_BLOCKS))) }
         ensures value { IfOk result (λ found. IfSome found (λ held. held ≡ blocks.items)) }
     {
-        if blocks.is_empty() || blocks.len() > 64 {
+        if blocks.is_empty() || blocks.len() > BUSY_BLOCKS {
             return Ok(None);
         }
         let blocks = Box::new(alloc, blocks)?;
@@ -165,7 +191,7 @@ impl HeldBlocks {
     /// The blocks, ascending.
     pub fn blocks(&self) -> &[Block]
         ensures value { result.now ≡ self.now }
-        ensures count { (0 < length result.now) × (length result.now ≤ 64) }
+        ensures count { (0 < length result.now) × (length result.now ≤ BUSY_BLOCKS) }
     {
         &self.blocks
     }

@@ -2,6 +2,7 @@
 
 ghost use Rattle.std.specs.Prelude.{◌≡◌, ◌≤◌, ◌==◌, ◌+◌, [], ℕ, Bool, List, true, false, is_none, length, sum_by};
 ghost use Rattle.xt_base.specs.Calls.{alloc, alone_with, is_own};
+ghost use Rattle.xt_base.specs.Form.{Form as AnyForm, IsForm};
 ghost use Rattle.xt_base.specs.Jobs.{begin as begin_job, end as end_job, flush as flush_job, flush_plan, is_ckpt, is_owed, is_waiting, posted};
 ghost use Rattle.xt_base.specs.Laws.{LooksAlike, after_calls, is_look, landed_since, names, uses};
 ghost use Rattle.xt_base.specs.Maps.{is_in};
@@ -11,6 +12,7 @@ ghost use Rattle.xt_base.specs.Space.{cost, flight_items, granted, least_number,
 ghost use Rattle.xt_base.specs.State.{IsWithoutTrace, State, mount_of};
 ghost use Rattle.xt_base.specs.declared.names.JobKind.{JobKind as AnyKind};
 ghost use Rattle.xt_base.specs.declared.names.JobName.{JobName as AnyName};
+ghost use Rattle.xt_base.specs.declared.sizes.TheConstants.{MOST_LOG};
 ghost use Rattle.xt_base.specs.declared.steps.Answer.{Answer as AnyAnswer};
 ghost use Rattle.xt_base.specs.declared.steps.HomeAnswers.{HomeAnswers as AnyWrites};
 ghost use Rattle.xt_base.specs.declared.steps.LogAnswers.{LogAnswers as AnyPieces};
@@ -44,7 +46,7 @@ pub fn clean_cancel()
 /// answers and whatever finds no memory as it settles, a post of a job that is owed, a begin of a
 /// checkpoint that waits, and the end of a checkpoint and of a flush, whatever the devices answer.
 pub fn stays_sound()
-    ensures first { (slot life log_bytes blocks : ℕ) → log_bytes ≤ 16777216 → IsSound (mount_of slot life log_bytes blocks) }
+    ensures first { (slot life log_bytes blocks : ℕ) (form : AnyForm) → IsForm form → log_bytes ≤ MOST_LOG → IsSound (mount_of slot life log_bytes blocks form) }
     ensures calls { (s : State) (request : AnyRequest) (answer : AnyAnswer) (dropped : Dropped) → IsSound s → IsSound (alone_with dropped request answer s).state }
     ensures posts { (s : State) (kind : AnyKind) → IsSound s → is_owed kind s ≡ true → IsSound (posted kind s) }
     ensures begins { (s : State) (name : AnyName) → IsSound s → is_waiting name s ≡ true → is_ckpt name.kind ≡ true → IsSound (begin_job s).state }
@@ -64,6 +66,6 @@ pub fn writes_committed()
 /// the flight, and the cost of each landed checkpoint whose number is at least the least one on
 /// the active list (of none where that list is empty); and such are the landed ones that are kept.
 pub fn counts_landed()
-    ensures used { (s : State) → IsSound s → used s ≡ granted s.transactions + cost s.items.cil + cost (flight_items s.items.flight) + sum_by (λ e. e.1) (landed_since (least_number s.items.ail) s.items.landed) }
+    ensures used { (s : State) → IsSound s → used s ≡ granted s.transactions + cost s.form.ends s.items.cil + cost s.form.ends (flight_items s.items.flight) + sum_by (λ e. e.1) (landed_since (least_number s.items.ail) s.items.landed) }
     ensures kept { (ail landed : List (ℕ × ℕ)) → still_needed ail landed ≡ landed_since (least_number ail) landed }
 {}

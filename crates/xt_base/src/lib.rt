@@ -4,10 +4,25 @@
 
 pub mod chunks;
 pub mod content;
+pub mod form;
 pub mod laws;
 pub mod map;
 pub mod marks;
 pub mod names;
 pub mod newly;
 pub mod outcomes;
+pub mod sizes;
 pub mod steps;
+
+pub use chunks::Chunks;
+pub use content::{Content, Data, HeldBlocks};
+pub use form::Form;
+pub use map::NumberMap;
+pub use marks::ItemMarks;
+pub use names::{Block, Caller, CkptNo, JobKind, JobName, Life, Slot, TransNo, Worker};
+pub use newly::Newly;
+pub use outcomes::{Disorder, Offers, Outcomes, RunFault, Turn};
+pub use steps::{
+    Answer, Errno, HomeAnswers, HomeOffer, LogAnswers, LogOffer, Owner, Reason, Reply, Request,
+    Step,
+};

@@ -5,12 +5,9 @@ ghost use Rattle.xt_base.specs.Maps.{at, is_in, put as with_entry, without};
 ghost use Rattle.xt_base.specs.Places.{place, spot};
 ghost use Rattle.xt_base.specs.Sound.{IsRising};
 
+use crate::sizes::ROOM;
 use std::alloc::{AllocError, Global};
 use std::marker::Model;
-
-/// For how many entries a map has room from the start. A mount has at most 64 busy blocks and 32 open
-/// transactions; the room is twice 64, so that a list may take in another one before what it replaces leaves.
-pub const ROOM: usize = 128;
 
 /// A map from numbers with room for 128 entries, made once: to put an entry takes no memory.
 /// Clauses see the list of its entries by rising key.
@@ -22,12 +19,13 @@ pub struct NumberMap<V> {
 impl<V> Model for NumberMap<V> {
     ghost use Rattle.std.specs.Prelude.{List, ℕ, ◌≤◌, length, vec_capacity};
     ghost use Rattle.xt_base.specs.Sound.{IsRising};
+    ghost use Rattle.xt_base.specs.declared.sizes.TheConstants.{ROOM};
 
     ghost Value = { List (ℕ × V) };
 
     ghost view = { λ m. m.entries.items };
 
-    ghost invariant = { λ m. (length m.entries.items ≤ 128) × (128 ≤ vec_capacity m.entries) × IsRising m.entries.items };
+    ghost invariant = { λ m. (length m.entries.items ≤ ROOM) × (ROOM ≤ vec_capacity m.entries) × IsRising m.entries.items };
 }
 
 impl<V> NumberMap<V> {
@@ -42,7 +40,7 @@ impl<V> NumberMap<V> {
     /// Its entries, by rising key.
     pub fn entries(&self) -> &[(u64, V)]
         ensures value { result.now ≡ self.now }
-        ensures small { length result.now ≤ 128 }
+        ensures small { length result.now ≤ ROOM }
         ensures rising { IsRising result.now }
     {
         &self.entries
@@ -51,7 +49,7 @@ impl<V> NumberMap<V> {
     /// How many entries it has.
     pub fn len(&self) -> usize
         ensures value { result ≡ length self.now }
-        ensures small { result ≤ 128 }
+        ensures small { result ≤ ROOM }
     {
         self.entries.len()
     }
@@ -84,7 +82,7 @@ impl<V> NumberMap<V> {
 
     /// Whether there is an entry at a place, and it has a key.
     fn has_at(&self, at: usize, key: u64) -> bool
-        ensures { result ≡ true → (true ≡ is_in key self.now) × (at < 128) }
+        ensures { result ≡ true → (true ≡ is_in key self.now) × (at < ROOM) }
     {
         at < self.entries.len() && self.entries[at].0 == key
     }
@@ -108,7 +106,7 @@ impl<V> NumberMap<V> {
     pub fn put(&mut self, key: u64, value: V)
     where
         V: Drop,
-        requires { is_in key self.old ≡ false → length self.old < 128 }
+        requires { is_in key self.old ≡ false → length self.old < ROOM }
         ensures { self.new ≡ with_entry key value self.old }
     {
         let at = place_of(&self.entries, key);
@@ -122,7 +120,7 @@ impl<V> NumberMap<V> {
     /// Puts a value at a key that it does not have, also one that can't be let go. It takes no memory.
     pub fn put_new(&mut self, key: u64, value: V)
         requires absent { is_in key self.old ≡ false }
-        requires room { length self.old < 128 }
+        requires room { length self.old < ROOM }
         ensures { self.new ≡ with_entry key value self.old }
     {
         let at = place_of(&self.entries, key);
@@ -141,7 +139,7 @@ impl<V> NumberMap<V> {
 
     /// Puts a value at a key, and hands back the one that stood there. A new key needs room. It takes no memory.
     pub fn exchange(&mut self, key: u64, value: V) -> Option<V>
-        requires { is_in key self.old ≡ false → length self.old < 128 }
+        requires { is_in key self.old ≡ false → length self.old < ROOM }
         ensures value { result ≡ at key self.old }
         ensures map { self.new ≡ with_entry key value self.old }
     {
@@ -164,7 +162,7 @@ impl<V> NumberMap<V> {
         ensures value { result ≡ at key self.old }
         ensures rest { self.new ≡ without key self.old }
         ensures gone { is_in key self.new ≡ false }
-        ensures room { IfSome result (λ _. length self.new < 128) }
+        ensures room { IfSome result (λ _. length self.new < ROOM) }
         ensures missing { IfNone result (self.new ≡ self.old) }
     {
         let found = spot_of(&self.entries, key);

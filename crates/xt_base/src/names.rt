@@ -2,6 +2,7 @@
 
 ghost use Rattle.std.specs.Prelude.{◌≡◌, ◌<◌, ◌↔◌, IsSome, IfSome};
 
+use crate::sizes::{SLOTS, WORKERS};
 use std::marker::Model;
 
 /// A slot of the host, 0 to 15. One volume may be mounted in each.
@@ -10,12 +11,13 @@ pub struct Slot(u8);
 
 impl Model for Slot {
     ghost use Rattle.std.specs.Prelude.{◌<◌, ℕ};
+    ghost use Rattle.xt_base.specs.declared.sizes.TheConstants.{SLOTS};
 
     ghost Value = { ℕ };
 
     ghost view = { λ s. s.0 };
 
-    ghost invariant = { λ s. s.0 < 16 };
+    ghost invariant = { λ s. s.0 < SLOTS };
 
     ghost inverse = { λ n. record { 0 = n } };
 }
@@ -23,16 +25,20 @@ impl Model for Slot {
 impl Slot {
     /// The slot of an index below 16; else None.
     pub fn new(index: u8) -> Option<Self>
-        ensures valid { IsSome result ↔ (index < 16) }
+        ensures valid { IsSome result ↔ (index < SLOTS) }
         ensures value { IfSome result (λ slot. slot ≡ index) }
     {
-        if index < 16 { Some(Slot(index)) } else { None }
+        if (index as usize) < SLOTS {
+            Some(Slot(index))
+        } else {
+            None
+        }
     }
 
     /// Its index, 0 to 15.
     pub fn index(self) -> usize
         ensures value { result ≡ self }
-        ensures range { result < 16 }
+        ensures range { result < SLOTS }
     {
         self.0 as usize
     }
@@ -44,12 +50,13 @@ pub struct Worker(u8);
 
 impl Model for Worker {
     ghost use Rattle.std.specs.Prelude.{◌<◌, ℕ};
+    ghost use Rattle.xt_base.specs.declared.sizes.TheConstants.{WORKERS};
 
     ghost Value = { ℕ };
 
     ghost view = { λ w. w.0 };
 
-    ghost invariant = { λ w. w.0 < 8 };
+    ghost invariant = { λ w. w.0 < WORKERS };
 
     ghost inverse = { λ n. record { 0 = n } };
 }
@@ -57,16 +64,20 @@ impl Model for Worker {
 impl Worker {
     /// The worker of an index below 8; else None.
     pub fn new(index: u8) -> Option<Self>
-        ensures valid { IsSome result ↔ (index < 8) }
+        ensures valid { IsSome result ↔ (index < WORKERS) }
         ensures value { IfSome result (λ worker. worker ≡ index) }
     {
-        if index < 8 { Some(Worker(index)) } else { None }
+        if (index as usize) < WORKERS {
+            Some(Worker(index))
+        } else {
+            None
+        }
     }
 
     /// Its index, 0 to 7.
     pub fn index(self) -> usize
         ensures value { result ≡ self }
-        ensures range { result < 8 }
+        ensures range { result < WORKERS }
     {
         self.0 as usize
     }

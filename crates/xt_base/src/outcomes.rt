@@ -4,6 +4,7 @@ ghost use Rattle.std.specs.Prelude.{◌≡◌, ◌<◌, ◌++◌, ◌∷◌, [],
 ghost use Rattle.xt_base.specs.Isolation.{is_refused, shut_in, untold};
 
 use crate::names::Slot;
+use crate::sizes::SLOTS;
 use crate::steps::{HomeOffer, LogOffer, Reason, Reply};
 use std::alloc::{AllocError, Global};
 use std::marker::Model;
@@ -120,8 +121,8 @@ impl Turn {
 #[derive(Debug, Drop)]
 pub struct Outcomes {
     turns: Vec<Turn>,
-    shut: [Option<Reason>; 16],
-    refused: [bool; 16],
+    shut: [Option<Reason>; SLOTS],
+    refused: [bool; SLOTS],
 }
 
 impl Model for Outcomes {
@@ -141,8 +142,8 @@ impl Outcomes {
         let turns = Vec::with_capacity(alloc, steps)?;
         Ok(Outcomes {
             turns,
-            shut: [None; 16],
-            refused: [false; 16],
+            shut: [None; SLOTS],
+            refused: [false; SLOTS],
         })
     }
 
@@ -179,7 +180,7 @@ impl Outcomes {
     /// Notes why a slot is shut now, or that it is not.
     pub fn note_shut(&mut self, slot: Slot, reason: Option<Reason>)
         ensures noted { self.new ≡ record self.old { shut = slice_set self.old.shut slot reason } }
-        ensures range { slot < 16 }
+        ensures range { slot < SLOTS }
     {
         self.shut[slot.index()] = reason;
     }

@@ -1,10 +1,12 @@
 //! Requests, answers, replies, steps and offers.
 
-ghost use Rattle.std.specs.Prelude.{◌≡◌, IfOk};
+ghost use Rattle.std.specs.Prelude.{◌≡◌, ◌≤◌, length, IfOk};
+ghost use Rattle.xt_base.specs.Errors.{name_of, number_of};
 ghost use Rattle.xt_base.specs.Steps.{slot_of};
 
 use crate::content::{Content, Data, HeldBlocks};
 use crate::names::{Block, CkptNo, JobName, Life, Slot, TransNo, Worker};
+use crate::sizes::FLUSH_BLOCKS;
 use std::alloc::{AllocError, Global};
 
 /// Why a call was refused: the numbers and names of `errno.h` on Linux.
@@ -28,6 +30,43 @@ pub enum Errno {
     NoBufs,
     /// ESTALE: the slot has another life.
     Stale,
+}
+
+impl Errno {
+    /// Its number in `errno.h`.
+    pub fn number(self) -> u8
+        ensures { result ≡ number_of self }
+    {
+        match self {
+            Errno::Io => 5,
+            Errno::Again => 11,
+            Errno::NoMemory => 12,
+            Errno::Busy => 16,
+            Errno::NoDevice => 19,
+            Errno::Invalid => 22,
+            Errno::NoSpace => 28,
+            Errno::NoBufs => 105,
+            Errno::Stale => 116,
+        }
+    }
+
+    /// Its name in `errno.h`.
+    pub fn name(self) -> &'static str
+        ensures value { result.now ≡ name_of self }
+        ensures short { length result.now ≤ 7 }
+    {
+        match self {
+            Errno::Io => "EIO",
+            Errno::Again => "EAGAIN",
+            Errno::NoMemory => "ENOMEM",
+            Errno::Busy => "EBUSY",
+            Errno::NoDevice => "ENODEV",
+            Errno::Invalid => "EINVAL",
+            Errno::NoSpace => "ENOSPC",
+            Errno::NoBufs => "ENOBUFS",
+            Errno::Stale => "ESTALE",
+        }
+    }
 }
 
 /// Why a mount was shut: the `SHUTDOWN_*` reasons of `xfs_mount.h`. The first is kept.
@@ -182,7 +221,7 @@ pub struct LogAnswers {
 #[derive(Clone, Copy, Debug)]
 pub struct HomeAnswers {
     pub count: u8,
-    pub writes: [bool; 8],
+    pub writes: [bool; FLUSH_BLOCKS],
     pub sync: bool,
 }
 

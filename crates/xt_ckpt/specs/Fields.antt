@@ -2,6 +2,7 @@
 use Rattle.std.specs.Int.{from_be_bytes, w32, w64}
 use Rattle.std.specs.Prelude.{Bool, List, None, Option, Some, [], codes, if◌then◌else◌, length, nat_le, suc, ℕ, ◌&&◌, ◌*◌, ◌++◌, ◌<◌, ◌==◌, ◌≡◌, ◌∷◌}
 use Rattle.xt_base.specs.Chunks.{places_of}
+use Rattle.xt_base.specs.declared.sizes.TheConstants.{BUSY_BLOCKS, CHUNK_BYTES}
 use Rattle.xt_ckpt.specs.Grammar.{Entry}
 use Rattle.xt_ckpt.specs.declared.draft.Field.{Field}
 
@@ -26,7 +27,7 @@ width Field.Count = 4
 width Field.Block = 8
 width (Field.Map block) = 4
 width (Field.Flag block bits) = 4
-width (Field.Content block bits) = 128 * length (places_of bits)
+width (Field.Content block bits) = CHUNK_BYTES * length (places_of bits)
 width Field.End = 4
 width Field.EndCount = 4
 width Field.EndNumber = 8
@@ -56,9 +57,9 @@ with_item block bits content d = at_item (record d { items = d.items ++ (record 
 abbrev pub number_rule : ℕ → Draft → Option Draft
 number_rule number d = provided (nat_le 1 number) (record d { number = number; next = Field.Count })
 
--- there are 1 to 64 items
+-- there is an item, and no more than blocks can be busy
 abbrev pub count_rule : ℕ → Draft → Option Draft
-count_rule count d = provided (nat_le 1 count && nat_le count 64) (at_item (record d { count = count }))
+count_rule count d = provided (nat_le 1 count && nat_le count BUSY_BLOCKS) (at_item (record d { count = count }))
 
 -- the block of an item is above that of the item before
 abbrev pub block_rule : ℕ → Draft → Option Draft

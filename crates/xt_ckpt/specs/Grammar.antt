@@ -2,6 +2,7 @@
 use Rattle.std.specs.Int.{to_be_bytes, w32, w64}
 use Rattle.std.specs.Prelude.{List, [], codes, length, map, suc, ℕ, ◌*◌, ◌++◌, ◌<◌, ◌^◌, ◌≡◌, ◌≤◌, ◌⊎◌, ◌∷◌}
 use Rattle.xt_base.specs.Chunks.{places_of}
+use Rattle.xt_base.specs.declared.sizes.TheConstants.{BUSY_BLOCKS, CHUNK_BYTES}
 use Rattle.xt_ckpt.specs.declared.item.Item.{Item}
 
 -- what a text says of one block: which chunks it logs, and their bytes
@@ -32,7 +33,7 @@ pub record IsLogged (bytes : List ℕ) (e : Entry) : Type 0 where
   pub some : 0 < bits
   pub word : bits < 2 ^ 32
   pub chunks : e.chunks ≡ places_of bits
-  pub content : length e.content ≡ 128 * length e.chunks
+  pub content : length e.content ≡ CHUNK_BYTES * length e.chunks
   pub fields : bytes ≡ to_be_bytes w64 e.block ++ to_be_bytes w32 bits ++ to_be_bytes w32 0 ++ e.content
 
 -- an item is a cancel or has logged chunks
@@ -49,7 +50,7 @@ pub record IsText (bytes : List ℕ) (number : ℕ) (items : List Entry) : Type 
   pub first : 1 ≤ number
   pub range : number < 2 ^ 64
   pub some : 1 ≤ length items
-  pub few : length items ≤ 64
+  pub few : length items ≤ BUSY_BLOCKS
   pub body : List ℕ
   pub each : AreItems 0 body items
   pub fields : bytes ≡ codes "XCP1" ++ to_be_bytes w64 number ++ to_be_bytes w32 (length items) ++ body ++ codes "XCE1" ++ to_be_bytes w32 (length items) ++ to_be_bytes w64 number

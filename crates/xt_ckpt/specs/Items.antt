@@ -3,6 +3,7 @@ use Rattle.std.specs.Prelude.{List, flat_map, length, map, sum_by, ℕ, ◌*◌,
 use Rattle.xt_base.specs.Chunks.{places_of, word_of}
 use Rattle.xt_base.specs.Sound.{RisesFromKeys}
 use Rattle.xt_base.specs.Text.{item_text, text_with}
+use Rattle.xt_base.specs.declared.sizes.TheConstants.{CHUNK_BYTES, CHUNK_COST, ENDS, ITEM_COST}
 use Rattle.xt_ckpt.specs.declared.item.Item.{Item}
 
 -- the bytes of one item in a text
@@ -15,15 +16,15 @@ checkpoint_text number items = text_with number (length items) (flat_map item_by
 
 -- what an item costs in bytes of the log: 16, and 128 for each chunk
 abbrev pub item_len : Item → ℕ
-item_len item = 16 + 128 * length item.chunks
+item_len item = ITEM_COST + CHUNK_COST * length item.chunks
 
 -- what a checkpoint costs: the length of its text
 abbrev pub checkpoint_len : List Item → ℕ
-checkpoint_len items = 32 + sum_by item_len items
+checkpoint_len items = ENDS + sum_by item_len items
 
 -- an item has 128 bytes for each chunk
 abbrev pub HasForm : Item → Type 0
-HasForm item = length item.content.items ≡ 128 * length item.chunks
+HasForm item = length item.content.items ≡ CHUNK_BYTES * length item.chunks
 
 -- the blocks of the items rise
 abbrev pub BlocksRise : List Item → Type 0

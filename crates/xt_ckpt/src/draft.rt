@@ -6,12 +6,13 @@ ghost use Rattle.xt_ckpt.specs.Fields.{opening, width, after, number_rule, count
 ghost use Rattle.xt_ckpt.specs.declared.draft.Field.TheVariants as Field;
 ghost use Rattle.xt_ckpt.specs.Drafts.{seen, IsAfter};
 
-use crate::format::{END, MAX_ITEMS, START};
+use crate::format::{END, START};
 use crate::item::Item;
 use crate::reading::Checkpoint;
 use std::alloc::{AllocError, Global};
-use xt_base::chunks::{CHUNK_BYTES, Chunks};
+use xt_base::chunks::Chunks;
 use xt_base::names::{Block, CkptNo};
+use xt_base::sizes::{BUSY_BLOCKS, CHUNK_BYTES};
 
 /// The field of a text that comes next.
 #[derive(Clone, Copy, Debug)]
@@ -196,7 +197,7 @@ impl Draft {
     {
         self.count = count;
         let next = self.item_or_end();
-        self.go_on(count >= 1 && count as usize <= MAX_ITEMS, next)
+        self.go_on(count >= 1 && count as usize <= BUSY_BLOCKS, next)
     }
 
     /// Judges the block of an item.

@@ -5,6 +5,3 @@ pub const START: u32 = 0x5843_5031;
 
 /// The word behind its items, `XCE1`.
 pub const END: u32 = 0x5843_4531;
-
-/// The greatest count of items in a checkpoint: as many as blocks can be busy.
-pub const MAX_ITEMS: usize = 64;

@@ -3,6 +3,7 @@
 ghost use Rattle.std.specs.Prelude.{◌≡◌, ◌++◌, ◌+◌, ◌<◌, ◌≤◌, ◌↔◌, [], ℕ, List, All, length, slice_index_or};
 ghost use Rattle.std.specs.List.{concat};
 ghost use Rattle.xt_base.specs.Text.{pieces};
+ghost use Rattle.xt_base.specs.declared.sizes.TheConstants.{PIECE_BYTES};
 ghost use Rattle.xt_ckpt.specs.Fields.{IsFaultAt, IsUnfinished};
 ghost use Rattle.xt_ckpt.specs.Grammar.{Entry, IsText};
 ghost use Rattle.xt_ckpt.specs.Items.{HasForm, checkpoint_len, checkpoint_text};
@@ -42,6 +43,6 @@ pub fn text_length()
 /// last has 1 to 4,096.
 pub fn pieces_of_a_text()
     ensures joined { (text : List ℕ) → concat (pieces text) ≡ text }
-    ensures whole { (text : List ℕ) (k : ℕ) → k + 1 < length (pieces text) → length (slice_index_or (pieces text) k []) ≡ 4096 }
-    ensures last { (text : List ℕ) (k : ℕ) → k + 1 ≡ length (pieces text) → (1 ≤ length (slice_index_or (pieces text) k [])) × (length (slice_index_or (pieces text) k []) ≤ 4096) }
+    ensures whole { (text : List ℕ) (k : ℕ) → k + 1 < length (pieces text) → length (slice_index_or (pieces text) k []) ≡ PIECE_BYTES }
+    ensures last { (text : List ℕ) (k : ℕ) → k + 1 ≡ length (pieces text) → (1 ≤ length (slice_index_or (pieces text) k [])) × (length (slice_index_or (pieces text) k []) ≤ PIECE_BYTES) }
 {}

@@ -1,6 +1,6 @@
 //! The writer: the text of a checkpoint, cut into pieces that share one buffer.
 
-ghost use Rattle.std.specs.Prelude.{◌≡◌, ◌++◌, ◌==◌, ◌≤◌, All, length, flat_map, if◌then◌else◌, IfOk, IfErr, OnOk};
+ghost use Rattle.std.specs.Prelude.{◌≡◌, ◌+◌, ◌*◌, ◌++◌, ◌==◌, ◌≤◌, All, length, flat_map, if◌then◌else◌, IfOk, IfErr, OnOk};
 ghost use Rattle.std.specs.List.{concat};
 ghost use Rattle.std.specs.Int.{w32, w64, to_be_bytes};
 ghost use Rattle.xt_base.specs.Text.{pieces as pieces_of};
@@ -13,26 +13,26 @@ use crate::item::Item;
 use bytes::Bytes;
 use std::alloc::{AllocError, Global};
 use xt_base::chunks::Chunks;
-use xt_base::content::BLOCK_BYTES;
 use xt_base::names::CkptNo;
+use xt_base::sizes::{BUSY_BLOCKS, CHUNK_BYTES, CHUNK_COST, CHUNKS, ENDS, ITEM_COST, PIECE_BYTES};
 use xt_base::steps::Errno;
 
 /// How many bytes an item takes in a text: 16, and 128 for each chunk.
 fn item_len(item: &Item) -> usize
     ensures value { result ≡ item_len item.now }
-    ensures range { result ≤ 4112 }
+    ensures range { result ≤ ITEM_COST + CHUNK_COST * CHUNKS }
 {
-    16 + 128 * item.chunks.count() as usize
+    ITEM_COST as usize + CHUNK_BYTES * item.chunks.count() as usize
 }
 
 /// The length of the text of a checkpoint in bytes, which is its cost: 32, and for each
 /// item 16 and 128 for each chunk. At most 263,200.
 pub fn checkpoint_len(items: &[Item]) -> usize
-    requires { length items.now ≤ 64 }
+    requires { length items.now ≤ BUSY_BLOCKS }
     ensures value { result ≡ checkpoint_len items.now }
-    ensures range { result ≤ 263200 }
+    ensures range { result ≤ ENDS + BUSY_BLOCKS * (ITEM_COST + CHUNK_COST * CHUNKS) }
 {
-    let mut len = 32;
+    let mut len = ENDS as usize;
     for item in items {
         len += item_len(item);
     }
@@ -73,12 +73,12 @@ fn put_items(out: &mut Vec<u8>, items: &[Item]) -> Result<(), AllocError>
 #[tactic(auto, using(crate::proofs::Lengths::length_text))]
 fn write_text(alloc: Global, no: CkptNo, items: &[Item]) -> Result<Vec<u8>, AllocError>
     requires number { 1 ≤ no }
-    requires count { (1 ≤ length items.now) × (length items.now ≤ 64) }
+    requires count { (1 ≤ length items.now) × (length items.now ≤ BUSY_BLOCKS) }
     requires form { All HasForm items.now }
     requires rising { BlocksRise items.now }
     ensures text { IfOk result (λ text. text.items ≡ checkpoint_text no items.now) }
     ensures grammar { IfOk result (λ text. IsText (checkpoint_text no items.now) no (entries items.now)) }
-    ensures range { IfOk result (λ text. length (checkpoint_text no items.now) ≤ 263200) }
+    ensures range { IfOk result (λ text. length (checkpoint_text no items.now) ≤ ENDS + BUSY_BLOCKS * (ITEM_COST + CHUNK_COST * CHUNKS)) }
 {
     let count = items.len() as u32;
     let mut out = Vec::with_capacity(alloc, checkpoint_len(items))?;
@@ -96,10 +96,10 @@ fn write_text(alloc: Global, no: CkptNo, items: &[Item]) -> Result<Vec<u8>, Allo
 fn cut(alloc: Global, text: Bytes) -> Result<Vec<Bytes>, AllocError>
     ensures { IfOk result (λ pieces. pieces.items ≡ pieces_of text) }
 {
-    let mut pieces = Vec::with_capacity(alloc, text.len().div_ceil(BLOCK_BYTES))?;
+    let mut pieces = Vec::with_capacity(alloc, text.len().div_ceil(PIECE_BYTES))?;
     let mut rest = text;
     while !rest.is_empty() {
-        let piece = rest.split_to(BLOCK_BYTES.min(rest.len()))?;
+        let piece = rest.split_to(PIECE_BYTES.min(rest.len()))?;
         pieces.push(piece)?;
     }
     Ok(pieces)
@@ -109,7 +109,7 @@ fn cut(alloc: Global, text: Bytes) -> Result<Vec<Bytes>, AllocError>
 #[tactic(auto, using(crate::proofs::Pieces::few, crate::proofs::Written::pieces_are))]
 fn write_pieces(alloc: Global, no: CkptNo, items: &[Item]) -> Result<Vec<Bytes>, AllocError>
     requires number { 1 ≤ no }
-    requires count { (1 ≤ length items.now) × (length items.now ≤ 64) }
+    requires count { (1 ≤ length items.now) × (length items.now ≤ BUSY_BLOCKS) }
     requires form { All HasForm items.now }
     requires rising { BlocksRise items.now }
     ensures text { IfOk result (λ pieces. pieces.items ≡ pieces_of (checkpoint_text no items.now)) }
@@ -124,7 +124,7 @@ fn write_pieces(alloc: Global, no: CkptNo, items: &[Item]) -> Result<Vec<Bytes>,
 /// pieces share one buffer. The one error is `NoMemory`.
 pub fn write_checkpoint(alloc: Global, no: CkptNo, items: &[Item]) -> Result<Vec<Bytes>, Errno>
     requires number { 1 ≤ no }
-    requires count { (1 ≤ length items.now) × (length items.now ≤ 64) }
+    requires count { (1 ≤ length items.now) × (length items.now ≤ BUSY_BLOCKS) }
     requires form { All HasForm items.now }
     requires rising { BlocksRise items.now }
     ensures text { IfOk result (λ pieces. pieces.items ≡ pieces_of (checkpoint_text no items.now)) }

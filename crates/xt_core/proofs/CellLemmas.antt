@@ -17,7 +17,7 @@ use Rattle.xt_base.specs.declared.steps.Reply.{Reply}
 use Rattle.xt_base.specs.declared.steps.Step.{Step}
 use Rattle.xt_core.proofs.MemoryLemmas.{alone_no_want}
 use Rattle.xt_core.specs.Cells.{Cell, IsTurned, with_lone}
-use Rattle.xt_mount.specs.Slots.{IsServed, IsServedUnlessMemory, SlotState, contents_in, lone_with, pieces_in, plan_in}
+use Rattle.xt_mount.specs.Slots.{IsServed, IsServedUnlessMemory, SlotState, contents_in, form_in, lone_with, pieces_in, plan_in}
 
 -- what follows by the reply
 pub by_true : (b : Bool) (P Q : Type 0) → b ≡ true → MatchBool b P Q → P
@@ -105,10 +105,10 @@ log_is worker name answers s suit = log_by s.mounted suit
 
 -- and what a flush did
 pub home_is : (worker : ℕ) (name : JobName) (answers : HomeAnswers) (s : Lone) → mount_is (λ m. is_waiting name m && fits_plan answers (flush_plan m)) s.mounted ≡ true
-    → writes (contents_in s.mounted) (plan_in s.mounted) (write_answers answers) ++ sync_offer answers ≡ (alone (Step.Flush worker name answers) s).home
+    → writes (form_in s.mounted).size (contents_in s.mounted) (plan_in s.mounted) (write_answers answers) ++ sync_offer answers ≡ (alone (Step.Flush worker name answers) s).home
 home_is worker name answers s suit = home_by s.mounted suit
   where
     home_by : (o : Option State) → mount_is (λ m. is_waiting name m && fits_plan answers (flush_plan m)) o ≡ true
-        → writes (contents_in o) (plan_in o) (write_answers answers) ++ sync_offer answers ≡ (on_mount o s (λ m. goes_on (flush [] answers m) [] (flush_offers answers m) s)).home
+        → writes (form_in o).size (contents_in o) (plan_in o) (write_answers answers) ++ sync_offer answers ≡ (on_mount o s (λ m. goes_on (flush [] answers m) [] (flush_offers answers m) s)).home
     home_by None suit = absurd (false≢true suit)
     home_by (Some m) suit = refl

@@ -86,11 +86,11 @@ module _ (s : State) where
       (either (is_absent t b s) (answered t b trans.leg s answer) there (answered_no_want t b trans.leg answer) refl)
 
   view_no_want : (t b : ℕ) (trans : Transaction) → IsNoWant (view t b s trans)
-  view_no_want t b trans = either (is_own s t b) (gives (Reply.Data (seen b trans.leg s.frames)) s) (gives (Refused Invalid) s) refl refl
+  view_no_want t b trans = either (is_own s t b) (gives (Reply.Data (seen s.form.size b trans.leg s.frames)) s) (gives (Refused Invalid) s) refl refl
 
   log_no_want : (t b first : ℕ) (bytes : List ℕ) (trans : Transaction) → IsNoWant (log t b first bytes s trans)
   log_no_want t b first bytes trans =
-      listed (log_refusals t b first bytes trans s) s (gives Okay (not_fresh b (with_leg t trans (logged_leg b first bytes s.frames trans.leg) s))) refl refl
+      listed (log_refusals t b first bytes trans s) s (gives Okay (not_fresh b (with_leg t trans (logged_leg s.form.size b first bytes s.frames trans.leg) s))) refl refl
 
   hold_no_want : (t b : ℕ) (trans : Transaction) → IsNoWant (hold t b s trans)
   hold_no_want t b trans =

@@ -7,6 +7,7 @@ use Rattle.xt_base.specs.Order.{Event, is_first}
 use Rattle.xt_base.specs.State.{Lone, empty}
 use Rattle.xt_base.specs.Steps.{slot_of}
 use Rattle.xt_base.specs.declared.names.JobName.{JobName}
+use Rattle.xt_base.specs.declared.sizes.TheConstants.{SLOTS}
 use Rattle.xt_base.specs.declared.steps.Reply.{Reply}
 use Rattle.xt_base.specs.declared.steps.Step.{Step}
 use Rattle.xt_base.specs.declared.steps.Step.TheVariants.{Begin, End, Flush, Take}
@@ -61,7 +62,7 @@ pub record IsStepped (x : Step) (r : Reply) (new old : Host) : Type 0 where
 -- a history led to a host: at first it was new, and each step was taken or answered ENOMEM
 pub data IsAfter : List Event → Host → Type 0 where
   none : (host : Host) → IsNew host → IsAfter [] host
-  more : (h : List Event) (x : Step) (r : Reply) (new old : Host) → IsAfter h old → slot_of x < 16 → IsStepped x r new old → IsAfter (h ++ record { step = x; reply = r } ∷ []) new
+  more : (h : List Event) (x : Step) (r : Reply) (new old : Host) → IsAfter h old → slot_of x < SLOTS → IsStepped x r new old → IsAfter (h ++ record { step = x; reply = r } ∷ []) new
 
 -- the steps that happened: all but those answered ENOMEM
 abbrev pub happened : List Event → List Event

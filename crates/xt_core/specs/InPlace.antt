@@ -1,6 +1,7 @@
 -- Sixteen slots, each at the place of its number.
 use Rattle.std.specs.Prelude.{List, length, slice_index_or, ℕ, ◌≡◌}
 use Rattle.xt_base.specs.State.{Lone, empty}
+use Rattle.xt_base.specs.declared.sizes.TheConstants.{SLOTS}
 use Rattle.xt_core.specs.Cells.{Cell}
 
 -- a slot that was never mounted
@@ -17,7 +18,7 @@ states_of cells m = (cell_at m cells).lone
 
 -- sixteen slots, each at the place of its number
 pub record AreInPlace (cells : List Cell) : Type 0 where
-  pub count : length cells ≡ 16
+  pub count : length cells ≡ SLOTS
   pub place : (m : ℕ) → (cell_at m cells).slot ≡ m
 
 -- the first so many slots, none of which was ever mounted

@@ -6,6 +6,7 @@ use Rattle.xt_base.specs.Order.{orderly}
 use Rattle.xt_base.specs.Steps.{slot_of, strike}
 use Rattle.xt_base.specs.declared.outcomes.RunFault.{RunFault}
 use Rattle.xt_base.specs.declared.outcomes.RunFault.TheVariants.{Disorder, Memory}
+use Rattle.xt_base.specs.declared.sizes.TheConstants.{SLOTS}
 use Rattle.xt_base.specs.declared.steps.Step.{Step}
 use Rattle.xt_core.specs.Host.{Host, IsStepped, lone_of}
 
@@ -47,4 +48,4 @@ pub record IsSaid (x : Step) (t : Said) (new old : Host) : Type 0 where
 
 -- its turn was told
 abbrev pub IsMore : Step → Host → Host → Told → Told → Type 0
-IsMore x new old told_new told_old = (t : Said) × (IsSaid x t new old × (told_new ≡ told_then told_old t (reason_of (lone_of new (slot_of x)).mounted)) × (slot_of x < 16))
+IsMore x new old told_new told_old = (t : Said) × (IsSaid x t new old × (told_new ≡ told_then told_old t (reason_of (lone_of new (slot_of x)).mounted)) × (slot_of x < SLOTS))

@@ -16,10 +16,8 @@ use std::alloc::{AllocError, Global};
 use std::marker::Model;
 use xt_base::names::{JobName, Slot};
 use xt_base::outcomes::{Disorder, Offers, Outcomes, Turn};
+use xt_base::sizes::SLOTS;
 use xt_base::steps::{Errno, Reason, Reply, Step};
-
-/// How many slots a host has.
-const SLOTS: u8 = 16;
 
 /// The host. Clauses see the state of each slot by its number, the names that were posted and not taken, and what each
 /// worker took and has not finished. The memory of a mount comes with the mount: an empty slot has none.
@@ -43,7 +41,7 @@ impl Model for HostCore {
 
 /// The slot of a number below sixteen.
 fn slot_at(number: u8) -> Slot
-    requires { number < 16 }
+    requires { number < SLOTS }
     ensures { result ≡ number }
 {
     match Slot::new(number) {
@@ -54,10 +52,10 @@ fn slot_at(number: u8) -> Slot
 
 /// Sixteen slots that were never mounted. The one error is want of memory.
 fn empty_cells(alloc: Global) -> Result<Vec<SlotCell>, AllocError>
-    ensures { IfOk result (λ cells. AreUnused 16 cells.items) }
+    ensures { IfOk result (λ cells. AreUnused SLOTS cells.items) }
 {
-    let mut cells = Vec::with_capacity(alloc, SLOTS as usize)?;
-    for number in 0..SLOTS {
+    let mut cells = Vec::with_capacity(alloc, SLOTS)?;
+    for number in 0..SLOTS as u8 {
         cells.push(SlotCell::new(alloc, slot_at(number)))?;
     }
     Ok(cells)
@@ -95,7 +93,7 @@ impl HostCore {
     fn post(&mut self, name: &JobName) -> Reply
         requires { may_come self.old (AStep.Post name.now) ≡ true }
         ensures stepped { IsStepped (AStep.Post name.now) result self.new self.old }
-        ensures range { name.now.slot < 16 }
+        ensures range { name.now.slot < SLOTS }
     {
         match self.turns.put(*name) {
             Ok(()) => {
@@ -111,7 +109,7 @@ impl HostCore {
         requires may { may_come self.old step.now ≡ true }
         requires other { post_of step.now ≡ None }
         ensures stepped { IsStepped step.now result self.new self.old }
-        ensures range { slot_of step.now < 16 }
+        ensures range { slot_of step.now < SLOTS }
     {
         let reply = self.cells[step.slot().index()].serve(step);
         if !is_no_memory(&reply) {
@@ -124,7 +122,7 @@ impl HostCore {
     fn serve(&mut self, step: &Step) -> Reply
         requires { may_come self.old step.now ≡ true }
         ensures stepped { IsStepped step.now result self.new self.old }
-        ensures range { slot_of step.now < 16 }
+        ensures range { slot_of step.now < SLOTS }
     {
         match step {
             Step::Post(name) => self.post(name),
@@ -185,7 +183,7 @@ fn is_no_memory(reply: &Reply) -> bool
 /// Notes a turn, and why its slot is shut then. The one error is want of memory.
 fn note(outcomes: &mut Outcomes, turn: Turn, reason: Option<Reason>) -> Result<(), AllocError>
     ensures told { OnOk result (outcomes.new ≡ told_then outcomes.old turn reason) }
-    ensures range { OnOk result (turn.slot < 16) }
+    ensures range { OnOk result (turn.slot < SLOTS) }
 {
     let slot = turn.slot();
     let refused = is_no_memory(&turn.reply);

@@ -5,22 +5,22 @@ ghost use Rattle.xt_base.specs.Jobs.{fits_pieces, fits_plan, sync_offer, write_a
 ghost use Rattle.xt_base.specs.Text.{content_at, log_offers_of, offered};
 ghost use Rattle.xt_base.specs.declared.steps.HomeOffer.{HomeOffer as AHomeOffer};
 ghost use Rattle.xt_base.specs.declared.steps.LogOffer.{LogOffer as AnOffer};
-ghost use Rattle.xt_mount.specs.Slots.{contents_in, plan_in};
+ghost use Rattle.xt_mount.specs.Slots.{contents_in, form_in, plan_in};
 
 use bytes::Bytes;
 use std::alloc::{AllocError, Global};
 use xt_base::content::{Content, Data};
 use xt_base::names::Block;
+use xt_base::sizes::PIECE_BYTES;
 use xt_base::steps::{HomeAnswers, HomeOffer, LogAnswers, LogOffer};
 use xt_mount::slot::MountSlot;
 
 /// The offer of a piece, which is copied.
 fn piece_offer(alloc: Global, piece: &Bytes, ok: bool) -> Result<LogOffer, AllocError>
-    requires { length piece.now ≤ 4096 }
+    requires { length piece.now ≤ PIECE_BYTES }
     ensures { IfOk result (λ offer. offer ≡ AnOffer.Piece piece.now ok) }
 {
-    let bytes = piece.as_slice().to_vec(alloc)?;
-    match Data::of(alloc, bytes)? {
+    match Data::of(alloc, piece.as_slice())? {
         Some(bytes) => Ok(LogOffer::Piece { bytes, ok }),
         None => unreachable!(),
     }
@@ -28,7 +28,7 @@ fn piece_offer(alloc: Global, piece: &Bytes, ok: bool) -> Result<LogOffer, Alloc
 
 /// The offers of pieces that were taken, with room for one more.
 fn taken_offers(alloc: Global, pieces: &[Bytes]) -> Result<Vec<LogOffer>, AllocError>
-    requires { All (λ p. length p ≤ 4096) pieces.now }
+    requires { All (λ p. length p ≤ PIECE_BYTES) pieces.now }
     ensures { IfOk result (λ offers. offers.items ≡ offered true pieces.now) }
 {
     let mut offers = Vec::with_capacity(alloc, pieces.len() + 1)?;
@@ -45,7 +45,7 @@ pub fn log_offers(
     answers: &LogAnswers,
     pieces: &[Bytes],
 ) -> Result<Vec<LogOffer>, AllocError>
-    requires short { All (λ p. length p ≤ 4096) pieces.now }
+    requires short { All (λ p. length p ≤ PIECE_BYTES) pieces.now }
     requires fits { fits_pieces answers.now (length pieces.now) ≡ true }
     ensures { IfOk result (λ offers. offers.items ≡ log_offers_of answers.now pieces.now) }
 {
@@ -61,12 +61,12 @@ pub fn log_offers(
 
 /// A copy of what a slot's mount has committed of a block; zeros where it keeps nothing.
 fn committed_copy(alloc: Global, slot: &MountSlot, block: Block) -> Result<Content, AllocError>
-    ensures { IfOk result (λ content. content ≡ content_at block (contents_in slot.now.mounted)) }
+    ensures { IfOk result (λ content. content ≡ content_at (form_in slot.now.mounted).size block (contents_in slot.now.mounted)) }
 {
     let Some(bytes) = slot.committed(block) else {
-        return Content::zeros(alloc);
+        return Content::zeros(alloc, slot.form());
     };
-    match Content::of(alloc, bytes.to_vec(alloc)?)? {
+    match Content::of(alloc, bytes)? {
         Some(content) => Ok(content),
         None => unreachable!(),
     }
@@ -79,7 +79,7 @@ fn write_offer(
     block: Block,
     ok: bool,
 ) -> Result<HomeOffer, AllocError>
-    ensures { IfOk result (λ offer. offer ≡ AHomeOffer.Write block (content_at block (contents_in slot.now.mounted)) ok) }
+    ensures { IfOk result (λ offer. offer ≡ AHomeOffer.Write block (content_at (form_in slot.now.mounted).size block (contents_in slot.now.mounted)) ok) }
 {
     let content = committed_copy(alloc, slot, block)?;
     Ok(HomeOffer::Write { block, content, ok })
@@ -93,7 +93,7 @@ fn write_offers(
     answers: &[bool],
 ) -> Result<Vec<HomeOffer>, AllocError>
     requires { length answers.now ≡ length blocks.now }
-    ensures { IfOk result (λ offers. offers.items ≡ writes (contents_in slot.now.mounted) blocks.now answers.now) }
+    ensures { IfOk result (λ offers. offers.items ≡ writes (form_in slot.now.mounted).size (contents_in slot.now.mounted) blocks.now answers.now) }
 {
     let mut offers = Vec::new(alloc);
     for (i, block) in blocks.iter().enumerate() {
@@ -110,7 +110,7 @@ pub fn home_offers(
     slot: &MountSlot,
 ) -> Result<Vec<HomeOffer>, AllocError>
     requires { fits_plan answers.now (plan_in slot.now.mounted) ≡ true }
-    ensures { IfOk result (λ offers. offers.items ≡ writes (contents_in slot.now.mounted) (plan_in slot.now.mounted) (write_answers answers.now) ++ sync_offer answers.now) }
+    ensures { IfOk result (λ offers. offers.items ≡ writes (form_in slot.now.mounted).size (contents_in slot.now.mounted) (plan_in slot.now.mounted) (write_answers answers.now) ++ sync_offer answers.now) }
 {
     let plan = slot.flush_plan();
     let count = plan.blocks().len();

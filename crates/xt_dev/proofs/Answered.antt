@@ -62,7 +62,7 @@ failures_more oks i ok before now after inside counted raised =
     [ true ↦ λ r m. omega arith | false ↦ λ r m. omega arith ] raised more
 
 -- of blocks with their committed contents, the writes are those of the plan
-pub answered_plan : (committed : List (ℕ × List ℕ)) (plan : List ℕ) (answers : List Bool) → answered (map (λ b. (b, content_at b committed)) plan) answers ≡ writes committed plan answers
-answered_plan committed [] answers = refl
-answered_plan committed (b ∷ bs) [] = refl
-answered_plan committed (b ∷ bs) (ok ∷ oks) = ap (λ offers. HomeOffer.Write b (content_at b committed) ok ∷ offers) (answered_plan committed bs oks)
+pub answered_plan : (size : ℕ) (committed : List (ℕ × List ℕ)) (plan : List ℕ) (answers : List Bool) → answered (map (λ b. (b, content_at size b committed)) plan) answers ≡ writes size committed plan answers
+answered_plan size committed [] answers = refl
+answered_plan size committed (b ∷ bs) [] = refl
+answered_plan size committed (b ∷ bs) (ok ∷ oks) = ap (λ offers. HomeOffer.Write b (content_at size b committed) ok ∷ offers) (answered_plan size committed bs oks)

@@ -9,28 +9,29 @@ use crate::call::HomeCall;
 use std::alloc::Global;
 use xt_base::content::{Content, Data};
 use xt_base::names::Block;
+use xt_base::sizes::{BLOCK_BYTES, PIECE_BYTES};
 use xt_base::steps::{HomeOffer, LogOffer};
 
 /// A piece as a record says it; None where there is no memory for it.
 pub(crate) fn piece_offer(alloc: Global, piece: &[u8], ok: bool) -> Option<LogOffer>
-    requires short { length piece.now ≤ 4096 }
+    requires short { length piece.now ≤ PIECE_BYTES }
     ensures { IfSome result (λ offer. offer ≡ LogOffer.Piece piece.now ok) }
 {
-    let bytes = Data::of(alloc, piece.to_vec(alloc).ok()?).ok()??;
+    let bytes = Data::of(alloc, piece).ok()??;
     Some(LogOffer::Piece { bytes, ok })
 }
 
 /// A copy of the content of a block; None where there is no memory for it.
 pub(crate) fn content_of(alloc: Global, content: &[u8]) -> Option<Content>
-    requires whole { length content.now ≡ 4096 }
+    requires whole { length content.now ≡ BLOCK_BYTES }
     ensures { IfSome result (λ copy. copy ≡ content.now) }
 {
-    Content::of(alloc, content.to_vec(alloc).ok()?).ok()?
+    Content::of(alloc, content).ok()?
 }
 
 /// A read that did not fail, as a record says it; None where there is no memory for it.
 pub(crate) fn read_call(alloc: Global, block: Block, content: &[u8]) -> Option<HomeCall>
-    requires whole { length content.now ≡ 4096 }
+    requires whole { length content.now ≡ BLOCK_BYTES }
     ensures { IfSome result (λ call. call ≡ HomeCall.Read block (Some content.now)) }
 {
     let content = content_of(alloc, content)?;
@@ -42,7 +43,7 @@ pub(crate) fn read_call(alloc: Global, block: Block, content: &[u8]) -> Option<H
 
 /// A write as a record says it; None where there is no memory for it.
 pub(crate) fn write_call(alloc: Global, block: Block, content: &[u8], ok: bool) -> Option<HomeCall>
-    requires whole { length content.now ≡ 4096 }
+    requires whole { length content.now ≡ BLOCK_BYTES }
     ensures { IfSome result (λ call. call ≡ HomeCall.Offer (HomeOffer.Write block content.now ok)) }
 {
     let content = content_of(alloc, content)?;

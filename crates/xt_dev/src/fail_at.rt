@@ -14,6 +14,7 @@ use crate::log::LogDevice;
 use crate::record::Record;
 use std::alloc::Global;
 use xt_base::names::Block;
+use xt_base::sizes::{BLOCK_BYTES, PIECE_BYTES};
 use xt_base::steps::{HomeOffer, LogOffer};
 
 /// A device over another one, that fails one call and hands on every other. The call that it
@@ -106,7 +107,7 @@ impl<D: LogDevice> LogDevice for FailAt<D, LogOffer> {
     ghost log_failures = { λ d. D.log_failures d.device + (if d.left == 0 then 1 else 0) };
 
     fn append(&mut self, piece: &[u8]) -> Result<(), DevFault>
-        requires short { length piece.now ≤ 4096 }
+        requires short { length piece.now ≤ PIECE_BYTES }
         ensures told { Tells (⟦<FailAt<D, LogOffer> as LogDevice>⟧.log_tells self.old) (⟦<FailAt<D, LogOffer> as LogDevice>⟧.log_taken self.old) (LogOffer.Piece piece.now (is_ok result) ∷ []) (⟦<FailAt<D, LogOffer> as LogDevice>⟧.log_tells self.new) (⟦<FailAt<D, LogOffer> as LogDevice>⟧.log_taken self.new) }
         ensures failures { ⟦<FailAt<D, LogOffer> as LogDevice>⟧.log_failures self.new ≡ failures_after (is_ok result) (⟦<FailAt<D, LogOffer> as LogDevice>⟧.log_failures self.old) }
         ensures left { self.new.left ≡ self.old.left - 1 }
@@ -153,7 +154,7 @@ impl<D: HomeDevice> HomeDevice for FailAt<D, HomeCall> {
     ghost home_failures = { λ d. D.home_failures d.device + (if d.left == 0 then 1 else 0) };
 
     fn read(&mut self, block: Block, into: &mut [u8]) -> Result<(), DevFault>
-        requires whole { length into.old ≡ 4096 }
+        requires whole { length into.old ≡ BLOCK_BYTES }
         ensures told { Tells (⟦<FailAt<D, HomeCall> as HomeDevice>⟧.home_tells self.old) (⟦<FailAt<D, HomeCall> as HomeDevice>⟧.home_taken self.old) (HomeCall.Read block (if is_ok result then Some into.new else None) ∷ []) (⟦<FailAt<D, HomeCall> as HomeDevice>⟧.home_tells self.new) (⟦<FailAt<D, HomeCall> as HomeDevice>⟧.home_taken self.new) }
         ensures failures { ⟦<FailAt<D, HomeCall> as HomeDevice>⟧.home_failures self.new ≡ failures_after (is_ok result) (⟦<FailAt<D, HomeCall> as HomeDevice>⟧.home_failures self.old) }
         ensures left { self.new.left ≡ self.old.left - 1 }
@@ -179,7 +180,7 @@ impl<D: HomeDevice> HomeDevice for FailAt<D, HomeCall> {
     }
 
     fn write(&mut self, block: Block, content: &[u8]) -> Result<(), DevFault>
-        requires whole { length content.now ≡ 4096 }
+        requires whole { length content.now ≡ BLOCK_BYTES }
         ensures told { Tells (⟦<FailAt<D, HomeCall> as HomeDevice>⟧.home_tells self.old) (⟦<FailAt<D, HomeCall> as HomeDevice>⟧.home_taken self.old) (HomeCall.Offer (HomeOffer.Write block content.now (is_ok result)) ∷ []) (⟦<FailAt<D, HomeCall> as HomeDevice>⟧.home_tells self.new) (⟦<FailAt<D, HomeCall> as HomeDevice>⟧.home_taken self.new) }
         ensures failures { ⟦<FailAt<D, HomeCall> as HomeDevice>⟧.home_failures self.new ≡ failures_after (is_ok result) (⟦<FailAt<D, HomeCall> as HomeDevice>⟧.home_failures self.old) }
         ensures left { self.new.left ≡ self.old.left - 1 }

@@ -7,6 +7,7 @@ ghost use Rattle.xt_dev.specs.declared.call.HomeCall.{HomeCall};
 
 use crate::fault::DevFault;
 use xt_base::names::Block;
+use xt_base::sizes::BLOCK_BYTES;
 
 /// A device of blocks of 4,096 bytes, each of which is read and written whole. What a device
 /// does is said of three things that only proofs see: whether it still tells what it was
@@ -25,14 +26,14 @@ pub trait HomeDevice: Drop {
     /// Reads a block into 4,096 bytes. `DevFault` comes only in a call that raised its
     /// failures; what the bytes are then is the device's to say.
     fn read(&mut self, block: Block, into: &mut [u8]) -> Result<(), DevFault>
-        requires whole { length into.old ≡ 4096 }
+        requires whole { length into.old ≡ BLOCK_BYTES }
         ensures told { Tells (home_tells self.old) (home_taken self.old) (HomeCall.Read block (if is_ok result then Some into.new else None) ∷ []) (home_tells self.new) (home_taken self.new) }
         ensures failures { home_failures self.new ≡ failures_after (is_ok result) (home_failures self.old) };
 
     /// Writes the 4,096 bytes of a block. `DevFault` comes only in a call that raised its
     /// failures; what the block has then is the device's to say.
     fn write(&mut self, block: Block, content: &[u8]) -> Result<(), DevFault>
-        requires whole { length content.now ≡ 4096 }
+        requires whole { length content.now ≡ BLOCK_BYTES }
         ensures told { Tells (home_tells self.old) (home_taken self.old) (HomeCall.Offer (HomeOffer.Write block content.now (is_ok result)) ∷ []) (home_tells self.new) (home_taken self.new) }
         ensures failures { home_failures self.new ≡ failures_after (is_ok result) (home_failures self.old) };
 

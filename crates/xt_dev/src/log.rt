@@ -5,6 +5,7 @@ ghost use Rattle.xt_base.specs.declared.steps.LogOffer.{LogOffer};
 ghost use Rattle.xt_dev.specs.Devices.{Tells, failures_after};
 
 use crate::fault::DevFault;
+use xt_base::sizes::PIECE_BYTES;
 
 /// A device to which a log is appended. What a device does is said of three things that only
 /// proofs see: whether it still tells what it was offered, its calls so far with their answers,
@@ -22,7 +23,7 @@ pub trait LogDevice: Drop {
     /// Puts a piece of at most 4,096 bytes behind what is there. `DevFault` comes only in a
     /// call that raised its failures; what is there then is the device's to say.
     fn append(&mut self, piece: &[u8]) -> Result<(), DevFault>
-        requires short { length piece.now ≤ 4096 }
+        requires short { length piece.now ≤ PIECE_BYTES }
         ensures told { Tells (log_tells self.old) (log_taken self.old) (LogOffer.Piece piece.now (is_ok result) ∷ []) (log_tells self.new) (log_taken self.new) }
         ensures failures { log_failures self.new ≡ failures_after (is_ok result) (log_failures self.old) };
 

@@ -17,6 +17,7 @@ use std::alloc::Global;
 use std::collections::BTreeMap;
 use xt_base::content::Content;
 use xt_base::names::Block;
+use xt_base::sizes::BLOCK_BYTES;
 use xt_base::steps::HomeOffer;
 
 /// A home device in memory. It reads zeros where nothing was written, fails a write that it
@@ -57,8 +58,8 @@ impl MemHome {
 
     /// Gives what a block has: zeros where nothing was written.
     fn give(&self, block: Block, into: &mut [u8])
-        requires whole { length into.old ≡ 4096 }
-        ensures { into.new ≡ content_at block self.now.blocks.entries }
+        requires whole { length into.old ≡ BLOCK_BYTES }
+        ensures { into.new ≡ content_at BLOCK_BYTES block self.now.blocks.entries }
     {
         match self.blocks.get(&block.0) {
             Some(content) => into.copy_from_slice(content.bytes()),
@@ -68,7 +69,7 @@ impl MemHome {
 
     /// Keeps the content of a block; false where there is no memory for it.
     fn keep(&mut self, block: Block, content: &[u8]) -> bool
-        requires whole { length content.now ≡ 4096 }
+        requires whole { length content.now ≡ BLOCK_BYTES }
         ensures kept { result ≡ true → self.new.blocks.entries ≡ put block content.now self.old.blocks.entries }
         ensures lost { result ≡ false → self.new.blocks.entries ≡ self.old.blocks.entries }
         ensures rest { (self.new.kept ≡ self.old.kept) × (self.new.failures ≡ self.old.failures) }
@@ -88,11 +89,11 @@ impl HomeDevice for MemHome {
     ghost home_failures = { λ d. d.failures.count };
 
     fn read(&mut self, block: Block, into: &mut [u8]) -> Result<(), DevFault>
-        requires whole { length into.old ≡ 4096 }
+        requires whole { length into.old ≡ BLOCK_BYTES }
         ensures told { Tells (⟦<MemHome as HomeDevice>⟧.home_tells self.old) (⟦<MemHome as HomeDevice>⟧.home_taken self.old) (HomeCall.Read block (if is_ok result then Some into.new else None) ∷ []) (⟦<MemHome as HomeDevice>⟧.home_tells self.new) (⟦<MemHome as HomeDevice>⟧.home_taken self.new) }
         ensures failures { ⟦<MemHome as HomeDevice>⟧.home_failures self.new ≡ failures_after (is_ok result) (⟦<MemHome as HomeDevice>⟧.home_failures self.old) }
         ensures ok { IsOk result }
-        ensures content { into.new ≡ content_at block self.old.blocks.entries }
+        ensures content { into.new ≡ content_at BLOCK_BYTES block self.old.blocks.entries }
         ensures same { self.new.blocks ≡ self.old.blocks }
     {
         self.give(block, into);
@@ -102,7 +103,7 @@ impl HomeDevice for MemHome {
     }
 
     fn write(&mut self, block: Block, content: &[u8]) -> Result<(), DevFault>
-        requires whole { length content.now ≡ 4096 }
+        requires whole { length content.now ≡ BLOCK_BYTES }
         ensures told { Tells (⟦<MemHome as HomeDevice>⟧.home_tells self.old) (⟦<MemHome as HomeDevice>⟧.home_taken self.old) (HomeCall.Offer (HomeOffer.Write block content.now (is_ok result)) ∷ []) (⟦<MemHome as HomeDevice>⟧.home_tells self.new) (⟦<MemHome as HomeDevice>⟧.home_taken self.new) }
         ensures failures { ⟦<MemHome as HomeDevice>⟧.home_failures self.new ≡ failures_after (is_ok result) (⟦<MemHome as HomeDevice>⟧.home_failures self.old) }
         ensures kept { OnOk result (self.new.blocks.entries ≡ put block content.now self.old.blocks.entries) }

@@ -7,13 +7,14 @@ ghost use Rattle.xt_dev.specs.Devices.{Tells, failures_after};
 
 use crate::log::LogDevice;
 use bytes::Bytes;
+use xt_base::sizes::PIECE_BYTES;
 use xt_base::steps::LogAnswers;
 
 /// Offers the pieces of a checkpoint in order up to the first failure, and one sync only if
 /// none failed; says what was answered. Each piece has at most 4,096 bytes. It takes no memory.
 pub fn offer(log: &mut dyn LogDevice, pieces: &[Bytes]) -> LogAnswers
     requires count { length pieces.now < 2 ^ 32 }
-    requires short { All (λ piece. length piece ≤ 4096) pieces.now }
+    requires short { All (λ piece. length piece ≤ PIECE_BYTES) pieces.now }
     // All pieces were taken and the sync was answered, or one piece was not taken.
     ensures shape { fits_pieces result (length pieces.now) ≡ true }
     // The log was offered just what a checkpoint job with these answers offers.
@@ -33,7 +34,7 @@ pub fn offer(log: &mut dyn LogDevice, pieces: &[Bytes]) -> LogAnswers
 /// Offers the pieces in order up to the first failure, and says how many were answered Ok.
 fn append_all(log: &mut dyn LogDevice, pieces: &[Bytes]) -> u32
     requires count { length pieces.now < 2 ^ 32 }
-    requires short { All (λ piece. length piece ≤ 4096) pieces.now }
+    requires short { All (λ piece. length piece ≤ PIECE_BYTES) pieces.now }
     ensures range { result ≤ length pieces.now }
     ensures offers { Tells (log_tells log.old) (log_taken log.old) (offered true (take result pieces.now) ++ offered false (take 1 (drop result pieces.now))) (log_tells log.new) (log_taken log.new) }
     ensures failures { log_failures log.new ≡ failures_after (result == length pieces.now) (log_failures log.old) }

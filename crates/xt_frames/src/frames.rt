@@ -9,9 +9,7 @@ use std::alloc::{AllocError, Global};
 use std::marker::Model;
 use xt_base::content::Content;
 use xt_base::map::{NumberMap, spot_of};
-
-/// How many idle blocks a mount keeps.
-const IDLE: usize = 64;
+use xt_base::sizes::{IDLE_BLOCKS, ROOM};
 
 /// The contents that a mount keeps: committed ones of busy blocks, which blocks are fresh, and the
 /// contents of idle blocks, the most recent first.
@@ -27,12 +25,13 @@ pub struct Frames {
 impl Model for Frames {
     ghost use Rattle.std.specs.Prelude.{◌<◌, ◌≤◌, length, vec_capacity};
     ghost use Rattle.xt_base.specs.State.{Frames as FramesValue};
+    ghost use Rattle.xt_base.specs.declared.sizes.TheConstants.{IDLE_BLOCKS};
 
     ghost Value = { FramesValue };
 
     ghost view = { λ f. record { committed = f.committed; fresh = f.fresh; idle = f.idle.items } };
 
-    ghost invariant = { λ f. (length f.idle.items ≤ 64) × (64 < vec_capacity f.idle) };
+    ghost invariant = { λ f. (length f.idle.items ≤ IDLE_BLOCKS) × (IDLE_BLOCKS < vec_capacity f.idle) };
 }
 
 impl Frames {
@@ -42,7 +41,7 @@ impl Frames {
     {
         let committed = NumberMap::new(alloc)?;
         let fresh = FreshBlocks::new(alloc)?;
-        let idle = Vec::with_capacity(alloc, IDLE + 1)?;
+        let idle = Vec::with_capacity(alloc, IDLE_BLOCKS + 1)?;
         Ok(Frames {
             committed,
             fresh,
@@ -68,8 +67,8 @@ impl Frames {
     /// How many committed contents there are.
     pub fn committed_len(&self) -> usize
         ensures value { result ≡ length self.now.committed }
-        ensures small { result ≤ 128 }
-        ensures idle { length self.now.idle ≤ 64 }
+        ensures small { result ≤ ROOM }
+        ensures idle { length self.now.idle ≤ IDLE_BLOCKS }
     {
         self.committed.len()
     }
@@ -90,8 +89,8 @@ impl Frames {
 
     /// A block becomes busy: with its idle content, or fresh. It takes no memory.
     pub fn bring(&mut self, block: u64)
-        requires committed { length self.old.committed < 128 }
-        requires fresh { length self.old.fresh < 128 }
+        requires committed { length self.old.committed < ROOM }
+        requires fresh { length self.old.fresh < ROOM }
         ensures { self.new ≡ brought_in block (at block self.old.idle) self.old }
     {
         let found = spot_of(&self.idle, block);
@@ -105,7 +104,7 @@ impl Frames {
 
     /// A block becomes busy, with this content. It takes no memory.
     pub fn bring_content(&mut self, block: u64, content: Content)
-        requires { length self.old.committed < 128 }
+        requires { length self.old.committed < ROOM }
         ensures { self.new ≡ record self.old { committed = put block content self.old.committed; idle = without block self.old.idle } }
     {
         self.leave_idle(block);
@@ -131,7 +130,7 @@ impl Frames {
 
     /// A block is fresh. It takes no memory.
     pub fn make_fresh(&mut self, block: u64)
-        requires { length self.old.fresh < 128 }
+        requires { length self.old.fresh < ROOM }
         ensures { self.new ≡ record self.old { fresh = with_member block self.old.fresh } }
     {
         self.fresh.insert(block);
@@ -139,7 +138,7 @@ impl Frames {
 
     /// A content is committed. It takes no memory.
     pub fn commit(&mut self, block: u64, content: Content)
-        requires { length self.old.committed < 128 }
+        requires { length self.old.committed < ROOM }
         ensures { self.new ≡ record self.old { committed = put block content self.old.committed } }
     {
         self.spare = self.committed.exchange(block, content);
@@ -172,13 +171,13 @@ impl Frames {
         requires { index < length self.old.committed }
         ensures { IfSome (slice_get self.old.committed index) (λ e. self.new ≡ record self.old {
           committed = take index self.old.committed ++ drop (index + 1) self.old.committed;
-          idle = if is_kept then take 64 (e ∷ self.old.idle) else self.old.idle;
+          idle = if is_kept then take IDLE_BLOCKS (e ∷ self.old.idle) else self.old.idle;
         }) }
     {
         let entry = self.committed.remove_at(index);
         if is_kept {
             self.idle.insert(0, entry).unwrap();
-            self.idle.truncate(IDLE);
+            self.idle.truncate(IDLE_BLOCKS);
         }
     }
 

@@ -8,6 +8,7 @@ use std::alloc::{AllocError, Global};
 use std::marker::Model;
 use xt_base::map::NumberMap;
 use xt_base::marks::ItemMarks;
+use xt_base::sizes::ROOM;
 
 /// The blocks with the fresh mark: they show zeros until they are written whole. It has room for 128.
 /// Clauses see the rising list of the blocks.
@@ -56,7 +57,7 @@ impl FreshBlocks {
 
     /// A block is fresh. It takes no memory.
     pub fn insert(&mut self, block: u64)
-        requires { length self.old < 128 }
+        requires { length self.old < ROOM }
         ensures { self.new ≡ with_member block self.old }
     {
         self.marks.put(block, fresh_mark());

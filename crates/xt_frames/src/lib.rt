@@ -5,3 +5,5 @@ pub mod frames;
 mod fresh;
 #[cfg(test)]
 mod tests;
+
+pub use frames::Frames;

@@ -3,10 +3,11 @@
 use crate::frames::Frames;
 use std::alloc::{AllocError, Global};
 use xt_base::content::Content;
+use xt_base::form::Form;
 
 /// A content that begins with this byte, and is zeros else.
 fn content_of(alloc: Global, first: u8) -> Result<Content, AllocError> {
-    let mut content = Content::zeros(alloc)?;
+    let mut content = Content::zeros(alloc, Form::one())?;
     content.write(0, &[first]);
     Ok(content)
 }

@@ -32,6 +32,6 @@ cleaned_is blocks landed l = refl
 
 -- ---- checkpoints
 -- a checkpoint has landed
-pub landed_is : (f : Flight) (landed : List (ℕ × ℕ)) (l : Lists)
-    → landed_items f (with_landed landed l) ≡ with_landed (still_needed (activated f.number f.items l.ail) (put f.number (cost f.items) landed)) (record l { flight = None; ail = activated f.number f.items l.ail })
-landed_is f landed l = refl
+pub landed_is : (ends : ℕ) (f : Flight) (landed : List (ℕ × ℕ)) (l : Lists)
+    → landed_items ends f (with_landed landed l) ≡ with_landed (still_needed (activated f.number f.items l.ail) (put f.number (cost ends f.items) landed)) (record l { flight = None; ail = activated f.number f.items l.ail })
+landed_is ends f landed l = refl

@@ -3,6 +3,7 @@ use Rattle.std.specs.Prelude.{Bool, List, [], ◌∷◌, filter, if◌then◌els
 use Rattle.xt_base.specs.Jobs.{by_number}
 use Rattle.xt_base.specs.Maps.{is_in}
 use Rattle.xt_base.specs.Space.{flight_items}
+use Rattle.xt_base.specs.declared.sizes.TheConstants.{FLUSH_BLOCKS}
 use Rattle.xt_items.specs.Lists.{Lists}
 
 -- a block that is neither committed nor in flight, and that nobody owns
@@ -13,9 +14,9 @@ is_unpinned is_owned l b = not (is_in b l.cil) && not (is_in b (flight_items l.f
 abbrev pub due : (ℕ → Bool) → Lists → List (ℕ × ℕ)
 due is_owned l = filter (λ e. is_unpinned is_owned l e.0) l.ail
 
--- the blocks that a flush writes: the first 8 of them in the order of (number, block)
+-- the blocks that a flush writes: the first ones of them in the order of (number, block)
 abbrev pub planned : (ℕ → Bool) → Lists → List ℕ
-planned is_owned l = map (λ e. e.0) (take 8 (by_number (due is_owned l)))
+planned is_owned l = map (λ e. e.0) (take FLUSH_BLOCKS (by_number (due is_owned l)))
 
 -- how many entries stand before the first whose number is no lower
 abbrev pub rank : ℕ → List (ℕ × ℕ) → ℕ

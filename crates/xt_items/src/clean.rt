@@ -6,11 +6,12 @@ ghost use Rattle.xt_base.specs.Maps.{has};
 
 use xt_base::map::NumberMap;
 use xt_base::names::Block;
+use xt_base::sizes::FLUSH_BLOCKS;
 
 /// The blocks whose write was answered Ok leave the active list; how many they are.
 pub(crate) fn remove_written(ail: &mut NumberMap<u64>, blocks: &[Block], answers: &[bool]) -> u32
     requires each { length answers.now ≡ length blocks.now }
-    requires few { length blocks.now ≤ 8 }
+    requires few { length blocks.now ≤ FLUSH_BLOCKS }
     ensures count { result ≡ length (written blocks.now answers.now) }
     ensures list { ail.new ≡ filter (λ e. not (has (written blocks.now answers.now) e.0)) ail.old }
 {

@@ -1,6 +1,6 @@
 //! The item lists: the commit list, the checkpoint in flight, and the active list.
 
-ghost use Rattle.std.specs.Prelude.{ℕ, ◌≡◌, ◌+◌, ◌<◌, ◌≤◌, ◌==◌, [], Bool, length, filter, Some, None, true, is_some, not, unwrap_or, if◌then◌else◌, IfOk, IfSome};
+ghost use Rattle.std.specs.Prelude.{ℕ, ◌≡◌, ◌+◌, ◌<◌, ◌≤◌, ◌==◌, ◌*◌, [], Bool, length, filter, Some, None, true, is_some, not, unwrap_or, if◌then◌else◌, IfOk, IfSome};
 ghost use Rattle.xt_base.specs.Chunks.{union};
 ghost use Rattle.xt_base.specs.Maps.{at, has, is_in, put, without};
 ghost use Rattle.xt_base.specs.Space.{cost, flight_items, is_listed, least_number, lesser};
@@ -15,7 +15,9 @@ use std::alloc::{AllocError, Global};
 use std::marker::Model;
 use std::mem;
 use xt_base::chunks::Chunks;
+use xt_base::form::Form;
 use xt_base::map::NumberMap;
+use xt_base::sizes::{CHUNK_COST, CHUNKS, ITEM_COST, MOST_ENDS, ROOM};
 use xt_base::steps::HomeAnswers;
 
 /// A checkpoint that is being written: its number, its items, and the pieces of its text.
@@ -81,7 +83,7 @@ impl Items {
     /// The committed items, by rising block.
     pub fn cil(&self) -> &[(u64, Chunks)]
         ensures value { result.now ≡ self.now.cil }
-        ensures small { length result.now ≤ 128 }
+        ensures small { length result.now ≤ ROOM }
     {
         self.cil.entries()
     }
@@ -153,7 +155,7 @@ impl Items {
     /// The active list: each block with the number of its checkpoint, by rising block.
     pub fn ail(&self) -> &[(u64, u64)]
         ensures value { result.now ≡ self.now.ail }
-        ensures small { length result.now ≤ 128 }
+        ensures small { length result.now ≤ ROOM }
     {
         self.ail.entries()
     }
@@ -168,7 +170,7 @@ impl Items {
 
     /// The items in flight, by rising block.
     pub fn flight_items(&self) -> Option<&[(u64, Chunks)]>
-        ensures some { IfSome result (λ items. (items.now ≡ flight_items self.now.flight) × (length items.now ≤ 128)) }
+        ensures some { IfSome result (λ items. (items.now ≡ flight_items self.now.flight) × (length items.now ≤ ROOM)) }
         ensures none { is_some result ≡ is_some self.now.flight }
     {
         match &self.flight {
@@ -189,7 +191,7 @@ impl Items {
 
     /// Marks of a commit are joined to those of the block's item. It takes no memory.
     pub fn mark(&mut self, block: u64, marks: Chunks)
-        requires { length self.old.cil < 128 }
+        requires { length self.old.cil < ROOM }
         ensures { self.new ≡ record self.old { cil = put block (union (unwrap_or (at block self.old.cil) []) marks) self.old.cil } }
     {
         let before = self.marks(block).unwrap_or(Chunks::none());
@@ -198,18 +200,18 @@ impl Items {
 
     /// The block's item cancels it: it has no chunks. It takes no memory.
     pub fn cancel(&mut self, block: u64)
-        requires { length self.old.cil < 128 }
+        requires { length self.old.cil < ROOM }
         ensures { self.new ≡ record self.old { cil = put block [] self.old.cil } }
     {
         self.cil.put(block, Chunks::none());
     }
 
-    /// The cost of the commit list in bytes: the length of its checkpoint text, 0 where it is empty.
-    pub fn cil_cost(&self) -> u64
-        ensures value { result ≡ cost self.now.cil }
-        ensures range { result ≤ 526368 }
+    /// The cost of the commit list in bytes: the length of its checkpoint text of this form, 0 where it is empty.
+    pub fn cil_cost(&self, form: Form) -> u64
+        ensures value { result ≡ cost form.ends self.now.cil }
+        ensures range { result ≤ MOST_ENDS + ROOM * (ITEM_COST + CHUNK_COST * CHUNKS) }
     {
-        cost_of(self.cil.entries())
+        cost_of(form, self.cil.entries())
     }
 
     /// An empty list for the next `fly`: that of a flight which has landed, or a new one. The one error is want of memory.
@@ -250,7 +252,7 @@ impl Items {
     /// number unless it is there. It takes no memory.
     pub fn land(&mut self)
         requires flying { is_some self.old.flight ≡ true }
-        requires room { length self.old.ail + length (flight_items self.old.flight) ≤ 128 }
+        requires room { length self.old.ail + length (flight_items self.old.flight) ≤ ROOM }
         ensures { IfSome self.old.flight (λ f. self.new ≡ record self.old { flight = None; ail = activated f.number f.items self.old.ail }) }
     {
         if let Some(flight) = self.flight.take() {
@@ -320,20 +322,21 @@ impl Items {
     }
 }
 
-/// The cost of a list of items: 0 where it is empty, else 32, and 16 and 128 for each chunk of each item.
-fn cost_of(items: &[(u64, Chunks)]) -> u64
-    requires { length items.now ≤ 128 }
-    ensures value { result ≡ cost items.now }
-    ensures range { result ≤ 526368 }
+/// The cost of a list of items: 0 where it is empty, else the ends of a text of this form, and what each item costs with
+/// its chunks.
+fn cost_of(form: Form, items: &[(u64, Chunks)]) -> u64
+    requires { length items.now ≤ ROOM }
+    ensures value { result ≡ cost form.ends items.now }
+    ensures range { result ≤ MOST_ENDS + ROOM * (ITEM_COST + CHUNK_COST * CHUNKS) }
 {
     if items.is_empty() {
         return 0;
     }
-    let mut sum = 32;
+    let mut sum = 0;
     for e in items {
-        sum += 16 + 128 * e.1.count() as u64;
+        sum += ITEM_COST + CHUNK_COST * e.1.count() as u64;
     }
-    sum
+    u64::from(form.ends()) + sum
 }
 
 /// The least number among entries.
@@ -361,7 +364,7 @@ fn lesser(number: u64, other: Option<u64>) -> u64
 
 /// Cancelled blocks leave the active list, and each other block goes there unless it is there.
 fn activate(ail: &mut NumberMap<u64>, number: u64, items: &[(u64, Chunks)])
-    requires { length ail.old + length items.now ≤ 128 }
+    requires { length ail.old + length items.now ≤ ROOM }
     ensures { ail.new ≡ activated number items.now ail.old }
 {
     for e in items {
@@ -371,7 +374,7 @@ fn activate(ail: &mut NumberMap<u64>, number: u64, items: &[(u64, Chunks)])
 
 /// The same for one item.
 fn activate_one(ail: &mut NumberMap<u64>, number: u64, block: u64, chunks: Chunks)
-    requires { length ail.old < 128 }
+    requires { length ail.old < ROOM }
     ensures list { ail.new ≡ (if length chunks == 0 then without block ail.old else (if is_in block ail.old then ail.old else put block number ail.old)) }
     ensures count { length ail.new ≤ length ail.old + 1 }
 {

@@ -6,3 +6,6 @@ pub mod items;
 pub mod plan;
 #[cfg(test)]
 mod tests;
+
+pub use items::{Flight, Items};
+pub use plan::FlushPlan;

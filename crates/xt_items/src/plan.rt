@@ -6,26 +6,25 @@ ghost use Rattle.xt_items.specs.Plans.{inserted, rank};
 
 use std::marker::Model;
 use xt_base::names::Block;
+use xt_base::sizes::FLUSH_BLOCKS;
 use xt_base::steps::HomeAnswers;
-
-/// How many blocks one flush writes at most.
-pub const PLAN: usize = 8;
 
 /// The blocks that a flush writes home, 0 to 8, in the order of their writes. Clauses see the list of them.
 #[derive(Debug, Drop)]
 pub struct FlushPlan {
     count: u8,
-    blocks: [Block; 8],
+    blocks: [Block; FLUSH_BLOCKS],
 }
 
 impl Model for FlushPlan {
     ghost use Rattle.std.specs.Prelude.{List, ℕ, ◌≤◌, take};
+    ghost use Rattle.xt_base.specs.declared.sizes.TheConstants.{FLUSH_BLOCKS};
 
     ghost Value = { List ℕ };
 
     ghost view = { λ p. take p.count p.blocks };
 
-    ghost invariant = { λ p. p.count ≤ 8 };
+    ghost invariant = { λ p. p.count ≤ FLUSH_BLOCKS };
 }
 
 impl FlushPlan {
@@ -35,14 +34,14 @@ impl FlushPlan {
     {
         FlushPlan {
             count: 0,
-            blocks: [Block(0); 8],
+            blocks: [Block(0); FLUSH_BLOCKS],
         }
     }
 
     /// How many blocks it writes.
     pub fn count(&self) -> u8
         ensures value { result ≡ length self.now }
-        ensures range { result ≤ 8 }
+        ensures range { result ≤ FLUSH_BLOCKS }
     {
         self.blocks().len() as u8
     }
@@ -50,14 +49,14 @@ impl FlushPlan {
     /// Its blocks, in the order of their writes.
     pub fn blocks(&self) -> &[Block]
         ensures value { result.now ≡ self.now }
-        ensures range { length result.now ≤ 8 }
+        ensures range { length result.now ≤ FLUSH_BLOCKS }
     {
         &self.blocks[..self.count as usize]
     }
 
     /// One block more at its end.
     fn push(&mut self, block: Block)
-        requires { length self.old < 8 }
+        requires { length self.old < FLUSH_BLOCKS }
         ensures { self.new ≡ self.old ++ block ∷ [] }
     {
         self.blocks[self.count as usize] = block;
@@ -69,17 +68,18 @@ impl FlushPlan {
 #[derive(Debug, Drop)]
 pub(crate) struct Earliest {
     count: usize,
-    entries: [(u64, u64); 8],
+    entries: [(u64, u64); FLUSH_BLOCKS],
 }
 
 impl Model for Earliest {
     ghost use Rattle.std.specs.Prelude.{List, ℕ, ◌≡◌, ◌≤◌, length, take};
+    ghost use Rattle.xt_base.specs.declared.sizes.TheConstants.{FLUSH_BLOCKS};
 
     ghost Value = { List (ℕ × ℕ) };
 
     ghost view = { λ f. take f.count f.entries };
 
-    ghost invariant = { λ f. (f.count ≤ 8) × (length f.entries ≡ 8) };
+    ghost invariant = { λ f. (f.count ≤ FLUSH_BLOCKS) × (length f.entries ≡ FLUSH_BLOCKS) };
 }
 
 impl Earliest {
@@ -89,21 +89,21 @@ impl Earliest {
     {
         Earliest {
             count: 0,
-            entries: [(0, 0); 8],
+            entries: [(0, 0); FLUSH_BLOCKS],
         }
     }
 
     /// Its entries in order.
     fn entries(&self) -> &[(u64, u64)]
         ensures value { result.now ≡ self.now }
-        ensures range { length result.now ≤ 8 }
+        ensures range { length result.now ≤ FLUSH_BLOCKS }
     {
         &self.entries[..self.count]
     }
 
     /// With an entry of a lower block than each other's; the ninth goes.
     pub(crate) fn add(&mut self, entry: (u64, u64))
-        ensures { self.new ≡ take 8 (placed entry self.old) }
+        ensures { self.new ≡ take FLUSH_BLOCKS (placed entry self.old) }
     {
         let at = rank_of(self.entries(), entry.1);
         self.insert(at, entry);
@@ -112,7 +112,7 @@ impl Earliest {
     /// With an entry behind so many others; the ninth goes.
     fn insert(&mut self, at: usize, entry: (u64, u64))
         requires { at ≤ length self.old }
-        ensures { self.new ≡ take 8 (inserted at entry self.old) }
+        ensures { self.new ≡ take FLUSH_BLOCKS (inserted at entry self.old) }
     {
         let mut carried = entry;
         for place in at..self.count {
@@ -120,7 +120,7 @@ impl Earliest {
             self.entries[place] = carried;
             carried = next;
         }
-        if self.count < PLAN {
+        if self.count < FLUSH_BLOCKS {
             self.entries[self.count] = carried;
             self.count += 1;
         }

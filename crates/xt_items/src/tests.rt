@@ -9,6 +9,7 @@ use crate::plan::{FlushPlan, all_ok};
 use bytes::Bytes;
 use std::alloc::{AllocError, Global};
 use xt_base::chunks::Chunks;
+use xt_base::form::Form;
 use xt_base::map::NumberMap;
 use xt_base::names::Block;
 use xt_base::steps::HomeAnswers;
@@ -88,10 +89,13 @@ fn a_checkpoint_lands(rt: HostRuntime) {
     let is_begun = begin(rt.alloc(), &mut items);
     assert_eq!(rt; is_begun, items.is_flying());
     if !is_begun {
-        assert_eq!(rt; (items.open_number(), items.cil_cost()), (1, 448));
+        assert_eq!(rt;
+            (items.open_number(), items.cil_cost(Form::one())),
+            (1, 448)
+        );
         return;
     }
-    assert_eq!(rt; (items.open_number(), items.cil_cost()), (2, 0));
+    assert_eq!(rt; (items.open_number(), items.cil_cost(Form::one())), (2, 0));
     assert_eq!(rt; (items.flight_number(), items.pieces().len()), (Some(1), 1));
     assert!(rt; items.is_in_flight(7) && items.is_listed(9) && !items.is_listed(8));
     let is_landed = end(&mut items);

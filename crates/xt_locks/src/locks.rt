@@ -15,6 +15,7 @@ use std::alloc::{AllocError, Global};
 use std::marker::Model;
 use xt_base::map::NumberMap;
 use xt_base::names::{Block, CkptNo, TransNo};
+use xt_base::sizes::ROOM;
 use xt_base::steps::{Errno, Owner};
 
 /// The owners of blocks: a finite map, which clauses see as the list of its entries by rising block.
@@ -44,7 +45,7 @@ impl Locks {
     /// The owned blocks with their owners, by rising block.
     pub fn owners(&self) -> &[(u64, Owner)]
         ensures value { result.now ≡ self.now }
-        ensures small { length result.now ≤ 128 }
+        ensures small { length result.now ≤ ROOM }
     {
         self.owners.entries()
     }
@@ -94,7 +95,7 @@ impl Locks {
     /// A block that the transaction owns is locked once more by `again`.
     pub fn try_lock(&mut self, trans: TransNo, block: Block) -> Result<(), Errno>
         requires strange { own_count trans (at block self.old) ≡ None }
-        requires room { is_in block self.old ≡ false → length self.old < 128 }
+        requires room { is_in block self.old ≡ false → length self.old < ROOM }
         ensures map { self.new ≡ first_locked trans block self.old }
         ensures ok { IsOk result ↔ (is_in block self.old ≡ false) }
         ensures err { IfErr result (λ errno. errno ≡ IsAgain) }

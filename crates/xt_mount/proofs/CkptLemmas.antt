@@ -1,27 +1,35 @@
 -- The text of a checkpoint, chunk by chunk and item by item.
-use Rattle.std.proofs.Common.{◌≡◌, ◌∙◌, ◌+◌, ◌*◌, ◌-◌, ◌<◌, ◌≤◌, ℕ, suc, List, [], ◌∷◌, ◌++◌, Option, Some, None, Bool, true, false, sym, ap, subst, refl, length, arith, map, take, filter, if◌then◌else◌, add-one, append-nil, length-append, IfSome}
-use Rattle.std.specs.Prelude.{All, ◌==◌, flat_map, get_or, replicate, not}
+use Rattle.std.proofs.Common.{◌≡◌, ◌∙◌, ◌+◌, ◌*◌, ◌-◌, ◌<◌, ◌≤◌, ℕ, suc, zero, List, [], ◌∷◌, ◌++◌, Option, Some, None, Bool, true, false, sym, ap, subst, refl, length, arith, map, take, filter, if◌then◌else◌, add-one, append-nil, length-append, IfSome}
+use Rattle.std.specs.Prelude.{All, ◌==◌, flat_map, get_or, is_some, not}
 use Rattle.std.specs.Int.{bit_at}
-use Rattle.std.proofs.lemmas.List.{drop-replicate, take-replicate, take_more, length-map, map-append}
+use Rattle.std.proofs.lemmas.List.{take_more, length-map, map-append}
 use Rattle.std.proofs.lemmas.List.Concat.{flat_map-append}
 use Rattle.std.proofs.lemmas.List.Elements.{filter-append, All-push}
+use Rattle.std.proofs.lemmas.Bool.{false≢true, ne_eqb}
 use Rattle.xt_base.specs.Chunks.{below, chunks_where, places_of}
 use Rattle.xt_base.specs.Jobs.{landed, landed_items, waits_on}
+use Rattle.xt_base.specs.Maps.{at}
 use Rattle.xt_base.specs.Settle.{settled}
-use Rattle.xt_base.specs.Sound.{IsRising, RisesFrom, AllBelow, IsBetween, IsSound, RisesFromKeys as NumbersRise}
+use Rattle.xt_base.specs.Sound.{Each, IsRising, RisesFrom, AllBelow, IsBetween, IsSound, RisesFromKeys as NumbersRise}
 use Rattle.xt_base.specs.State.{Flight, Items, Jobs, State}
-use Rattle.xt_base.specs.Text.{chunk, zeros}
 use Rattle.xt_base.specs.declared.steps.Owner.{Owner}
 use Rattle.xt_base.proofs.MapLemmas.{some_same}
 use Rattle.xt_ckpt.specs.Items.{BlocksRise, HasForm, item_bytes}
 use Rattle.xt_ckpt.specs.declared.item.Item.{Item}
 use Rattle.xt_items.specs.Lists.{flight_number}
 use Rattle.xt_mount.specs.Journals.{Pages, landed_in}
-use Rattle.xt_mount.specs.Texts.{entry_block, entry_bytes}
+use Rattle.xt_mount.specs.Texts.{HasContent, entry_block, entry_bytes}
 
--- a chunk of zeros
-pub zero_chunk : (k : ℕ) → k < 32 → replicate 128 0 ≡ chunk zeros k
-zero_chunk k lt = sym (ap (take 128) (drop-replicate (128 * k) 4096 0) ∙ take-replicate 128 (4096 - 128 * k) 0 (omega arith))
+-- a block without a content has no chunk
+pub no_chunks : (contents : List (ℕ × List ℕ)) (b : ℕ) (set : List ℕ) → HasContent contents (b, set) → None ≡ at b contents → set ≡ []
+no_chunks contents b [] has none = refl
+no_chunks contents b (k ∷ ks) has none = absurd (false≢true (ap is_some none ∙ has (ne_eqb (suc (length ks)) 0 (λ e. omega (arith, e)))))
+
+-- what holds of each entry
+pub entry_holds : (P : ℕ × List ℕ → Type 0) (es : List (ℕ × List ℕ)) (i : ℕ) (e : ℕ × List ℕ) → i < length es → e ≡ get_or es i e → Each P es → P e
+entry_holds P [] i e lt is all = absurd (omega (arith, lt))
+entry_holds P (x ∷ es) zero e lt is all = subst P (sym is) all.0
+entry_holds P (x ∷ es) (suc i) e lt is all = entry_holds P es i e (omega (arith, lt)) is all.1
 
 -- one number more below
 marked_one : (p : ℕ → Bool) (k : ℕ) → filter p (below (k + 1)) ≡ filter p (below k) ++ filter p (k ∷ [])
@@ -61,18 +69,18 @@ pub same_count : (es : List (ℕ × List ℕ)) (items : List Item) → map entry
 same_count es items same = sym (length-map items (λ (i : Item). i.block)) ∙ sym (ap length same) ∙ length-map es entry_block
 
 landed_by : (s : State) (o : Option Flight) (number : ℕ) (owners : List (ℕ × Owner)) (pages : Pages) (jobs : Jobs) (n : State) → flight_number o ≡ Some number
-    → owners ≡ filter (λ e. not (waits_on number e.1)) s.owners → IfSome o (λ f. pages ≡ landed_in f (record { log_bytes = s.log_bytes; transactions = s.transactions; items = s.items })) → jobs ≡ record s.jobs { ckpt = None }
-    → n ≡ settled [] (record s { owners = owners; log_bytes = pages.log_bytes; transactions = pages.transactions; items = pages.items; jobs = jobs }) → IfSome o (λ f. n ≡ landed [] f s)
+    → owners ≡ filter (λ e. not (waits_on number e.1)) s.owners → IfSome o (λ f. pages ≡ landed_in f (record { log_bytes = s.log_bytes; form = s.form; transactions = s.transactions; items = s.items })) → jobs ≡ record s.jobs { ckpt = None }
+    → n ≡ settled [] (record s { owners = owners; log_bytes = pages.log_bytes; form = pages.form; transactions = pages.transactions; items = pages.items; jobs = jobs }) → IfSome o (λ f. n ≡ landed [] f s)
 landed_by s None number owners pages jobs n flying freed listed done is = tt
 landed_by s (Some f) number owners pages jobs n flying freed listed done is =
-    is ∙ ap (λ x. settled [] (record s { owners = x; log_bytes = pages.log_bytes; transactions = pages.transactions; items = pages.items; jobs = jobs })) (freed ∙ ap (λ k. filter (λ e. not (waits_on k e.1)) s.owners) (sym (some_same f.number number flying)))
-    ∙ ap (λ (x : Pages). settled [] (record s { owners = filter (λ e. not (waits_on f.number e.1)) s.owners; log_bytes = x.log_bytes; transactions = x.transactions; items = x.items; jobs = jobs })) listed
-    ∙ ap (λ x. settled [] (record s { owners = filter (λ e. not (waits_on f.number e.1)) s.owners; items = landed_items f s.items; jobs = x })) done
+    is ∙ ap (λ x. settled [] (record s { owners = x; log_bytes = pages.log_bytes; form = pages.form; transactions = pages.transactions; items = pages.items; jobs = jobs })) (freed ∙ ap (λ k. filter (λ e. not (waits_on k e.1)) s.owners) (sym (some_same f.number number flying)))
+    ∙ ap (λ (x : Pages). settled [] (record s { owners = filter (λ e. not (waits_on f.number e.1)) s.owners; log_bytes = x.log_bytes; form = x.form; transactions = x.transactions; items = x.items; jobs = jobs })) listed
+    ∙ ap (λ x. settled [] (record s { owners = filter (λ e. not (waits_on f.number e.1)) s.owners; items = landed_items s.form.ends f s.items; jobs = x })) done
 
 -- the flight of this number has landed
 pub landed_is : (s : State) (number : ℕ) (owners : List (ℕ × Owner)) (pages : Pages) (jobs : Jobs) (n : State) → flight_number s.items.flight ≡ Some number
-    → owners ≡ filter (λ e. not (waits_on number e.1)) s.owners → IfSome s.items.flight (λ f. pages ≡ landed_in f (record { log_bytes = s.log_bytes; transactions = s.transactions; items = s.items })) → jobs ≡ record s.jobs { ckpt = None }
-    → n ≡ settled [] (record s { owners = owners; log_bytes = pages.log_bytes; transactions = pages.transactions; items = pages.items; jobs = jobs }) → IfSome s.items.flight (λ f. n ≡ landed [] f s)
+    → owners ≡ filter (λ e. not (waits_on number e.1)) s.owners → IfSome s.items.flight (λ f. pages ≡ landed_in f (record { log_bytes = s.log_bytes; form = s.form; transactions = s.transactions; items = s.items })) → jobs ≡ record s.jobs { ckpt = None }
+    → n ≡ settled [] (record s { owners = owners; log_bytes = pages.log_bytes; form = pages.form; transactions = pages.transactions; items = pages.items; jobs = jobs }) → IfSome s.items.flight (λ f. n ≡ landed [] f s)
 landed_is s number owners pages jobs n flying freed listed done is = landed_by s s.items.flight number owners pages jobs n flying freed listed done is
 
 -- what a landing finds
@@ -84,18 +92,18 @@ pub landed_below : (s : State) → IsSound s → IfSome s.items.flight (λ f. Al
 landed_below s sound = below_by s.items s.items.flight sound.parts.flying
 
 -- one item more
-pub record HasItems (contents : List (ℕ × List ℕ)) (es : List (ℕ × List ℕ)) (items : List Item) : Type 0 where
-  pub text : flat_map item_bytes items ≡ flat_map (entry_bytes contents) es
+pub record HasItems (size : ℕ) (contents : List (ℕ × List ℕ)) (es : List (ℕ × List ℕ)) (items : List Item) : Type 0 where
+  pub text : flat_map item_bytes items ≡ flat_map (entry_bytes size contents) es
   pub blocks : map entry_block es ≡ map (λ (i : Item). i.block) items
   pub form : All HasForm items
 
-pub item_more : (contents es : List (ℕ × List ℕ)) (i : ℕ) (e : ℕ × List ℕ) (x : Item) (items new : List Item) → i < length es → e ≡ get_or es i e → new ≡ items ++ x ∷ [] → item_bytes x ≡ entry_bytes contents e
-    → x.block ≡ e.0 → HasForm x → HasItems contents (take i es) items → HasItems contents (take (i + 1) es) new
-item_more contents es i e x items new lt is pushed same_bytes same_block formed before =
+pub item_more : (size : ℕ) (contents es : List (ℕ × List ℕ)) (i : ℕ) (e : ℕ × List ℕ) (x : Item) (items new : List Item) → i < length es → e ≡ get_or es i e → new ≡ items ++ x ∷ [] → item_bytes x ≡ entry_bytes size contents e
+    → x.block ≡ e.0 → HasForm x → HasItems size contents (take i es) items → HasItems size contents (take (i + 1) es) new
+item_more size contents es i e x items new lt is pushed same_bytes same_block formed before =
     let cut : take (i + 1) es ≡ take i es ++ e ∷ [] = take_more es i e lt ∙ ap (λ y. take i es ++ y ∷ []) (sym is) in
     record {
-      text = ap (flat_map item_bytes) pushed ∙ flat_map-append item_bytes items (x ∷ []) ∙ ap (λ ys. flat_map item_bytes items ++ ys) (append-nil (item_bytes x) ∙ same_bytes ∙ sym (append-nil (entry_bytes contents e)))
-          ∙ ap (λ ys. ys ++ flat_map (entry_bytes contents) (e ∷ [])) before.text ∙ sym (flat_map-append (entry_bytes contents) (take i es) (e ∷ [])) ∙ ap (flat_map (entry_bytes contents)) (sym cut);
+      text = ap (flat_map item_bytes) pushed ∙ flat_map-append item_bytes items (x ∷ []) ∙ ap (λ ys. flat_map item_bytes items ++ ys) (append-nil (item_bytes x) ∙ same_bytes ∙ sym (append-nil (entry_bytes size contents e)))
+          ∙ ap (λ ys. ys ++ flat_map (entry_bytes size contents) (e ∷ [])) before.text ∙ sym (flat_map-append (entry_bytes size contents) (take i es) (e ∷ [])) ∙ ap (flat_map (entry_bytes size contents)) (sym cut);
       blocks = ap (map entry_block) cut ∙ map-append entry_block (take i es) (e ∷ []) ∙ ap (λ ys. ys ++ e.0 ∷ []) before.blocks ∙ ap (λ b. map (λ (y : Item). y.block) items ++ b ∷ []) (sym same_block)
           ∙ sym (map-append (λ (y : Item). y.block) items (x ∷ [])) ∙ ap (map (λ (y : Item). y.block)) (sym pushed);
       form = subst (All HasForm) (sym pushed) (All-push HasForm items x before.form formed);

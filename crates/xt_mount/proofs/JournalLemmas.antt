@@ -5,6 +5,7 @@ use Rattle.std.proofs.lemmas.Bool.{false≢true}
 use Rattle.xt_base.proofs.MapLemmas.{some_same}
 use Rattle.xt_base.proofs.RisingLemmas.{sum_put, sum_without, weight_at}
 use Rattle.xt_base.proofs.ViewLemmas.{put_without}
+use Rattle.xt_base.specs.Form.{Form}
 use Rattle.xt_base.specs.Maps.{at, is_in, put, set_at, without}
 use Rattle.xt_base.specs.Sound.{IsRising}
 use Rattle.xt_base.specs.Space.{cost, granted, least_number, still_needed}
@@ -69,9 +70,9 @@ module _ (p q : Pages) (view : q ≡ p) (t : ℕ) (u v : Transaction) (m ns : Li
 module _ (p q : Pages) (view : q ≡ p) (t : ℕ) (u v : Transaction) (m ns : List (ℕ × Transaction)) (is : at t q.transactions ≡ Some u) (rises : IsRising p.transactions) (out : m ≡ without t q.transactions)
     (back : ns ≡ put t v m) where
   pub next_pages : (f : ℕ → ℕ) (g : Transaction → Items → Items) (log_bytes : ℕ) (items : Items) → v ≡ record u { legs = f u.legs; leg = clean_leg } → log_bytes ≡ q.log_bytes → items ≡ g u q.items
-      → IfSome (at t p.transactions) (λ x. record { log_bytes = log_bytes; transactions = ns; items = items } ≡ legs_in t (f x.legs) x (record p { items = g x p.items }))
+      → IfSome (at t p.transactions) (λ x. record { log_bytes = log_bytes; form = q.form; transactions = ns; items = items } ≡ legs_in t (f x.legs) x (record p { items = g x p.items }))
   next_pages f g log_bytes items changed size marked =
-      let given : ℕ → List (ℕ × Transaction) → Items → Pages = λ b xs l. record { log_bytes = b; transactions = xs; items = l } in
+      let given : ℕ → List (ℕ × Transaction) → Items → Pages = λ b xs l. record { log_bytes = b; form = q.form; transactions = xs; items = l } in
       subst (λ (x : Pages). IfSome (at t x.transactions) (λ y. given log_bytes ns items ≡ legs_in t (f y.legs) y (record x { items = g y x.items }))) view
       (subst (λ o. IfSome o (λ y. given log_bytes ns items ≡ legs_in t (f y.legs) y (record q { items = g y q.items }))) (sym is)
       (ap (λ b. given b ns items) size ∙ ap (given q.log_bytes ns) marked
@@ -87,37 +88,37 @@ module _ (q : Pages) (number : ℕ) (m : Lists) (before after : Ledger) (least :
     (ledger : after ≡ record before { flight = None; landed = still_counted least (put number (flight_cost before.flight) before.landed) }) (first : least ≡ least_number m.ail) where
   -- the pages after it
   abbrev new_pages : Pages
-  new_pages = record { log_bytes = after.size; transactions = q.transactions; items = with_landed after.landed m }
+  new_pages = record { log_bytes = after.size; form = q.form; transactions = q.transactions; items = with_landed after.landed m }
 
-  landed_by : (o : Option Flight) → flight_number o ≡ Some number → before.flight ≡ flight_of o
+  landed_by : (o : Option Flight) → flight_number o ≡ Some number → before.flight ≡ flight_of q.form.ends o
       → IfSome o (λ f. m ≡ record { open_number = q.items.open_number; cil = q.items.cil; flight = None; ail = activated f.number f.items q.items.ail })
       → IfSome o (λ f. new_pages ≡ landed_in f q)
   landed_by None flying price lists = tt
   landed_by (Some f) flying price lists =
-      let given : ℕ → List (ℕ × ℕ) → Lists → Pages = λ b xs l. record { log_bytes = b; transactions = q.transactions; items = with_landed xs l } in
+      let given : ℕ → List (ℕ × ℕ) → Lists → Pages = λ b xs l. record { log_bytes = b; form = q.form; transactions = q.transactions; items = with_landed xs l } in
       let counted : List (ℕ × ℕ) → Lists → List (ℕ × ℕ) = λ xs l. still_needed l.ail xs in
-      let costs : List (ℕ × ℕ) = put f.number (cost f.items) q.items.landed in
+      let costs : List (ℕ × ℕ) = put f.number (cost q.form.ends f.items) q.items.landed in
       ap (λ (l : Ledger). given l.size l.landed m) ledger
       ∙ ap (λ b. given b (still_counted least (put number (flight_cost before.flight) before.landed)) m) size
       ∙ ap (λ o. given q.log_bytes (still_counted o (put number (flight_cost before.flight) before.landed)) m) first
       ∙ ap (λ xs. given q.log_bytes xs m) (sym (still_is m.ail (put number (flight_cost before.flight) before.landed)))
       ∙ ap (λ k. given q.log_bytes (counted (put k (flight_cost before.flight) before.landed) m) m) (sym (some_same f.number number flying))
       ∙ ap (λ o. given q.log_bytes (counted (put f.number (flight_cost o) before.landed) m) m) price
-      ∙ ap (λ xs. given q.log_bytes (counted (put f.number (cost f.items) xs) m) m) landed
+      ∙ ap (λ xs. given q.log_bytes (counted (put f.number (cost q.form.ends f.items) xs) m) m) landed
       ∙ ap (λ (l : Lists). given q.log_bytes (counted costs l) l) lists
 
-  pub landed_pages : (p : Pages) → q ≡ p → flight_number q.items.flight ≡ Some number → before.flight ≡ flight_of q.items.flight
+  pub landed_pages : (p : Pages) → q ≡ p → flight_number q.items.flight ≡ Some number → before.flight ≡ flight_of q.form.ends q.items.flight
       → IfSome q.items.flight (λ f. m ≡ record { open_number = q.items.open_number; cil = q.items.cil; flight = None; ail = activated f.number f.items q.items.ail })
       → IfSome p.items.flight (λ f. new_pages ≡ landed_in f p)
   landed_pages p view flying price lists = subst (λ (x : Pages). IfSome x.items.flight (λ f. new_pages ≡ landed_in f x)) view (landed_by q.items.flight flying price lists)
 
 -- ---- a flush
 -- blocks were written home
-module _ (ts : List (ℕ × Transaction)) (blocks : List ℕ) (l m : Lists) (before after : Ledger) (least : Option ℕ) where
-  pub cleaned_pages : (p : Pages) → record { log_bytes = before.size; transactions = ts; items = with_landed before.landed l } ≡ p → m ≡ without_blocks blocks l → after ≡ record before { landed = still_counted least before.landed }
-      → least ≡ least_number m.ail → record { log_bytes = after.size; transactions = ts; items = with_landed after.landed m } ≡ cleaned_in blocks p
+module _ (form : Form) (ts : List (ℕ × Transaction)) (blocks : List ℕ) (l m : Lists) (before after : Ledger) (least : Option ℕ) where
+  pub cleaned_pages : (p : Pages) → record { log_bytes = before.size; form = form; transactions = ts; items = with_landed before.landed l } ≡ p → m ≡ without_blocks blocks l → after ≡ record before { landed = still_counted least before.landed }
+      → least ≡ least_number m.ail → record { log_bytes = after.size; form = form; transactions = ts; items = with_landed after.landed m } ≡ cleaned_in blocks p
   cleaned_pages p view lists ledger first =
-      let given : ℕ → List (ℕ × ℕ) → Lists → Pages = λ b xs n. record { log_bytes = b; transactions = ts; items = with_landed xs n } in
+      let given : ℕ → List (ℕ × ℕ) → Lists → Pages = λ b xs n. record { log_bytes = b; form = form; transactions = ts; items = with_landed xs n } in
       ap (λ (x : Ledger). given x.size x.landed m) ledger
       ∙ ap (λ o. given before.size (still_counted o before.landed) m) first
       ∙ ap (λ xs. given before.size xs m) (sym (still_is m.ail before.landed))

@@ -27,8 +27,8 @@ absent_above n [] all = refl
 absent_above n (e ∷ es) all = ap is_some (at_later (n + 1) e es (λ same. omega (arith, same, all.0))) ∙ absent_above n es all.1
 
 -- what a clean leg is charged
-clean_charge : (leg : Leg) → is_dirty leg ≡ false → charge leg.changes ≡ 0
-clean_charge leg clean = ap {B = ℕ} (λ (b : Bool). if b then 0 else 32 + sum_by change_cost leg.changes) (not-false (length leg.changes == 0) clean)
+clean_charge : (ends : ℕ) (leg : Leg) → is_dirty leg ≡ false → charge ends leg.changes ≡ 0
+clean_charge ends leg clean = ap {B = ℕ} (λ (b : Bool). if b then 0 else ends + sum_by change_cost leg.changes) (not-false (length leg.changes == 0) clean)
 
 -- what is not there
 is_live : {A : Type 0} (o : Option A) → is_some o ≡ false → is_none o ≡ true
@@ -41,28 +41,34 @@ module _ (s : State) (h : IsSound s) (t : ℕ) (u : Transaction) (there : Some u
   contents_room = if_some (at t s.transactions) (λ x. length s.frames.committed + length x.leg.changes ≤ 128) u there (omega (arith, few_contents s h, few_changes s h t u (sym there)))
 
   pub list_room : IfSome (at t s.transactions) (λ x. length s.items.cil + length x.leg.changes ≤ 128)
-  list_room = if_some (at t s.transactions) (λ x. length s.items.cil + length x.leg.changes ≤ 128) u there (omega (arith, few_committed s.log_bytes s.owners s.transactions s.items h.parts, few_changes s h t u (sym there)))
+  list_room = if_some (at t s.transactions) (λ x. length s.items.cil + length x.leg.changes ≤ 128) u there (omega (arith, few_committed s.form.ends s.log_bytes s.owners s.transactions s.items h.parts, few_changes s h t u (sym there)))
 
   pub fresh_room : IfSome (at t s.transactions) (λ x. length s.frames.fresh + length x.leg.changes ≤ 128)
   fresh_room = if_some (at t s.transactions) (λ x. length s.frames.fresh + length x.leg.changes ≤ 128) u there (omega (arith, few_fresh s h, few_changes s h t u (sym there)))
 
-  -- what its commit adds was charged, and where it may be committed, granted
-  pub paid_charge : cost (with_marks u.leg.changes s.items.cil) ≤ cost s.items.cil + charge u.leg.changes
+  -- what its commit adds was charged, which is within its unit, and where it may be committed, granted
+  paid_charge : cost s.form.ends (with_marks u.leg.changes s.items.cil) ≤ cost s.form.ends s.items.cil + charge s.form.ends u.leg.changes
   paid_charge = is_paid s h t u (sym there)
 
-  pub paid_by_charge : IfSome (at t s.transactions) (λ x. cost (with_marks x.leg.changes s.items.cil) ≤ cost s.items.cil + charge x.leg.changes)
-  paid_by_charge = if_some (at t s.transactions) (λ x. cost (with_marks x.leg.changes s.items.cil) ≤ cost s.items.cil + charge x.leg.changes) u there paid_charge
+  pub paid_unit : cost s.form.ends (with_marks u.leg.changes s.items.cil) ≤ cost s.form.ends s.items.cil + u.unit
+  paid_unit =
+      let fair : IsFair s.form.ends s.owners (t, u) = each_at (IsFair s.form.ends s.owners) t u s.transactions (sym there) h.parts.fair in
+      let unit = fair.unit in
+      omega (arith, paid_charge, unit)
 
-  charge_within : (is_dirty u.leg && is_some s.shut) ≡ false → charge u.leg.changes ≤ u.unit * u.legs
+  pub paid_by_unit : IfSome (at t s.transactions) (λ x. cost s.form.ends (with_marks x.leg.changes s.items.cil) ≤ cost s.form.ends s.items.cil + x.unit)
+  paid_by_unit = if_some (at t s.transactions) (λ x. cost s.form.ends (with_marks x.leg.changes s.items.cil) ≤ cost s.form.ends s.items.cil + x.unit) u there paid_unit
+
+  charge_within : (is_dirty u.leg && is_some s.shut) ≡ false → charge s.form.ends u.leg.changes ≤ u.unit * u.legs
   charge_within kept =
       elim (and_cases (is_dirty u.leg) (is_some s.shut) kept) [
-        | inl clean ↦ omega (arith, clean_charge u.leg clean)
+        | inl clean ↦ omega (arith, clean_charge s.form.ends u.leg clean)
         | inr live ↦ charge_granted t s u h (sym there) (is_live s.shut live)
       ]
 
-  pub paid_by_grant : IfSome (at t s.transactions) (λ x. (is_dirty x.leg && is_some s.shut) ≡ false) → IfSome (at t s.transactions) (λ x. cost (with_marks x.leg.changes s.items.cil) ≤ cost s.items.cil + x.unit * x.legs)
+  pub paid_by_grant : IfSome (at t s.transactions) (λ x. (is_dirty x.leg && is_some s.shut) ≡ false) → IfSome (at t s.transactions) (λ x. cost s.form.ends (with_marks x.leg.changes s.items.cil) ≤ cost s.form.ends s.items.cil + x.unit * x.legs)
   paid_by_grant kept =
-      if_some (at t s.transactions) (λ x. cost (with_marks x.leg.changes s.items.cil) ≤ cost s.items.cil + x.unit * x.legs) u there
+      if_some (at t s.transactions) (λ x. cost s.form.ends (with_marks x.leg.changes s.items.cil) ≤ cost s.form.ends s.items.cil + x.unit * x.legs) u there
       (omega (arith, paid_charge, charge_within (some_if (at t s.transactions) (λ x. (is_dirty x.leg && is_some s.shut) ≡ false) u there kept)))
 
   -- it has a leg left, its leg's changes rise, and its grant is there
@@ -70,19 +76,19 @@ module _ (s : State) (h : IsSound s) (t : ℕ) (u : Transaction) (there : Some u
   leg_left live = if_some (at t s.transactions) (λ x. 1 ≤ x.legs) u there (each_at (λ e. 1 ≤ e.1.legs) t u s.transactions (sym there) (h.legs_left live))
 
   pub changes_rise : IsRising u.leg.changes
-  changes_rise = let fair : IsFair s.owners (t, u) = each_at (IsFair s.owners) t u s.transactions (sym there) h.parts.fair in fair.rising
+  changes_rise = let fair : IsFair s.form.ends s.owners (t, u) = each_at (IsFair s.form.ends s.owners) t u s.transactions (sym there) h.parts.fair in fair.rising
 
   pub grant_there : u.unit * u.legs ≤ granted s.transactions
   grant_there = is_covered s h t u (sym there)
 
   -- whether its last leg finds no room
-  pub room_is : finds_no_room t u s ≡ is_no_room (grant_of u) (cost (with_marks u.leg.changes s.items.cil)) (ledger s.log_bytes s.transactions s.items)
+  pub room_is : finds_no_room t u s ≡ is_no_room (grant_of u) (cost s.form.ends (with_marks u.leg.changes s.items.cil)) (ledger s.form.ends s.log_bytes s.transactions s.items)
   room_is = no_room_is s h t u (sym there)
 
   pub room_there : IfSome (at t s.transactions) (λ x. finds_no_room t x s ≡ false)
-      → IfSome (at t s.transactions) (λ x. is_no_room (grant_of x) (cost (with_marks x.leg.changes s.items.cil)) (ledger s.log_bytes s.transactions s.items) ≡ false)
+      → IfSome (at t s.transactions) (λ x. is_no_room (grant_of x) (cost s.form.ends (with_marks x.leg.changes s.items.cil)) (ledger s.form.ends s.log_bytes s.transactions s.items) ≡ false)
   room_there room =
-      if_some (at t s.transactions) (λ x. is_no_room (grant_of x) (cost (with_marks x.leg.changes s.items.cil)) (ledger s.log_bytes s.transactions s.items) ≡ false) u there
+      if_some (at t s.transactions) (λ x. is_no_room (grant_of x) (cost s.form.ends (with_marks x.leg.changes s.items.cil)) (ledger s.form.ends s.log_bytes s.transactions s.items) ≡ false) u there
       (sym room_is ∙ some_if (at t s.transactions) (λ x. finds_no_room t x s ≡ false) u there room)
 
   -- ---- a roll

@@ -4,6 +4,7 @@ use Rattle.xt_base.specs.Jobs.{is_owed}
 use Rattle.xt_base.specs.State.{State}
 use Rattle.xt_base.specs.declared.names.JobKind.{JobKind}
 use Rattle.xt_base.specs.declared.names.JobName.{JobName}
+use Rattle.xt_base.specs.declared.sizes.TheConstants.{LEAST_LOG, MOST_BLOCKS, MOST_LOG}
 use Rattle.xt_base.specs.declared.steps.Errno.{Errno}
 use Rattle.xt_base.specs.declared.steps.Errno.TheVariants.{Invalid, NoSpace}
 use Rattle.xt_base.specs.declared.steps.Request.{Request}
@@ -20,7 +21,7 @@ is_of_mount other = false
 -- what refuses a new mount, after a last life
 abbrev pub new_refusals : ℕ → ℕ → ℕ → List (Bool × Errno)
 new_refusals last log_bytes blocks =
-    (nat_lt log_bytes 65536 || nat_lt 16777216 log_bytes || (blocks == 0) || nat_lt 1099511627776 blocks, Invalid)
+    (nat_lt log_bytes LEAST_LOG || nat_lt MOST_LOG log_bytes || (blocks == 0) || nat_lt MOST_BLOCKS blocks, Invalid)
     ∷ (last == 4294967295, NoSpace)
     ∷ []
 

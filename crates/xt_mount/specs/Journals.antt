@@ -1,5 +1,6 @@
--- A journal: the size of the log, the open transactions, and the item lists.
+-- A journal: the size of the log, the form of the mount, the open transactions, and the item lists.
 use Rattle.std.specs.Prelude.{ℕ, List, [], None, Some, ◌+◌, sum_by}
+use Rattle.xt_base.specs.Form.{Form}
 use Rattle.xt_base.specs.Jobs.{cleaned, landed_items}
 use Rattle.xt_base.specs.Legs.{clean_leg, with_marks}
 use Rattle.xt_base.specs.Maps.{put, set_at, without}
@@ -8,19 +9,20 @@ use Rattle.xt_base.specs.State.{Flight, Items, Leg, Transaction}
 use Rattle.xt_items.specs.Lists.{Lists}
 use Rattle.xt_resv.specs.Ledgers.{Grant}
 
--- the log bytes, the open transactions by number, and the lists
+-- the log bytes, the form, the open transactions by number, and the lists
 pub record Pages : Type 0 where
   pub log_bytes : ℕ
+  pub form : Form
   pub transactions : List (ℕ × Transaction)
   pub items : Items
 
 -- a journal of which nothing is in use
-abbrev pub no_pages : ℕ → Pages
-no_pages log_bytes = record { log_bytes = log_bytes; transactions = []; items = record { open_number = 1; cil = []; flight = None; ail = []; landed = [] } }
+abbrev pub no_pages : ℕ → Form → Pages
+no_pages log_bytes form = record { log_bytes = log_bytes; form = form; transactions = []; items = record { open_number = 1; cil = []; flight = None; ail = []; landed = [] } }
 
 -- the log bytes in use
 abbrev pub used_in : Pages → ℕ
-used_in j = granted j.transactions + cost j.items.cil + cost (flight_items j.items.flight) + sum_by (λ e. e.1) j.items.landed
+used_in j = granted j.transactions + cost j.form.ends j.items.cil + cost j.form.ends (flight_items j.items.flight) + sum_by (λ e. e.1) j.items.landed
 
 -- a transaction with a grant and a leg
 abbrev pub opened_with : Grant → Leg → Transaction
@@ -52,7 +54,7 @@ flown_in ps j = record j { items = record j.items { open_number = j.items.open_n
 
 -- the flight has landed
 abbrev pub landed_in : Flight → Pages → Pages
-landed_in f j = record j { items = landed_items f j.items }
+landed_in f j = record j { items = landed_items j.form.ends f j.items }
 
 -- the lists without what landed checkpoints cost
 abbrev pub lists_in : Pages → Lists

@@ -10,6 +10,7 @@ state_of m = record {
   life = m.jobs.life;
   log_bytes = m.journal.log_bytes;
   blocks = m.blocks;
+  form = m.journal.form;
   frames = m.frames;
   owners = m.locks;
   transactions = m.journal.transactions;

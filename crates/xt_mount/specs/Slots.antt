@@ -2,6 +2,7 @@
 use Rattle.std.specs.Prelude.{List, None, Option, Some, [], if◌then◌else◌, not, option_map, ℕ, ◌==◌, ◌≡◌, ◌⊎◌}
 use Rattle.xt_base.specs.Alone.{alone}
 use Rattle.xt_base.specs.Calls.{alone_with}
+use Rattle.xt_base.specs.Form.{Form, form_one}
 use Rattle.xt_base.specs.Jobs.{flight_pieces, flush_plan, is_begun, is_waiting}
 use Rattle.xt_base.specs.Order.{mount_is}
 use Rattle.xt_base.specs.State.{Lone, State}
@@ -55,6 +56,11 @@ IsAnsweredUnlessMemory life request answer r new old = ((r, new) ≡ answered_in
 -- its life
 abbrev pub life_in : Option State → Option ℕ
 life_in o = option_map (λ m. m.life) o
+
+-- its form; an empty slot has that of a mount of today
+abbrev pub form_in : Option State → Form
+form_in None = form_one
+form_in (Some m) = m.form
 
 -- the name of the next job of a kind, if it is owed
 abbrev pub owed_in : JobKind → Option State → Option JobName

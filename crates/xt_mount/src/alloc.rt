@@ -9,10 +9,8 @@ ghost use Rattle.xt_resv.specs.Ledgers.{is_invalid};
 use crate::machine::Machine;
 use std::alloc::AllocError;
 use xt_base::names::TransNo;
+use xt_base::sizes::OPEN_TRANSACTIONS;
 use xt_base::steps::{Errno, Reply};
-
-/// How many transactions of a mount may be open.
-const OPEN: usize = 32;
 
 impl Machine {
     /// What refuses an alloc before the space does.
@@ -20,7 +18,7 @@ impl Machine {
         ensures refusal { result ≡ first_of (alloc_refusals unit count perm (state_of self.now)) }
         ensures valid { result ≡ None → is_invalid unit count perm self.now.journal.log_bytes ≡ false }
         ensures number { result ≡ None → self.now.last_trans < 18446744073709551615 }
-        ensures few { result ≡ None → length self.now.journal.transactions < 32 }
+        ensures few { result ≡ None → length self.now.journal.transactions < OPEN_TRANSACTIONS }
     {
         if self.journal.is_invalid(unit, count, perm) {
             return Some(Errno::Invalid);
@@ -31,7 +29,7 @@ impl Machine {
         if self.last_trans == u64::MAX {
             return Some(Errno::NoSpace);
         }
-        if self.journal.open_count() >= OPEN {
+        if self.journal.open_count() >= OPEN_TRANSACTIONS {
             return Some(Errno::Again);
         }
         None

@@ -1,38 +1,52 @@
 //! The begin and the end of a checkpoint job.
 
-ghost use Rattle.std.specs.Prelude.{◌≡◌, ◌+◌, ◌*◌, ◌≤◌, ◌<◌, ◌++◌, true, All, length, map, flat_map, is_some, is_none, IfOk, OnOk, OnErr, option_copied, Some, [], IfSome, ◌==◌, if◌then◌else◌};
+ghost use Rattle.std.specs.Prelude.{◌≡◌, ◌+◌, ◌*◌, ◌≤◌, ◌<◌, ◌++◌, true, All, length, map, flat_map, is_some, is_none, IfOk, OnOk, OnErr, Some, [], IfSome, ◌==◌, if◌then◌else◌};
 ghost use Rattle.std.specs.Int.{bit_at};
 ghost use Rattle.xt_base.specs.Calls.{gives};
 ghost use Rattle.xt_base.specs.Jobs.{begin as begin_step, end as end_step, failed as failed_step, flight_pieces, is_ok, landed as landed_step, next_pieces};
 ghost use Rattle.xt_base.specs.Maps.{at};
 ghost use Rattle.xt_base.specs.Sound.{IsSound};
-ghost use Rattle.xt_base.specs.Text.{chunk, chunk_bytes};
+ghost use Rattle.xt_base.specs.Text.{chunk, chunk_bytes, content_at};
 ghost use Rattle.xt_ckpt.specs.Items.{item_bytes, HasForm};
 ghost use Rattle.xt_ckpt.specs.declared.item.Item.{Item as AnItem};
 ghost use Rattle.xt_items.specs.Lists.{flight_number};
 ghost use Rattle.xt_mount.specs.Machines.{state_of};
-ghost use Rattle.xt_mount.specs.Texts.{entry_bytes, entry_block, seen_content};
+ghost use Rattle.xt_mount.specs.Texts.{HasContent, HaveContents, entry_bytes, entry_block};
 
 use crate::machine::Machine;
 use bytes::Bytes;
 use std::alloc::{AllocError, Global};
-use xt_base::chunks::{CHUNK_BYTES, CHUNKS, Chunks};
+use xt_base::chunks::Chunks;
 use xt_base::content::Content;
 use xt_base::names::{Block, CkptNo, JobKind};
+use xt_base::sizes::{CHUNK_BYTES, CHUNKS, TEXT_PIECES};
 use xt_base::steps::{LogAnswers, Reason, Reply};
 use xt_ckpt::item::Item;
 use xt_ckpt::writing::write_checkpoint;
 
 impl Machine {
+    /// The bytes of some chunks of a block, one after another, as they are committed.
+    fn chunk_bytes_at(&self, block: u64, chunks: Chunks) -> Result<Vec<u8>, AllocError>
+        requires { HasContent self.now.frames.committed (block, chunks) }
+        ensures bytes { IfOk result (λ bytes. bytes.items ≡ chunk_bytes (content_at self.now.journal.form.size block self.now.frames.committed) chunks) }
+        ensures form { IfOk result (λ bytes. length bytes.items ≡ CHUNK_BYTES * length chunks) }
+    {
+        match self.frames.content(block) {
+            Some(content) => chunk_bytes_of(self.alloc, content, chunks),
+            None => Ok(Vec::new(self.alloc)),
+        }
+    }
+
     /// The committed items with the bytes of their chunks, as they are now.
     fn items_now(&self) -> Result<Vec<Item>, AllocError>
-        ensures text { IfOk result (λ items. flat_map item_bytes items.items ≡ flat_map (entry_bytes self.now.frames.committed) self.now.journal.items.cil) }
+        requires { HaveContents self.now.frames.committed self.now.journal.items.cil }
+        ensures text { IfOk result (λ items. flat_map item_bytes items.items ≡ flat_map (entry_bytes self.now.journal.form.size self.now.frames.committed) self.now.journal.items.cil) }
         ensures blocks { IfOk result (λ items. map entry_block self.now.journal.items.cil ≡ map (λ (i : AnItem). i.block) items.items) }
         ensures form { IfOk result (λ items. All HasForm items.items) }
     {
         let mut items = Vec::new(self.alloc);
         for e in self.journal.cil() {
-            let content = chunk_bytes_of(self.alloc, self.frames.content(e.0), e.1)?;
+            let content = self.chunk_bytes_at(e.0, e.1)?;
             items.push(Item {
                 block: Block(e.0),
                 chunks: e.1,
@@ -42,12 +56,13 @@ impl Machine {
         Ok(items)
     }
 
-    /// The pieces of a checkpoint of the committed items, as they are now.
+    /// The pieces of a checkpoint of the committed items, as they are now, on a live mount.
     fn pieces_now(&self) -> Result<Vec<Bytes>, AllocError>
         requires sound { IsSound (state_of self.now) }
+        requires live { is_none self.now.shut ≡ true }
         requires worth { 0 < length self.now.journal.items.cil }
         ensures pieces { IfOk result (λ pieces. pieces.items ≡ next_pieces (state_of self.now)) }
-        ensures few { IfOk result (λ pieces. length pieces.items ≤ 65) }
+        ensures few { IfOk result (λ pieces. length pieces.items ≤ TEXT_PIECES) }
     {
         let items = self.items_now()?;
         match write_checkpoint(self.alloc, CkptNo(self.journal.open_number()), &items) {
@@ -63,7 +78,7 @@ impl Machine {
         requires outstanding { is_some (state_of self.old).jobs.ckpt ≡ true }
         requires waiting { is_none self.old.journal.items.flight ≡ true }
         ensures ok { IfOk result (λ reply. gives reply (state_of self.new) ≡ begin_step (state_of self.old)) }
-        ensures few { OnOk result (length (flight_pieces self.new.journal.items.flight) ≤ 65) }
+        ensures few { OnOk result (length (flight_pieces self.new.journal.items.flight) ≤ TEXT_PIECES) }
         ensures err { OnErr result (state_of self.new ≡ state_of self.old) }
     {
         if self.is_shut() {
@@ -132,14 +147,10 @@ fn is_synced(answers: LogAnswers) -> bool
     }
 }
 
-/// The bytes of some chunks of a content, one after another; zeros where there is no content.
-fn chunk_bytes_of(
-    alloc: Global,
-    content: Option<&Content>,
-    chunks: Chunks,
-) -> Result<Vec<u8>, AllocError>
-    ensures bytes { IfOk result (λ bytes. bytes.items ≡ chunk_bytes (seen_content (option_copied content.entry)) chunks) }
-    ensures form { IfOk result (λ bytes. length bytes.items ≡ 128 * length chunks) }
+/// The bytes of some chunks of a content, one after another.
+fn chunk_bytes_of(alloc: Global, content: &Content, chunks: Chunks) -> Result<Vec<u8>, AllocError>
+    ensures bytes { IfOk result (λ bytes. bytes.items ≡ chunk_bytes content.now chunks) }
+    ensures form { IfOk result (λ bytes. length bytes.items ≡ CHUNK_BYTES * length chunks) }
 {
     let mut bytes = Vec::with_capacity(alloc, CHUNK_BYTES * chunks.count() as usize)?;
     let word = chunks.word();
@@ -151,22 +162,17 @@ fn chunk_bytes_of(
 
 /// Whether a word of bits has chunk `k`.
 fn is_marked(word: u32, k: u32) -> bool
-    requires { k < 32 }
+    requires { k < CHUNKS }
     ensures { result ≡ (bit_at word k == 1) }
 {
     word >> k & 1 == 1
 }
 
 /// Appends the bytes of chunk `k`, if the word has it.
-fn push_if_marked(
-    out: &mut Vec<u8>,
-    content: Option<&Content>,
-    word: u32,
-    k: u32,
-) -> Result<(), AllocError>
-    requires { k < 32 }
-    ensures bytes { OnOk result (out.new.items ≡ out.old.items ++ (if bit_at word k == 1 then chunk (seen_content (option_copied content.entry)) k else [])) }
-    ensures count { OnOk result (length out.new.items ≡ length out.old.items + (if bit_at word k == 1 then 128 else 0)) }
+fn push_if_marked(out: &mut Vec<u8>, content: &Content, word: u32, k: u32) -> Result<(), AllocError>
+    requires { k < CHUNKS }
+    ensures bytes { OnOk result (out.new.items ≡ out.old.items ++ (if bit_at word k == 1 then chunk content.now k else [])) }
+    ensures count { OnOk result (length out.new.items ≡ length out.old.items + (if bit_at word k == 1 then CHUNK_BYTES else 0)) }
 {
     if is_marked(word, k) {
         push_chunk(out, content, k)?;
@@ -175,15 +181,11 @@ fn push_if_marked(
 }
 
 /// Appends the bytes of one chunk.
-fn push_chunk(out: &mut Vec<u8>, content: Option<&Content>, k: u32) -> Result<(), AllocError>
-    requires { k < 32 }
-    ensures bytes { OnOk result (out.new.items ≡ out.old.items ++ chunk (seen_content (option_copied content.entry)) k) }
-    ensures count { OnOk result (length out.new.items ≡ length out.old.items + 128) }
+fn push_chunk(out: &mut Vec<u8>, content: &Content, k: u32) -> Result<(), AllocError>
+    requires { k < CHUNKS }
+    ensures bytes { OnOk result (out.new.items ≡ out.old.items ++ chunk content.now k) }
+    ensures count { OnOk result (length out.new.items ≡ length out.old.items + CHUNK_BYTES) }
 {
     let first = CHUNK_BYTES * k as usize;
-    match content {
-        Some(content) => out.extend_from_slice(&content.bytes()[first..first + CHUNK_BYTES])?,
-        None => out.extend_from_slice(&[0u8; CHUNK_BYTES])?,
-    }
-    Ok(())
+    out.extend_from_slice(&content.bytes()[first..first + CHUNK_BYTES])
 }

@@ -9,10 +9,8 @@ ghost use Rattle.xt_mount.specs.Machines.{state_of};
 
 use crate::machine::Machine;
 use xt_base::names::{Block, TransNo};
+use xt_base::sizes::BUSY_BLOCKS;
 use xt_base::steps::{Errno, Reply};
-
-/// How many blocks of a mount may be busy.
-pub const BUSY: usize = 64;
 
 impl Machine {
     /// What refuses a get.
@@ -33,7 +31,7 @@ impl Machine {
         if self.is_elsewhere(trans, block) {
             return Some(Errno::Again);
         }
-        if !self.is_busy(block) && self.busy_count() >= BUSY {
+        if !self.is_busy(block) && self.busy_count() >= BUSY_BLOCKS {
             return Some(Errno::NoBufs);
         }
         None

@@ -9,6 +9,7 @@ ghost use Rattle.xt_mount.specs.Machines.{state_of};
 
 use crate::machine::Machine;
 use crate::open_trans::OpenTrans;
+use xt_base::sizes::ROOM;
 use xt_base::steps::{Errno, Reply};
 
 impl Machine {
@@ -23,8 +24,8 @@ impl Machine {
     /// A block is invalidated in a transaction's leg, and fresh no more.
     fn mark_stale(&mut self, trans: u64, block: u64)
         requires rising { IsRising self.old.journal.transactions }
-        requires few { IfSome (at trans self.old.journal.transactions) (λ t. is_in block t.leg.changes ≡ false → length t.leg.changes + length t.leg.holds < 128) }
-        requires fits { IfSome (at trans self.old.journal.transactions) (λ t. charge (invalidated block t.leg).changes ≤ t.unit) }
+        requires few { IfSome (at trans self.old.journal.transactions) (λ t. is_in block t.leg.changes ≡ false → length t.leg.changes + length t.leg.holds < ROOM) }
+        requires fits { IfSome (at trans self.old.journal.transactions) (λ t. charge self.old.journal.form.ends (invalidated block t.leg).changes ≤ t.unit) }
         ensures { IfSome (at trans self.old.journal.transactions) (λ t. state_of self.new ≡ not_fresh block (with_leg trans t (invalidated block t.leg) (state_of self.old))) }
     {
         self.journal.inval(trans, block);
@@ -68,12 +69,12 @@ impl Machine {
     fn inval_refusal(&self, opened: &OpenTrans, trans: u64, block: u64) -> Option<Errno>
         ensures refusal { result ≡ first_of (inval_refusals trans block opened.now (state_of self.now)) }
         ensures own { result ≡ None → is_own (state_of self.now) trans block ≡ true }
-        ensures fits { result ≡ None → charge (invalidated block opened.now.leg).changes ≤ opened.now.unit }
+        ensures fits { result ≡ None → charge self.now.journal.form.ends (invalidated block opened.now.leg).changes ≤ opened.now.unit }
     {
         if !self.is_own(trans, block) {
             return Some(Errno::Invalid);
         }
-        if !opened.fits_invalidated(block) {
+        if !opened.fits_invalidated(self.journal.form(), block) {
             return Some(Errno::NoSpace);
         }
         None

@@ -21,8 +21,10 @@ use std::alloc::{AllocError, Global};
 use std::marker::Model;
 use xt_base::chunks::Chunks;
 use xt_base::content::Content;
+use xt_base::form::Form;
 use xt_base::map::NumberMap;
 use xt_base::names::Block;
+use xt_base::sizes::{MOST_LOG, ROOM};
 use xt_base::steps::HomeAnswers;
 use xt_frames::frames::Frames;
 use xt_items::items::Items;
@@ -38,6 +40,7 @@ pub struct Journal {
     transactions: NumberMap<OpenTrans>,
     items: Items,
     space: LogSpace,
+    form: Form,
     /// The leg of a transaction that ended, for a later one.
     spare: Option<TransRec>,
 }
@@ -51,9 +54,9 @@ impl Model for Journal {
 
     ghost Value = { Pages };
 
-    ghost view = { λ j. record { log_bytes = j.space.size; transactions = j.transactions; items = with_landed j.space.landed j.items } };
+    ghost view = { λ j. record { log_bytes = j.space.size; form = j.form; transactions = j.transactions; items = with_landed j.space.landed j.items } };
 
-    ghost invariant = { λ j. (j.space.granted ≡ granted j.transactions) × (j.space.cil ≡ cost j.items.cil) × (j.space.flight ≡ flight_of j.items.flight) };
+    ghost invariant = { λ j. (j.space.granted ≡ granted j.transactions) × (j.space.cil ≡ cost j.form.ends j.items.cil) × (j.space.flight ≡ flight_of j.form.ends j.items.flight) };
 }
 
 impl Drop for Journal {
@@ -62,6 +65,7 @@ impl Drop for Journal {
             mut transactions,
             items: _items,
             mut space,
+            form: _form,
             spare: _spare,
         } = self;
         give_all_back(&mut transactions, &mut space);
@@ -94,10 +98,11 @@ fn clean_leg_of(spare: &mut Option<TransRec>, alloc: Global) -> Result<TransRec,
 }
 
 impl Journal {
-    /// A journal of a log of so many bytes, at most 16,777,216, of which nothing is in use. The one error is want of memory.
-    pub fn new(alloc: Global, log_bytes: u32) -> Result<Self, AllocError>
-        requires { log_bytes ≤ 16777216 }
-        ensures { IfOk result (λ journal. journal ≡ no_pages log_bytes) }
+    /// A journal of a log of so many bytes, at most 16,777,216, of which nothing is in use, in a mount of this form. The one
+    /// error is want of memory.
+    pub fn new(alloc: Global, form: Form, log_bytes: u32) -> Result<Self, AllocError>
+        requires { log_bytes ≤ MOST_LOG }
+        ensures { IfOk result (λ journal. journal ≡ no_pages log_bytes form) }
     {
         let items = Items::new(alloc)?;
         let transactions = NumberMap::new(alloc)?;
@@ -105,6 +110,7 @@ impl Journal {
             transactions,
             items,
             space: LogSpace::new(alloc, log_bytes),
+            form,
             spare: None,
         })
     }
@@ -115,6 +121,13 @@ impl Journal {
         ensures { result ≡ self.now.log_bytes }
     {
         self.space.size()
+    }
+
+    /// The form of the mount.
+    pub fn form(&self) -> Form
+        ensures { result ≡ self.now.form }
+    {
+        self.form
     }
 
     /// The open transaction of a number.
@@ -148,7 +161,7 @@ impl Journal {
     /// The committed items, by rising block.
     pub fn cil(&self) -> &[(u64, Chunks)]
         ensures value { result.now ≡ self.now.items.cil }
-        ensures small { length result.now ≤ 128 }
+        ensures small { length result.now ≤ ROOM }
     {
         self.items.cil()
     }
@@ -156,14 +169,14 @@ impl Journal {
     /// The active list: each block with the number of its checkpoint.
     pub fn ail(&self) -> &[(u64, u64)]
         ensures value { result.now ≡ self.now.items.ail }
-        ensures small { length result.now ≤ 128 }
+        ensures small { length result.now ≤ ROOM }
     {
         self.items.ail()
     }
 
     /// The items in flight, by rising block.
     pub fn flight_items(&self) -> Option<&[(u64, Chunks)]>
-        ensures some { IfSome result (λ items. (items.now ≡ flight_items self.now.items.flight) × (length items.now ≤ 128)) }
+        ensures some { IfSome result (λ items. (items.now ≡ flight_items self.now.items.flight) × (length items.now ≤ ROOM)) }
         ensures none { is_some result ≡ is_some self.now.items.flight }
     {
         self.items.flight_items()
@@ -223,9 +236,9 @@ impl Journal {
     // ---- log space
     /// What the commit list costs.
     pub fn cil_cost(&self) -> u64
-        ensures { result ≡ cost self.now.items.cil }
+        ensures { result ≡ cost self.now.form.ends self.now.items.cil }
     {
-        self.items.cil_cost()
+        self.items.cil_cost(self.form)
     }
 
     /// Whether this can't be granted, however much space is left.
@@ -248,10 +261,10 @@ impl Journal {
         requires rising { IsRising opened.now.leg.changes }
         requires list { IsRising self.now.items.cil }
         requires granted { opened.now.unit * opened.now.legs ≤ granted self.now.transactions }
-        requires paid { cost (with_marks opened.now.leg.changes self.now.items.cil) ≤ cost self.now.items.cil + charge opened.now.leg.changes }
-        ensures { result ≡ is_no_room (grant_of opened.now) (cost (with_marks opened.now.leg.changes self.now.items.cil)) (ledger self.now.log_bytes self.now.transactions self.now.items) }
+        requires paid { cost self.now.form.ends (with_marks opened.now.leg.changes self.now.items.cil) ≤ cost self.now.form.ends self.now.items.cil + opened.now.unit }
+        ensures { result ≡ is_no_room (grant_of opened.now) (cost self.now.form.ends (with_marks opened.now.leg.changes self.now.items.cil)) (ledger self.now.form.ends self.now.log_bytes self.now.transactions self.now.items) }
     {
-        let cost = opened.leg().cost_with(self.items.list());
+        let cost = opened.leg().cost_with(self.form, self.items.list());
         self.space.is_no_room(opened.ticket(), cost)
     }
 
@@ -270,7 +283,7 @@ impl Journal {
         requires space { nat_lt self.old.log_bytes (used_in self.old + unit * count) ≡ false }
         requires rising { IsRising self.old.transactions }
         requires free { is_in trans self.old.transactions ≡ false }
-        requires few { length self.old.transactions < 128 }
+        requires few { length self.old.transactions < ROOM }
         ensures ok { OnOk result (self.new ≡ opened_in trans (new_trans unit count perm) self.old) }
         ensures err { OnErr result (self.new ≡ self.old) }
     {
@@ -287,35 +300,35 @@ impl Journal {
     /// The leg of a transaction has these bytes of a block, and these chunks are marked and charged. It takes no memory.
     pub fn log(&mut self, trans: u64, block: u64, edit: Content, marked: Chunks)
         requires rising { IsRising self.old.transactions }
-        requires few { IfSome (at trans self.old.transactions) (λ t. is_in block t.leg.changes ≡ false → length t.leg.changes + length t.leg.holds < 128) }
-        requires fits { IfSome (at trans self.old.transactions) (λ t. charge (edited block [] marked t.leg).changes ≤ t.unit) }
+        requires few { IfSome (at trans self.old.transactions) (λ t. is_in block t.leg.changes ≡ false → length t.leg.changes + length t.leg.holds < ROOM) }
+        requires fits { IfSome (at trans self.old.transactions) (λ t. charge self.old.form.ends (edited block [] marked t.leg).changes ≤ t.unit) }
         ensures { IfSome (at trans self.old.transactions) (λ t. self.new ≡ releg trans t (edited block edit marked t.leg) self.old) }
     {
         let Some(mut opened) = self.transactions.remove(trans) else {
             return;
         };
-        opened.log(block, edit, marked);
+        opened.log(self.form, block, edit, marked);
         self.transactions.put_new(trans, opened);
     }
 
     /// The leg of a transaction invalidates a block. It takes no memory.
     pub fn inval(&mut self, trans: u64, block: u64)
         requires rising { IsRising self.old.transactions }
-        requires few { IfSome (at trans self.old.transactions) (λ t. is_in block t.leg.changes ≡ false → length t.leg.changes + length t.leg.holds < 128) }
-        requires fits { IfSome (at trans self.old.transactions) (λ t. charge (invalidated block t.leg).changes ≤ t.unit) }
+        requires few { IfSome (at trans self.old.transactions) (λ t. is_in block t.leg.changes ≡ false → length t.leg.changes + length t.leg.holds < ROOM) }
+        requires fits { IfSome (at trans self.old.transactions) (λ t. charge self.old.form.ends (invalidated block t.leg).changes ≤ t.unit) }
         ensures { IfSome (at trans self.old.transactions) (λ t. self.new ≡ releg trans t (invalidated block t.leg) self.old) }
     {
         let Some(mut opened) = self.transactions.remove(trans) else {
             return;
         };
-        opened.inval(block);
+        opened.inval(self.form, block);
         self.transactions.put_new(trans, opened);
     }
 
     /// A block has the hold mark in the leg of a transaction. It takes no memory.
     pub fn hold(&mut self, trans: u64, block: u64)
         requires rising { IsRising self.old.transactions }
-        requires few { IfSome (at trans self.old.transactions) (λ t. has t.leg.holds block ≡ false → length t.leg.changes + length t.leg.holds < 128) }
+        requires few { IfSome (at trans self.old.transactions) (λ t. has t.leg.holds block ≡ false → length t.leg.changes + length t.leg.holds < ROOM) }
         ensures { IfSome (at trans self.old.transactions) (λ t. self.new ≡ releg trans t (record t.leg { holds = with_member block t.leg.holds }) self.old) }
     {
         let Some(mut opened) = self.transactions.remove(trans) else {
@@ -341,9 +354,9 @@ impl Journal {
     /// A transaction ends, and its leg is committed: its edits are the committed contents, and its marks are joined to the
     /// commit list. It takes no memory.
     pub fn commit(&mut self, trans: u64, frames: &mut Frames)
-        requires contents { IfSome (at trans self.old.transactions) (λ t. length frames.old.committed + length t.leg.changes ≤ 128) }
-        requires list { IfSome (at trans self.old.transactions) (λ t. length self.old.items.cil + length t.leg.changes ≤ 128) }
-        requires paid { IfSome (at trans self.old.transactions) (λ t. cost (with_marks t.leg.changes self.old.items.cil) ≤ cost self.old.items.cil + t.unit * t.legs) }
+        requires contents { IfSome (at trans self.old.transactions) (λ t. length frames.old.committed + length t.leg.changes ≤ ROOM) }
+        requires list { IfSome (at trans self.old.transactions) (λ t. length self.old.items.cil + length t.leg.changes ≤ ROOM) }
+        requires paid { IfSome (at trans self.old.transactions) (λ t. cost self.old.form.ends (with_marks t.leg.changes self.old.items.cil) ≤ cost self.old.form.ends self.old.items.cil + t.unit * t.legs) }
         ensures pages { IfSome (at trans self.old.transactions) (λ t. self.new ≡ closed_in trans (marked_in t self.old)) }
         ensures frames { IfSome (at trans self.old.transactions) (λ t. frames.new ≡ edits_kept t.leg.changes frames.old) }
     {
@@ -353,17 +366,17 @@ impl Journal {
         let (ticket, mut leg) = opened.into_parts();
         keep_changes(frames, &mut self.items, &mut leg);
         self.spare = Some(leg);
-        self.space.commit(ticket, self.items.cil_cost());
+        self.space.commit(ticket, self.items.cil_cost(self.form));
     }
 
     /// A leg is committed, and the next one of its transaction begins. It takes no memory.
     pub fn roll(&mut self, trans: u64, frames: &mut Frames)
         requires rising { IsRising self.old.transactions }
-        requires contents { IfSome (at trans self.old.transactions) (λ t. length frames.old.committed + length t.leg.changes ≤ 128) }
-        requires list { IfSome (at trans self.old.transactions) (λ t. length self.old.items.cil + length t.leg.changes ≤ 128) }
+        requires contents { IfSome (at trans self.old.transactions) (λ t. length frames.old.committed + length t.leg.changes ≤ ROOM) }
+        requires list { IfSome (at trans self.old.transactions) (λ t. length self.old.items.cil + length t.leg.changes ≤ ROOM) }
         requires legs { IfSome (at trans self.old.transactions) (λ t. 1 ≤ t.legs) }
-        requires paid { IfSome (at trans self.old.transactions) (λ t. cost (with_marks t.leg.changes self.old.items.cil) ≤ cost self.old.items.cil + charge t.leg.changes) }
-        requires room { IfSome (at trans self.old.transactions) (λ t. is_no_room (grant_of t) (cost (with_marks t.leg.changes self.old.items.cil)) (ledger self.old.log_bytes self.old.transactions self.old.items) ≡ false) }
+        requires paid { IfSome (at trans self.old.transactions) (λ t. cost self.old.form.ends (with_marks t.leg.changes self.old.items.cil) ≤ cost self.old.form.ends self.old.items.cil + t.unit) }
+        requires room { IfSome (at trans self.old.transactions) (λ t. is_no_room (grant_of t) (cost self.old.form.ends (with_marks t.leg.changes self.old.items.cil)) (ledger self.old.form.ends self.old.log_bytes self.old.transactions self.old.items) ≡ false) }
         ensures pages { IfSome (at trans self.old.transactions) (λ t. self.new ≡ legs_in trans (legs_after t.legs) t (marked_in t self.old)) }
         ensures frames { IfSome (at trans self.old.transactions) (λ t. frames.new ≡ edits_kept t.leg.changes frames.old) }
     {
@@ -373,7 +386,10 @@ impl Journal {
         let (mut ticket, mut leg) = opened.into_parts();
         keep_changes(frames, &mut self.items, &mut leg);
         leg.next_leg();
-        match self.space.next_leg(&mut ticket, self.items.cil_cost()) {
+        match self
+            .space
+            .next_leg(&mut ticket, self.items.cil_cost(self.form))
+        {
             Ok(()) => {}
             Err(_) => unreachable!(),
         }
@@ -383,7 +399,7 @@ impl Journal {
 
     /// A transaction ends, and its leg is given up. It takes no memory.
     pub fn cancel(&mut self, trans: u64, frames: &mut Frames)
-        requires { IfSome (at trans self.old.transactions) (λ t. length frames.old.fresh + length t.leg.changes ≤ 128) }
+        requires { IfSome (at trans self.old.transactions) (λ t. length frames.old.fresh + length t.leg.changes ≤ ROOM) }
         ensures pages { IfSome (at trans self.old.transactions) (λ t. self.new ≡ closed_in trans self.old) }
         ensures frames { IfSome (at trans self.old.transactions) (λ t. frames.new ≡ leg_lost t.leg frames.old) }
     {
@@ -399,7 +415,7 @@ impl Journal {
     /// A leg is given up, and its transaction stays with no leg left. It takes no memory.
     pub fn give_up(&mut self, trans: u64, frames: &mut Frames)
         requires rising { IsRising self.old.transactions }
-        requires fresh { IfSome (at trans self.old.transactions) (λ t. length frames.old.fresh + length t.leg.changes ≤ 128) }
+        requires fresh { IfSome (at trans self.old.transactions) (λ t. length frames.old.fresh + length t.leg.changes ≤ ROOM) }
         ensures pages { IfSome (at trans self.old.transactions) (λ t. self.new ≡ legs_in trans 0 t self.old) }
         ensures frames { IfSome (at trans self.old.transactions) (λ t. frames.new ≡ leg_lost t.leg frames.old) }
     {
@@ -432,7 +448,7 @@ impl Journal {
     /// The flight has landed. It takes no memory.
     pub fn land(&mut self)
         requires below { IfSome self.old.items.flight (λ f. AllBelow f.number self.old.items.landed) }
-        requires room { length self.old.items.ail + length (flight_items self.old.items.flight) ≤ 128 }
+        requires room { length self.old.items.ail + length (flight_items self.old.items.flight) ≤ ROOM }
         ensures { IfSome self.old.items.flight (λ f. self.new ≡ landed_in f self.old) }
     {
         if let Some(number) = self.items.flight_number() {

@@ -10,6 +10,7 @@ ghost use Rattle.xt_mount.specs.Machines.{state_of};
 
 use crate::machine::Machine;
 use xt_base::names::{CkptNo, TransNo};
+use xt_base::sizes::ROOM;
 use xt_base::steps::Owner;
 use xt_frames::frames::Frames;
 use xt_items::items::Items;
@@ -115,8 +116,8 @@ fn pass_held(locks: &mut Locks, trans: u64, leg: &TransRec)
 
 /// The edits of a leg are committed, and its marks joined to the commit list. It takes no memory.
 pub fn keep_changes(frames: &mut Frames, items: &mut Items, leg: &mut TransRec)
-    requires contents { length frames.old.committed + length leg.old.changes ≤ 128 }
-    requires cil { length items.old.cil + length leg.old.changes ≤ 128 }
+    requires contents { length frames.old.committed + length leg.old.changes ≤ ROOM }
+    requires cil { length items.old.cil + length leg.old.changes ≤ ROOM }
     ensures contents { frames.new ≡ edits_kept leg.old.changes frames.old }
     ensures cil { items.new ≡ marks_kept leg.old.changes items.old }
 {
@@ -127,8 +128,8 @@ pub fn keep_changes(frames: &mut Frames, items: &mut Items, leg: &mut TransRec)
 
 /// The same for one block.
 fn keep_change(frames: &mut Frames, items: &mut Items, block: u64, change: Change)
-    requires contents { length frames.old.committed < 128 }
-    requires cil { length items.old.cil < 128 }
+    requires contents { length frames.old.committed < ROOM }
+    requires cil { length items.old.cil < ROOM }
     ensures contents { frames.new ≡ record frames.old { committed = with_edit block change.edit frames.old.committed } }
     ensures cil { items.new ≡ record items.old { cil = put block (joined_marks (at block items.old.cil) change) items.old.cil } }
 {
@@ -172,7 +173,7 @@ fn lose_contents(frames: &mut Frames, leg: &TransRec)
 
 /// A leg is given up: what it changed and holds is held as fresh, with no content. It takes no memory.
 pub fn lose_leg(frames: &mut Frames, leg: &mut TransRec)
-    requires { length frames.old.fresh + length leg.old.changes ≤ 128 }
+    requires { length frames.old.fresh + length leg.old.changes ≤ ROOM }
     ensures { frames.new ≡ leg_lost leg.old frames.old }
 {
     lose_contents(frames, leg);
@@ -181,7 +182,7 @@ pub fn lose_leg(frames: &mut Frames, leg: &mut TransRec)
 
 /// Blocks that a leg changed and holds are fresh, where it is given up. It takes no memory.
 fn lose_changes(frames: &mut Frames, leg: &mut TransRec)
-    requires { length frames.old.fresh + length leg.old.changes ≤ 128 }
+    requires { length frames.old.fresh + length leg.old.changes ≤ ROOM }
     ensures { frames.new ≡ fresh_lost leg.old.changes leg.old frames.old }
 {
     while let Some((block, change)) = leg.take_change() {
@@ -191,7 +192,7 @@ fn lose_changes(frames: &mut Frames, leg: &mut TransRec)
 
 /// The same for one block.
 fn lose_change(frames: &mut Frames, leg: &TransRec, block: u64, change: Change)
-    requires { length frames.old.fresh < 128 }
+    requires { length frames.old.fresh < ROOM }
     ensures fresh { frames.new ≡ record frames.old { fresh = lost_with leg.now.holds block frames.old.fresh } }
     ensures count { length frames.new.fresh ≤ length frames.old.fresh + 1 }
 {

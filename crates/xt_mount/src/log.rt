@@ -13,7 +13,8 @@ use crate::machine::Machine;
 use crate::open_trans::OpenTrans;
 use std::alloc::AllocError;
 use xt_base::chunks::Chunks;
-use xt_base::content::{BLOCK_BYTES, Content, Data};
+use xt_base::content::{Content, Data};
+use xt_base::sizes::{BLOCK_BYTES, ROOM};
 use xt_base::steps::{Errno, Reply};
 use xt_trans::trans::TransRec;
 
@@ -25,10 +26,11 @@ impl Machine {
         block: u64,
         spare: Option<Content>,
     ) -> Result<Content, AllocError>
-        ensures { IfOk result (λ content. content ≡ seen block leg.now self.now.frames) }
+        ensures { IfOk result (λ content. content ≡ seen self.now.journal.form.size block leg.now self.now.frames) }
     {
         leg.seen(
             self.alloc,
+            self.journal.form(),
             spare,
             block,
             self.frames.is_fresh(block),
@@ -67,22 +69,23 @@ impl Machine {
         bytes: &Data,
     ) -> Option<Errno>
         ensures refusal { result ≡ first_of (log_refusals trans block first bytes.now opened.now (state_of self.now)) }
-        ensures room { result ≡ None → first + length bytes.now ≤ 4096 }
+        ensures room { result ≡ None → first + length bytes.now ≤ BLOCK_BYTES }
         ensures own { result ≡ None → is_own (state_of self.now) trans block ≡ true }
-        ensures fits { result ≡ None → charge (edited block [] (marks first (length bytes.now)) opened.now.leg).changes ≤ opened.now.unit }
+        ensures fits { result ≡ None → charge self.now.journal.form.ends (edited block [] (marks first (length bytes.now)) opened.now.leg).changes ≤ opened.now.unit }
     {
         if !self.is_own(trans, block) {
             return Some(Errno::Invalid);
         }
         let len = bytes.bytes().len();
-        if len == 0 || first as usize + len > BLOCK_BYTES {
+        let size = self.journal.form().size() as usize;
+        if len == 0 || first as usize + len > size {
             return Some(Errno::Invalid);
         }
-        if self.is_unread(opened.leg(), block) && !(first == 0 && len == BLOCK_BYTES) {
+        if self.is_unread(opened.leg(), block) && !(first == 0 && len == size) {
             return Some(Errno::Invalid);
         }
         let marked = Chunks::mark(first, len as u32);
-        if !opened.fits_logged(block, marked) {
+        if !opened.fits_logged(self.journal.form(), block, marked) {
             return Some(Errno::NoSpace);
         }
         None
@@ -91,8 +94,8 @@ impl Machine {
     /// A transaction's leg has these bytes of a block, which is fresh no more. It takes no memory.
     fn keep_edit(&mut self, trans: u64, block: u64, content: Content, marked: Chunks)
         requires rising { IsRising self.old.journal.transactions }
-        requires few { IfSome (at trans self.old.journal.transactions) (λ t. is_in block t.leg.changes ≡ false → length t.leg.changes + length t.leg.holds < 128) }
-        requires fits { IfSome (at trans self.old.journal.transactions) (λ t. charge (edited block [] marked t.leg).changes ≤ t.unit) }
+        requires few { IfSome (at trans self.old.journal.transactions) (λ t. is_in block t.leg.changes ≡ false → length t.leg.changes + length t.leg.holds < ROOM) }
+        requires fits { IfSome (at trans self.old.journal.transactions) (λ t. charge self.old.journal.form.ends (edited block [] marked t.leg).changes ≤ t.unit) }
         ensures { IfSome (at trans self.old.journal.transactions) (λ t. state_of self.new ≡ not_fresh block (with_leg trans t (edited block content marked t.leg) (state_of self.old))) }
     {
         self.journal.log(trans, block, content, marked);

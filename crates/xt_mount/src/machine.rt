@@ -11,7 +11,9 @@ ghost use Rattle.xt_mount.specs.Machines.{state_of};
 use crate::journal::Journal;
 use crate::space::{beside_ail, beside_cil, beside_flight};
 use std::alloc::{AllocError, Global};
+use xt_base::form::Form;
 use xt_base::names::{Block, JobKind, Life, Slot, TransNo};
+use xt_base::sizes::MOST_LOG;
 use xt_base::steps::Reason;
 use xt_frames::frames::Frames;
 use xt_jobs::table::JobTable;
@@ -31,20 +33,21 @@ pub struct Machine {
 }
 
 impl Machine {
-    /// A new mount. The one error is want of memory.
+    /// A new mount of a form. The one error is want of memory.
     pub fn new(
         alloc: Global,
+        form: Form,
         slot: Slot,
         life: Life,
         log_bytes: u32,
         blocks: u64,
     ) -> Result<Self, AllocError>
-        requires { log_bytes ≤ 16777216 }
-        ensures { IfOk result (λ machine. state_of machine ≡ mount_of slot life log_bytes blocks) }
+        requires { log_bytes ≤ MOST_LOG }
+        ensures { IfOk result (λ machine. state_of machine ≡ mount_of slot life log_bytes blocks form) }
     {
         let frames = Frames::new(alloc)?;
         let locks = Locks::new(alloc)?;
-        let journal = Journal::new(alloc, log_bytes)?;
+        let journal = Journal::new(alloc, form, log_bytes)?;
         Ok(Machine {
             alloc,
             blocks,

@@ -3,6 +3,7 @@
 ghost use Rattle.std.specs.Prelude.{◌≡◌, ◌≤◌, ◌+◌, ◌⊎◌, [], All, None, Some, Ok, false, true, length, is_some, option_copied, IfOk, IfErr, IfSome, if◌then◌else◌};
 ghost use Rattle.xt_base.specs.Alone.{IsCallUnlessMemory};
 ghost use Rattle.xt_base.specs.Calls.{alone_with, asks, first_of, gives};
+ghost use Rattle.xt_base.specs.Form.{form_one};
 ghost use Rattle.xt_base.specs.Jobs.{begin as begin_step, end as end_step, fits_pieces, fits_plan, flight_pieces, flush as flush_step, flush_plan, is_begun, is_ckpt, is_waiting, posted as posted_state};
 ghost use Rattle.xt_base.specs.Maps.{at};
 ghost use Rattle.xt_base.specs.Order.{is_there};
@@ -16,15 +17,11 @@ use crate::machine::Machine;
 use bytes::Bytes;
 use std::alloc::Global;
 use std::marker::Model;
+use xt_base::form::Form;
 use xt_base::names::{Block, JobKind, JobName, Life, Slot};
+use xt_base::sizes::{BLOCK_BYTES, LEAST_LOG, MOST_BLOCKS, MOST_LOG, PIECE_BYTES, TEXT_PIECES};
 use xt_base::steps::{Answer, Errno, HomeAnswers, LogAnswers, Reason, Reply, Request};
 use xt_items::plan::FlushPlan;
-
-/// The least and the greatest size of a log, in bytes.
-const LOG_BYTES: (u32, u32) = (65_536, 16_777_216);
-
-/// The greatest number of blocks of a home device.
-const BLOCKS: u64 = 1_099_511_627_776;
 
 /// How far an outstanding job has come.
 #[derive(Clone, Copy, Debug, PartialEq, Eq)]
@@ -68,16 +65,23 @@ impl Mount {
         log_bytes: u32,
         blocks: u64,
     ) -> Result<Self, Errno>
-        ensures ok { IfOk result (λ mount. (first_of (new_refusals last log_bytes blocks) ≡ None) × (mount ≡ mount_of slot (last + 1) log_bytes blocks)) }
+        ensures ok { IfOk result (λ mount. (first_of (new_refusals last log_bytes blocks) ≡ None) × (mount ≡ mount_of slot (last + 1) log_bytes blocks form_one)) }
         ensures err { IfErr result (λ errno. (first_of (new_refusals last log_bytes blocks) ≡ Some errno) ⊎ ((first_of (new_refusals last log_bytes blocks) ≡ None) × (errno ≡ NoMemory))) }
     {
-        if log_bytes < LOG_BYTES.0 || log_bytes > LOG_BYTES.1 || blocks == 0 || blocks > BLOCKS {
+        if log_bytes < LEAST_LOG || log_bytes > MOST_LOG || blocks == 0 || blocks > MOST_BLOCKS {
             return Err(Errno::Invalid);
         }
         if last.0 == u32::MAX {
             return Err(Errno::NoSpace);
         }
-        match Machine::new(alloc, slot, Life(last.0 + 1), log_bytes, blocks) {
+        match Machine::new(
+            alloc,
+            Form::one(),
+            slot,
+            Life(last.0 + 1),
+            log_bytes,
+            blocks,
+        ) {
             Ok(machine) => Ok(Mount { machine }),
             Err(_) => Err(Errno::NoMemory),
         }
@@ -88,6 +92,13 @@ impl Mount {
         ensures { result ≡ self.now.life }
     {
         self.machine.jobs.life()
+    }
+
+    /// The form of the mount: the size of its blocks, and what the texts of its checkpoints have beside their items.
+    pub fn form(&self) -> Form
+        ensures { result ≡ self.now.form }
+    {
+        self.machine.journal.form()
     }
 
     /// Why the mount is shut, if it is; the first reason is kept.
@@ -101,9 +112,9 @@ impl Mount {
     /// nothing is in flight.
     pub fn pieces(&self) -> &[Bytes]
         ensures value { result.now ≡ flight_pieces self.now.items.flight }
-        ensures few { length result.now ≤ 65 }
+        ensures few { length result.now ≤ TEXT_PIECES }
         ensures some { All (λ piece. 1 ≤ length piece) result.now }
-        ensures short { All (λ piece. length piece ≤ 4096) result.now }
+        ensures short { All (λ piece. length piece ≤ PIECE_BYTES) result.now }
     {
         self.machine.journal.pieces()
     }
@@ -203,7 +214,7 @@ impl Mount {
     /// that is not busy.
     pub fn committed(&self, block: Block) -> Option<&[u8]>
         ensures value { option_copied result ≡ at block self.now.frames.committed }
-        ensures whole { IfSome result (λ bytes. length bytes.now ≡ 4096) }
+        ensures whole { IfSome result (λ bytes. length bytes.now ≡ BLOCK_BYTES) }
     {
         match self.machine.frames.content(block.0) {
             Some(content) => Some(content.bytes()),

@@ -1,21 +1,23 @@
 //! An open transaction: its ticket, and what its present leg did.
 
-ghost use Rattle.std.specs.Prelude.{◌≡◌, ◌+◌, ◌<◌, ◌≤◌, [], false, length, nat_le};
+ghost use Rattle.std.specs.Prelude.{◌≡◌, ◌+◌, ◌<◌, ◌≤◌, [], false, length, nat_le, sum_by, true};
 ghost use Rattle.xt_base.specs.Calls.{edited, invalidated, without_hold};
 ghost use Rattle.xt_base.specs.Maps.{has, is_in, with_member};
-ghost use Rattle.xt_base.specs.Space.{charge};
+ghost use Rattle.xt_base.specs.Space.{change_cost, charge};
 ghost use Rattle.xt_mount.specs.Journals.{opened_with};
-ghost use Rattle.xt_resv.specs.Ledgers.{charged_with};
+ghost use Rattle.xt_resv.specs.Ledgers.{charged_with, is_fitting};
 ghost use Rattle.xt_resv.specs.Mounts.{grant_of};
 
 use std::marker::Model;
 use xt_base::chunks::Chunks;
 use xt_base::content::Content;
+use xt_base::form::Form;
 use xt_base::newly::Newly;
+use xt_base::sizes::{CHUNKS, ROOM};
 use xt_resv::space::{LogSpace, Ticket};
 use xt_trans::trans::TransRec;
 
-/// An open transaction: its ticket, which is charged what the leg is, and the leg. Like its ticket it can't be let go.
+/// An open transaction: its ticket, which is charged what the leg's blocks and chunks are, and the leg. Like its ticket it can't be let go.
 #[derive(Debug)]
 pub struct OpenTrans {
     ticket: Ticket,
@@ -23,21 +25,21 @@ pub struct OpenTrans {
 }
 
 impl Model for OpenTrans {
-    ghost use Rattle.std.specs.Prelude.{◌≡◌};
-    ghost use Rattle.xt_base.specs.Space.{charge};
+    ghost use Rattle.std.specs.Prelude.{◌≡◌, sum_by};
+    ghost use Rattle.xt_base.specs.Space.{change_cost};
     ghost use Rattle.xt_base.specs.State.{Transaction};
 
     ghost Value = { Transaction };
 
     ghost view = { λ t. record { unit = t.ticket.unit; legs = t.ticket.legs; perm = t.ticket.perm; leg = t.leg } };
 
-    ghost invariant = { λ t. t.ticket.charged ≡ charge t.leg.changes };
+    ghost invariant = { λ t. t.ticket.charged ≡ sum_by change_cost t.leg.changes };
 }
 
 impl OpenTrans {
     /// A transaction of a ticket and a leg, which was charged as the ticket says.
     pub fn new(ticket: Ticket, leg: TransRec) -> Self
-        requires { ticket.charged ≡ charge leg.changes }
+        requires { ticket.charged ≡ sum_by change_cost leg.changes }
         ensures { result ≡ opened_with ticket leg }
     {
         OpenTrans { ticket, leg }
@@ -81,44 +83,44 @@ impl OpenTrans {
     }
 
     /// Whether the charge would keep within the unit, were these chunks of a block changed too.
-    pub fn fits_logged(&self, block: u64, marked: Chunks) -> bool
-        ensures { result ≡ nat_le (charge (edited block [] marked self.now.leg).changes) self.now.unit }
+    pub fn fits_logged(&self, form: Form, block: u64, marked: Chunks) -> bool
+        ensures { result ≡ nat_le (charge form.ends (edited block [] marked self.now.leg).changes) self.now.unit }
     {
-        LogSpace::fits(&self.ticket, self.leg.newly_logged(block, marked))
+        LogSpace::fits(form, &self.ticket, self.leg.newly_logged(block, marked))
     }
 
     /// Whether the charge would keep within the unit, were a block invalidated too.
-    pub fn fits_invalidated(&self, block: u64) -> bool
-        ensures { result ≡ nat_le (charge (invalidated block self.now.leg).changes) self.now.unit }
+    pub fn fits_invalidated(&self, form: Form, block: u64) -> bool
+        ensures { result ≡ nat_le (charge form.ends (invalidated block self.now.leg).changes) self.now.unit }
     {
-        LogSpace::fits(&self.ticket, self.leg.newly_invalidated(block))
+        LogSpace::fits(form, &self.ticket, self.leg.newly_invalidated(block))
     }
 
     /// A block has these bytes in the leg, and these chunks are marked and charged too.
-    pub fn log(&mut self, block: u64, edit: Content, marked: Chunks)
-        requires few { is_in block self.old.leg.changes ≡ false → length self.old.leg.changes + length self.old.leg.holds < 128 }
-        requires fits { charge (edited block [] marked self.old.leg).changes ≤ self.old.unit }
+    pub fn log(&mut self, form: Form, block: u64, edit: Content, marked: Chunks)
+        requires few { is_in block self.old.leg.changes ≡ false → length self.old.leg.changes + length self.old.leg.holds < ROOM }
+        requires fits { charge form.ends (edited block [] marked self.old.leg).changes ≤ self.old.unit }
         ensures { self.new ≡ record self.old { leg = edited block edit marked self.old.leg } }
     {
         let newly = self.leg.newly_logged(block, marked);
-        pay(&mut self.ticket, newly);
+        pay(form, &mut self.ticket, newly);
         self.leg.log(block, edit, marked);
     }
 
     /// The leg invalidates a block.
-    pub fn inval(&mut self, block: u64)
-        requires few { is_in block self.old.leg.changes ≡ false → length self.old.leg.changes + length self.old.leg.holds < 128 }
-        requires fits { charge (invalidated block self.old.leg).changes ≤ self.old.unit }
+    pub fn inval(&mut self, form: Form, block: u64)
+        requires few { is_in block self.old.leg.changes ≡ false → length self.old.leg.changes + length self.old.leg.holds < ROOM }
+        requires fits { charge form.ends (invalidated block self.old.leg).changes ≤ self.old.unit }
         ensures { self.new ≡ record self.old { leg = invalidated block self.old.leg } }
     {
         let newly = self.leg.newly_invalidated(block);
-        pay(&mut self.ticket, newly);
+        pay(form, &mut self.ticket, newly);
         self.leg.inval(block);
     }
 
     /// A block stays locked when the leg ends.
     pub fn hold(&mut self, block: u64)
-        requires { has self.old.leg.holds block ≡ false → length self.old.leg.changes + length self.old.leg.holds < 128 }
+        requires { has self.old.leg.holds block ≡ false → length self.old.leg.changes + length self.old.leg.holds < ROOM }
         ensures { self.new ≡ record self.old { leg = record self.old.leg { holds = with_member block self.old.leg.holds } } }
     {
         self.leg.hold(block);
@@ -133,13 +135,13 @@ impl OpenTrans {
 }
 
 /// Charges a ticket, whose unit has the room.
-fn pay(ticket: &mut Ticket, newly: Newly)
+fn pay(form: Form, ticket: &mut Ticket, newly: Newly)
     requires blocks { newly.blocks ≤ 1 }
-    requires chunks { newly.chunks ≤ 32 }
-    requires fits { charged_with newly ticket.old.charged ≤ ticket.old.unit }
+    requires chunks { newly.chunks ≤ CHUNKS }
+    requires fits { is_fitting form.ends newly ticket.old ≡ true }
     ensures { ticket.new ≡ record ticket.old { charged = charged_with newly ticket.old.charged } }
 {
-    match LogSpace::charge(ticket, newly) {
+    match LogSpace::charge(form, ticket, newly) {
         Ok(()) => {}
         Err(_) => unreachable!(),
     }

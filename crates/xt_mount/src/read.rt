@@ -11,11 +11,12 @@ ghost use Rattle.xt_mount.specs.Come.{read_block};
 ghost use Rattle.xt_mount.specs.Machines.{state_of};
 ghost use Rattle.xt_mount.specs.Reads.{IsAnswered};
 
-use crate::get::{BUSY, is_at_end};
+use crate::get::is_at_end;
 use crate::machine::Machine;
 use std::alloc::AllocError;
 use xt_base::content::Content;
 use xt_base::names::{Block, TransNo};
+use xt_base::sizes::BUSY_BLOCKS;
 use xt_base::steps::{Answer, Errno, Reason, Reply, Request};
 use xt_trans::trans::TransRec;
 
@@ -45,7 +46,7 @@ impl Machine {
         if self.is_elsewhere(trans, block) {
             return Some(Errno::Again);
         }
-        if !self.is_busy(block) && self.busy_count() >= BUSY {
+        if !self.is_busy(block) && self.busy_count() >= BUSY_BLOCKS {
             return Some(Errno::NoBufs);
         }
         None

@@ -64,7 +64,7 @@ impl Machine {
     /// Whether there is something to write, whose text has at least so many bytes, nothing in flight, and a
     /// number for the list after it.
     fn is_worth(&self, least: u64) -> bool
-        ensures { result ≡ is_worth least (state_of self.now).items }
+        ensures { result ≡ is_worth (state_of self.now).form.ends least (state_of self.now).items }
     {
         !self.journal.is_flying()
             && self.journal.open_number() != u64::MAX

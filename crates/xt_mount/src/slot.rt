@@ -9,13 +9,15 @@ ghost use Rattle.xt_base.specs.Order.{is_there, mount_is, of_life};
 ghost use Rattle.xt_base.specs.declared.steps.Reply.{Reply as AReply};
 ghost use Rattle.xt_base.specs.declared.steps.Step.{Step as AStep};
 ghost use Rattle.xt_mount.specs.Come.{read_block};
-ghost use Rattle.xt_mount.specs.Slots.{contents_in, life_in, owed_in, pieces_in, plan_in, stage_in, unused, IsAnsweredUnlessMemory, IsServed, IsServedUnlessMemory};
+ghost use Rattle.xt_mount.specs.Slots.{contents_in, form_in, life_in, owed_in, pieces_in, plan_in, stage_in, unused, IsAnsweredUnlessMemory, IsServed, IsServedUnlessMemory};
 
 use crate::mount::{Mount, Stage};
 use bytes::Bytes;
 use std::alloc::Global;
 use std::marker::Model;
+use xt_base::form::Form;
 use xt_base::names::{Block, JobKind, JobName, Life, Slot};
+use xt_base::sizes::{BLOCK_BYTES, PIECE_BYTES, TEXT_PIECES};
 use xt_base::steps::{Answer, Errno, HomeAnswers, LogAnswers, Reason, Reply, Request};
 use xt_items::plan::FlushPlan;
 
@@ -124,12 +126,22 @@ impl MountSlot {
         }
     }
 
+    /// The form of its mount; that of a mount of today in an empty slot.
+    pub fn form(&self) -> Form
+        ensures { result ≡ form_in self.now.mounted }
+    {
+        match &self.mount {
+            Some(mount) => mount.form(),
+            None => Form::one(),
+        }
+    }
+
     /// The pieces of the checkpoint in flight, at most 65 of 1 to 4,096 bytes each; none where nothing is in flight.
     pub fn pieces(&self) -> &[Bytes]
         ensures value { result.now ≡ pieces_in self.now.mounted }
-        ensures few { length result.now ≤ 65 }
+        ensures few { length result.now ≤ TEXT_PIECES }
         ensures some { All (λ piece. 1 ≤ length piece) result.now }
-        ensures short { All (λ piece. length piece ≤ 4096) result.now }
+        ensures short { All (λ piece. length piece ≤ PIECE_BYTES) result.now }
     {
         match &self.mount {
             Some(mount) => mount.pieces(),
@@ -154,7 +166,7 @@ impl MountSlot {
     /// The committed content of a block, 4,096 bytes: what a flush writes home. None where the mount keeps none.
     pub fn committed(&self, block: Block) -> Option<&[u8]>
         ensures value { option_copied result ≡ at block (contents_in self.now.mounted) }
-        ensures whole { IfSome result (λ bytes. length bytes.now ≡ 4096) }
+        ensures whole { IfSome result (λ bytes. length bytes.now ≡ BLOCK_BYTES) }
     {
         match &self.mount {
             Some(mount) => mount.committed(block),

@@ -6,6 +6,7 @@ ghost use Rattle.xt_base.specs.Space.{flight_items};
 
 use crate::journal::Journal;
 use xt_base::names::Block;
+use xt_base::sizes::ROOM;
 use xt_locks::locks::Locks;
 
 /// Whether somebody owns a block.
@@ -18,7 +19,7 @@ fn is_owned(locks: &Locks, block: u64) -> bool
 /// How many blocks of the commit list nobody owns.
 pub fn beside_cil(locks: &Locks, journal: &Journal) -> usize
     ensures count { result ≡ count_by (λ e. not (is_in e.0 locks.now)) journal.now.items.cil }
-    ensures small { result ≤ 128 }
+    ensures small { result ≤ ROOM }
 {
     journal
         .cil()
@@ -30,7 +31,7 @@ pub fn beside_cil(locks: &Locks, journal: &Journal) -> usize
 /// How many blocks of the flight nobody owns, those of the commit list aside.
 pub fn beside_flight(locks: &Locks, journal: &Journal) -> usize
     ensures count { result ≡ count_by (λ e. not (is_in e.0 locks.now || is_in e.0 journal.now.items.cil)) (flight_items journal.now.items.flight) }
-    ensures small { result ≤ 128 }
+    ensures small { result ≤ ROOM }
 {
     match journal.flight_items() {
         Some(flight) => flight
@@ -44,7 +45,7 @@ pub fn beside_flight(locks: &Locks, journal: &Journal) -> usize
 /// How many blocks of the active list nobody owns, those of the other lists aside.
 pub fn beside_ail(locks: &Locks, journal: &Journal) -> usize
     ensures count { result ≡ count_by (λ e. not (is_in e.0 locks.now || is_in e.0 journal.now.items.cil || is_in e.0 (flight_items journal.now.items.flight))) journal.now.items.ail }
-    ensures small { result ≤ 128 }
+    ensures small { result ≤ ROOM }
 {
     journal
         .ail()

@@ -1,5 +1,6 @@
 -- The rule of the board, over its words and what each seat has shown and seen, and its kinds of step.
 use Rattle.std.specs.Prelude.{List, length, max, replicate, slice_index, slice_set, ℕ, ◌≡◌, ◌≤◌, ◌⊎◌}
+use Rattle.xt_base.specs.declared.sizes.TheConstants.{SLOTS}
 use Rattle.xt_queue.specs.Words.{IsWord}
 use Rattle.xt_queue.specs.declared.views.BoardView.{BoardView}
 use lib.ListN.{get_elem?}
@@ -7,7 +8,7 @@ use mathlib.Core.Option.{some}
 
 -- a word for each slot, none of which was shown
 abbrev pub blank_words : List ℕ
-blank_words = replicate 16 0
+blank_words = replicate SLOTS 0
 
 -- the view of a seat that showed and saw these words
 abbrev pub board_view : List ℕ → List ℕ → BoardView
@@ -23,8 +24,8 @@ Rises old new = (slot : ℕ) → slice_index old slot ≤ slice_index new slot
 
 -- what a seat showed is at most what it saw, and that at most what stands
 pub record Fits (words : List ℕ) (v : BoardView) : Type 0 where
-  pub shown_count : length v.shown ≡ 16
-  pub seen_count : length v.seen ≡ 16
+  pub shown_count : length v.shown ≡ SLOTS
+  pub seen_count : length v.seen ≡ SLOTS
   pub shown_seen : Rises v.shown v.seen
   pub seen_word : Rises v.seen words
 
@@ -36,7 +37,7 @@ WasShown words views slot =
 -- the rule, of the words and of the views of all seats
 pub record BoardRule (words : List ℕ) (views : List BoardView) : Type 0 where
   -- there is a word for each of the sixteen slots
-  pub count : length words ≡ 16
+  pub count : length words ≡ SLOTS
   -- of each seat, what it showed is at most what it saw, and that at most what stands
   pub fits : (place : ℕ) (v : BoardView) → get_elem? views place ≡ some v → Fits words v
   -- each word is of a life and a state

@@ -1,6 +1,7 @@
 -- What the rules of the queue and of the board imply, in words that name no step.
 use Rattle.std.specs.Prelude.{Bool, List, Option, Some, [], filter, length, map, ℕ, ⊤, ◌&&◌, ◌+◌, ◌++◌, ◌<◌, ◌==◌, ◌≡◌, ◌≢◌, ◌≤◌, ◌⊎◌, ◌∷◌}
 use Rattle.xt_base.specs.declared.names.JobName.{JobName}
+use Rattle.xt_base.specs.declared.sizes.TheConstants.{SLOTS}
 use Rattle.xt_base.specs.declared.steps.Reason.{Reason}
 use Rattle.xt_queue.specs.Names.{of_slot}
 use Rattle.xt_queue.specs.Queues.{QueueRule, posted, taken}
@@ -47,7 +48,7 @@ pub record HandedOver (waiting : List JobName) (views : List JobView) (slot : �
 
 -- wherever the rule of the queue holds, each slot's names are handed over once and in order
 abbrev pub GoesOnceInOrder : Type 0
-GoesOnceInOrder = (waiting : List JobName) (views : List JobView) (slot : ℕ) → QueueRule waiting views → slot < 16 → HandedOver waiting views slot
+GoesOnceInOrder = (waiting : List JobName) (views : List JobView) (slot : ℕ) → QueueRule waiting views → slot < SLOTS → HandedOver waiting views slot
 
 -- a word that is at least that of a life that was shut is of that life, shut, or of a later one
 abbrev pub ShutForGood : Type 0

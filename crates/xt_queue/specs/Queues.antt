@@ -1,6 +1,7 @@
 -- The rule of the queue, over the names that wait in it and what each pass has done, and its four kinds of step.
 use Rattle.std.specs.Prelude.{List, [], filter, length, map, slice_set, suc, zero, ℕ, ◌+◌, ◌++◌, ◌<◌, ◌==◌, ◌≡◌, ◌≤◌, ◌∷◌}
 use Rattle.xt_base.specs.declared.names.JobName.{JobName}
+use Rattle.xt_base.specs.declared.sizes.TheConstants.{QUEUE_PLACES, SLOTS}
 use Rattle.xt_queue.specs.Names.{IsRun, of_slot, unposted}
 use Rattle.xt_queue.specs.declared.views.JobView.{JobView}
 use lib.ListN.{get_elem?}
@@ -54,13 +55,13 @@ pub record QueueRule (waiting : List JobName) (views : List JobView) : Type 0 wh
   -- all that was ever handed over, in order: each name once, with the one worker that took it
   pub handed : List Handed
   -- of each slot the names handed over, and then those that wait, are the posted ones
-  pub in_order : (slot : ℕ) → slot < 16 → posted views slot ≡ of_slot slot (names_of handed ++ waiting)
+  pub in_order : (slot : ℕ) → slot < SLOTS → posted views slot ≡ of_slot slot (names_of handed ++ waiting)
   -- there are no names of any other slot
-  pub no_other : (slot : ℕ) → 16 ≤ slot → of_slot slot (names_of handed ++ waiting) ≡ []
+  pub no_other : (slot : ℕ) → SLOTS ≤ slot → of_slot slot (names_of handed ++ waiting) ≡ []
   -- each worker has taken what was handed to it
   pub by_worker : (worker : ℕ) → taken views worker ≡ of_worker worker handed
   -- of each slot every posted name follows the one before it
-  pub serials : (slot : ℕ) → slot < 16 → IsRun unposted (posted views slot)
+  pub serials : (slot : ℕ) → slot < SLOTS → IsRun unposted (posted views slot)
 
 -- one step of the queue: the view of one pass becomes another, all other views stay, and the rule holds before and after
 pub record Step (waiting after : List JobName) (v w : JobView) : Type 0 where
@@ -70,9 +71,9 @@ pub record Step (waiting after : List JobName) (v w : JobView) : Type 0 where
   pub rule : QueueRule waiting views
   pub kept : QueueRule after (slice_set views place w)
 
--- a post: of fewer than 32 waiting names, and one joins them at the back
+-- a post: of fewer waiting names than there are places, and one joins them at the back
 abbrev pub Posts : JobView → JobName → JobView → Type 0
-Posts v x w = (w ≡ with_name v x) × ((waiting : List JobName) × (length waiting < 32) × Step waiting (waiting ++ x ∷ []) v w)
+Posts v x w = (w ≡ with_name v x) × ((waiting : List JobName) × (length waiting < QUEUE_PLACES) × Step waiting (waiting ++ x ∷ []) v w)
 
 -- a take of a name: the one at the front leaves
 abbrev pub Takes : JobView → JobName → JobView → Type 0

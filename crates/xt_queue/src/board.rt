@@ -12,9 +12,8 @@ use crate::words;
 use std::alloc::Global;
 use std::marker::Model;
 use xt_base::names::{Life, Slot};
+use xt_base::sizes::SLOTS;
 use xt_base::steps::{Errno, Reason};
-
-const SLOTS: usize = 16;
 
 /// The last life of each slot and whether it was shut, for all to read. A contract sees which board it is.
 #[derive(Drop)]
@@ -25,6 +24,7 @@ pub struct Board {
 impl Model for Board {
     ghost use Rattle.atomic_table.specs.Seated.{TableId, table_id_coded};
     ghost use Rattle.std.specs.Prelude.{◌≡◌};
+    ghost use Rattle.xt_base.specs.declared.sizes.TheConstants.{SLOTS};
 
     ghost Value = { TableId };
 
@@ -32,7 +32,7 @@ impl Model for Board {
 
     ghost view = { λ b. b.table.shared.table_id };
 
-    ghost invariant = { λ b. b.table.shared.table_id.words ≡ 16 };
+    ghost invariant = { λ b. b.table.shared.table_id.words ≡ SLOTS };
 }
 
 /// The right to show and to read words. A contract sees its board, and for each slot the greatest word that it showed and the last that it saw.

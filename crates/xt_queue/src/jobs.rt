@@ -14,14 +14,8 @@ use std::alloc::{AllocError, Global};
 use std::marker::Model;
 use std::sync::Wait;
 use xt_base::names::JobName;
+use xt_base::sizes::{QUEUE_PLACES, SLOTS, WORKERS};
 use xt_base::steps::Errno;
-
-/// How many names may wait at once.
-const CAPACITY: usize = 32;
-
-const SLOTS: usize = 16;
-
-const WORKERS: usize = 8;
 
 /// The names of posted jobs that no worker has taken, 32 at most. A contract sees which queue it is.
 #[derive(Drop)]
@@ -33,6 +27,7 @@ impl Model for JobQueue {
     ghost use Rattle.atomic_table.specs.Seated.{TableId, table_id_coded};
     ghost use Rattle.crossbeam_queue.specs.Passes.{ruled_capacity};
     ghost use Rattle.std.specs.Prelude.{◌≡◌};
+    ghost use Rattle.xt_base.specs.declared.sizes.TheConstants.{QUEUE_PLACES};
 
     ghost Value = { TableId };
 
@@ -40,7 +35,7 @@ impl Model for JobQueue {
 
     ghost view = { λ q. q.ring.table.shared.table_id };
 
-    ghost invariant = { λ q. ruled_capacity q.ring ≡ 32 };
+    ghost invariant = { λ q. ruled_capacity q.ring ≡ QUEUE_PLACES };
 }
 
 /// The right to post the names of one slot. A contract sees its queue, its slot, and the names posted through it, in order.
@@ -110,8 +105,8 @@ pub struct Passes {
 impl JobQueue {
     /// An empty queue with all its passes: sixteen to post with, one a slot, and eight to take with. The one error is `NoMemory`.
     pub fn new(alloc: Global) -> Result<(Self, Passes), Errno>
-        ensures posts { IfOk result (λ made. made.1.posts.items ≡ fresh_posts made.0 16) }
-        ensures works { IfOk result (λ made. made.1.works.items ≡ fresh_works made.0 8) }
+        ensures posts { IfOk result (λ made. made.1.posts.items ≡ fresh_posts made.0 SLOTS) }
+        ensures works { IfOk result (λ made. made.1.works.items ≡ fresh_works made.0 WORKERS) }
         ensures memory { IfErr result (λ errno. errno ≡ NoMemory) }
     {
         Self::with_passes(alloc).map_err(|_| Errno::NoMemory)
@@ -119,8 +114,8 @@ impl JobQueue {
 
     /// The same with the allocator's own error.
     fn with_passes(alloc: Global) -> Result<(Self, Passes), AllocError>
-        ensures posts { IfOk result (λ made. made.1.posts.items ≡ fresh_posts made.0 16) }
-        ensures works { IfOk result (λ made. made.1.works.items ≡ fresh_works made.0 8) }
+        ensures posts { IfOk result (λ made. made.1.posts.items ≡ fresh_posts made.0 SLOTS) }
+        ensures works { IfOk result (λ made. made.1.works.items ≡ fresh_works made.0 WORKERS) }
     {
         let (queue, mut maker) = Self::with_maker(alloc)?;
         let posts = queue.post_passes(alloc, &mut maker)?;
@@ -133,7 +128,7 @@ impl JobQueue {
         ensures queue { IfOk result (λ made. made.1.queue ≡ made.0) }
         ensures none { IfOk result (λ made. made.1.made ≡ 0) }
     {
-        let (ring, pass) = RuledArrayQueue::ruled(alloc, CAPACITY)?;
+        let (ring, pass) = RuledArrayQueue::ruled(alloc, QUEUE_PLACES)?;
         Ok((JobQueue { ring }, Maker { pass }))
     }
 
@@ -142,8 +137,8 @@ impl JobQueue {
         requires queue { maker.old.queue ≡ self.now }
         requires first { maker.old.made ≡ 0 }
         ensures queue { maker.new.queue ≡ maker.old.queue }
-        ensures made { OnOk result (maker.new.made ≡ 16) }
-        ensures posts { IfOk result (λ posts. posts.items ≡ fresh_posts self.now 16) }
+        ensures made { OnOk result (maker.new.made ≡ SLOTS) }
+        ensures posts { IfOk result (λ posts. posts.items ≡ fresh_posts self.now SLOTS) }
     {
         let mut posts = Vec::with_capacity(alloc, SLOTS)?;
         for _slot in 0..SLOTS {
@@ -155,8 +150,8 @@ impl JobQueue {
     /// The passes of all workers, in order.
     fn work_passes(&self, alloc: Global, maker: &mut Maker) -> Result<Vec<WorkPass>, AllocError>
         requires queue { maker.old.queue ≡ self.now }
-        requires slots { maker.old.made ≡ 16 }
-        ensures works { IfOk result (λ works. works.items ≡ fresh_works self.now 8) }
+        requires slots { maker.old.made ≡ SLOTS }
+        ensures works { IfOk result (λ works. works.items ≡ fresh_works self.now WORKERS) }
     {
         let mut works = Vec::with_capacity(alloc, WORKERS)?;
         for _worker in 0..WORKERS {
@@ -168,7 +163,7 @@ impl JobQueue {
     /// The pass of the next slot.
     fn next_post(&self, maker: &mut Maker) -> PostPass
         requires queue { maker.old.queue ≡ self.now }
-        requires slots { maker.old.made < 16 }
+        requires slots { maker.old.made < SLOTS }
         ensures queue { maker.new.queue ≡ maker.old.queue }
         ensures made { maker.new.made ≡ maker.old.made + 1 }
         ensures pass { result ≡ fresh_post self.now maker.old.made }
@@ -181,11 +176,11 @@ impl JobQueue {
     /// The pass of the next worker.
     fn next_work(&self, maker: &mut Maker) -> WorkPass
         requires queue { maker.old.queue ≡ self.now }
-        requires slots { 16 ≤ maker.old.made }
-        requires workers { maker.old.made < 24 }
+        requires slots { SLOTS ≤ maker.old.made }
+        requires workers { maker.old.made < SLOTS + WORKERS }
         ensures queue { maker.new.queue ≡ maker.old.queue }
         ensures made { maker.new.made ≡ maker.old.made + 1 }
-        ensures pass { result ≡ fresh_work self.now (maker.old.made - 16) }
+        ensures pass { result ≡ fresh_work self.now (maker.old.made - SLOTS) }
     {
         WorkPass {
             pass: self.ring.another::<NextPass>(&mut maker.pass),
@@ -203,7 +198,7 @@ impl JobQueue {
         ensures posted { OnOk result (pass.new.posted ≡ pass.old.posted ++ name ∷ []) }
         ensures back { IfErr result (λ back. (back ≡ name) × (pass.new.posted ≡ pass.old.posted)) }
         ensures last { OnOk result (last_of unposted pass.new.posted ≡ (name.life, name.serial)) }
-        ensures rule { MatchResult result (λ _. Posts (of_post pass.old) name (of_post pass.new)) (λ _. Held 32 (Sees (of_post pass.old))) }
+        ensures rule { MatchResult result (λ _. Posts (of_post pass.old) name (of_post pass.new)) (λ _. Held QUEUE_PLACES (Sees (of_post pass.old))) }
     {
         self.ring.push_as::<Post, R>(rt, &mut pass.pass, name)
     }
@@ -214,7 +209,7 @@ impl JobQueue {
         ensures queue { pass.new.queue ≡ pass.old.queue }
         ensures worker { pass.new.worker ≡ pass.old.worker }
         ensures taken { MatchOption result (pass.new.taken ≡ pass.old.taken) (λ name. pass.new.taken ≡ pass.old.taken ++ name ∷ []) }
-        ensures slot { IfSome result (λ name. name.slot < 16) }
+        ensures slot { IfSome result (λ name. name.slot < SLOTS) }
         ensures rule { MatchOption result (Held 0 (Sees (of_work pass.old))) (λ name. Takes (of_work pass.old) name (of_work pass.new)) }
     {
         self.ring.pop_as::<Take, R>(rt, &mut pass.pass)

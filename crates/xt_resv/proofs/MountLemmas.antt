@@ -1,9 +1,10 @@
 -- The ledger of a mount beside the mount's definitions: the numbers of each step, and the conditions of each call.
 use Rattle.std.proofs.Common.{◌≡◌, ◌∙◌, ◌+◌, ◌-◌, ◌*◌, ◌≤◌, ◌<◌, ℕ, List, [], ◌∷◌, Option, Some, None, Bool, true, false, inl, inr, sym, ap, refl, arith}
 use Rattle.std.specs.Prelude.{◌||◌, ◌&&◌, ◌==◌, filter, if◌then◌else◌, length, nat_le, nat_lt, not, sum_by}
-use Rattle.std.proofs.lemmas.List.Sums.{sum_by_push}
+use Rattle.std.proofs.lemmas.List.Sums.{sum_by-cons, sum_by_push}
 use Rattle.std.proofs.lemmas.Bool.{cases_Bool}
 use Rattle.std.proofs.lemmas.Bool.Decides.{nat_tests}
+use Rattle.xt_base.proofs.CostLemmas.{charge-cons}
 use Rattle.xt_base.proofs.RisingLemmas.{each_map, filter_drop, filter_pass, put_last}
 use Rattle.xt_base.proofs.SoundParts.{cost_added, granted_less, granted_rolled}
 use Rattle.xt_base.specs.Calls.{allocated, closed, new_trans, legs_after, with_legs, is_no_room as finds_no_room}
@@ -13,18 +14,18 @@ use Rattle.xt_base.specs.Maps.{at, put, set_at, without}
 use Rattle.xt_base.specs.Sound.{IsSound}
 use Rattle.xt_base.specs.Space.{change_cost, charge, cost, flight_items, granted, is_needed, least_number, lesser, still_needed, used as used_of}
 use Rattle.xt_base.specs.State.{Change, Flight, Leg, State, Transaction}
-use Rattle.xt_resv.specs.Ledgers.{Ledger, flight_cost, is_counted, is_no_room, new_grant, next_grant, regranted, still_counted, ungranted, used}
+use Rattle.xt_resv.specs.Ledgers.{Ledger, flight_cost, is_counted, is_no_room, new_grant, next_grant, regranted, still_counted, ungranted, used, whole_charge}
 use Rattle.xt_resv.specs.Mounts.{flight_of, grant_of, ledger_of}
 
 -- ---- the space in use
 -- the flight's cost
-pub flight_is : (o : Option Flight) → flight_cost (flight_of o) ≡ cost (flight_items o)
-flight_is None = refl
-flight_is (Some f) = refl
+pub flight_is : (ends : ℕ) (o : Option Flight) → flight_cost (flight_of ends o) ≡ cost ends (flight_items o)
+flight_is ends None = refl
+flight_is ends (Some f) = refl
 
 -- the ledger has the space in use
 pub used_is : (s : State) → used (ledger_of s) ≡ used_of s
-used_is s = ap (λ n. granted s.transactions + cost s.items.cil + n + sum_by (λ e. e.1) s.items.landed) (flight_is s.items.flight)
+used_is s = ap (λ n. granted s.transactions + cost s.form.ends s.items.cil + n + sum_by (λ e. e.1) s.items.landed) (flight_is s.form.ends s.items.flight)
 
 -- what is granted with a new transaction
 granted_new : (s : State) → IsSound s → (trans : Transaction) → granted (put (s.last_trans + 1) trans s.transactions) ≡ granted s.transactions + trans.unit * trans.legs
@@ -45,52 +46,41 @@ grant_allocated unit count perm = refl
 not_zero : (n : ℕ) → 1 ≤ n → (n == 0) ≡ false
 not_zero n h = grind (arith, nat_tests)
 
--- what the first change of a leg with such changes costs more, by whether it is dirty
-abbrev first_by_leg : List (ℕ × Change) → ℕ
-first_by_leg es = if not (length es == 0) then 0 else 32
+-- a leg's charge by what its blocks and chunks are charged
+pub charge_is : (ends : ℕ) (es : List (ℕ × Change)) → charge ends es ≡ whole_charge ends (sum_by change_cost es)
+charge_is ends [] = refl
+charge_is ends (e ∷ es) =
+    let some : (sum_by change_cost (e ∷ es) == 0) ≡ false = not_zero (sum_by change_cost (e ∷ es)) (omega (arith, sum_by-cons change_cost e es)) in
+    charge-cons ends e es ∙ sym (ap {B = ℕ} (λ (b : Bool). if b then 0 else ends + sum_by change_cost (e ∷ es)) some)
 
--- the same by what it was charged
-abbrev first_by_charge : List (ℕ × Change) → ℕ
-first_by_charge es = if charge es == 0 then 32 else 0
-
--- both are one
-same_first : (es : List (ℕ × Change)) → first_by_leg es ≡ first_by_charge es
-same_first [] = refl
-same_first (e ∷ es) =
-    let some : (length (e ∷ es) == 0) ≡ false = not_zero (length (e ∷ es)) (omega arith) in
-    let costs : charge (e ∷ es) ≡ 32 + sum_by change_cost (e ∷ es) = ap (λ (b : Bool). if b then 0 else 32 + sum_by change_cost (e ∷ es)) some in
-    let paid : (charge (e ∷ es) == 0) ≡ false = ap (λ (n : ℕ). n == 0) costs ∙ not_zero (32 + sum_by change_cost (e ∷ es)) (omega arith) in
-    let left : first_by_leg (e ∷ es) ≡ 0 = ap (λ (b : Bool). if not b then 0 else 32) some in
-    let right : first_by_charge (e ∷ es) ≡ 0 = ap (λ (b : Bool). if b then 32 else 0) paid in
-    left ∙ sym right
-
--- a leg is dirty where it was charged
-pub first_is : (leg : Leg) → ◌≡◌ {A = ℕ} (if is_dirty leg then 0 else 32) (if charge leg.changes == 0 then 32 else 0)
-first_is leg = same_first leg.changes
+-- with no ends it is that alone
+pub bare_charge : (es : List (ℕ × Change)) → charge 0 es ≡ sum_by change_cost es
+bare_charge [] = refl
+bare_charge (e ∷ es) = omega (arith, charge-cons 0 e es)
 
 module _ (s : State) (h : IsSound s) (t : ℕ) (trans : Transaction) (is : at t s.transactions ≡ Some trans) where
   -- what the commit list costs after the leg's commit
   abbrev pub cost_after : ℕ
-  cost_after = cost (with_marks trans.leg.changes s.items.cil)
+  cost_after = cost s.form.ends (with_marks trans.leg.changes s.items.cil)
 
   -- the grant without the transaction
   less : granted (without t s.transactions) + trans.unit * trans.legs ≡ granted s.transactions
-  less = granted_less s.log_bytes s.owners s.transactions s.items h.parts t trans is
+  less = granted_less s.form.ends s.log_bytes s.owners s.transactions s.items h.parts t trans is
 
   -- the ledger has what the ticket gives back
   pub is_covered : trans.unit * trans.legs ≤ granted s.transactions
   is_covered = omega (arith, less)
 
   -- the commit list costs no more than the leg was charged above what it did
-  pub is_paid : cost_after ≤ cost s.items.cil + charge trans.leg.changes
-  is_paid = cost_added s.log_bytes s.owners s.transactions s.items h.parts t trans is
+  pub is_paid : cost_after ≤ cost s.form.ends s.items.cil + charge s.form.ends trans.leg.changes
+  is_paid = cost_added s.form.ends s.log_bytes s.owners s.transactions s.items h.parts t trans is
 
   -- the grant without the transaction, as the ledger says it
   granted_closed : granted (without t s.transactions) ≡ granted s.transactions - trans.unit * trans.legs
   granted_closed = omega (arith, less)
 
   -- the transaction is given up and closed
-  pub ledger_closed : ledger_of (closed t s) ≡ ungranted (grant_of trans) (cost s.items.cil) (ledger_of s)
+  pub ledger_closed : ledger_of (closed t s) ≡ ungranted (grant_of trans) (cost s.form.ends s.items.cil) (ledger_of s)
   ledger_closed = ap (λ n. record (ledger_of s) { granted = n }) granted_closed
 
   -- the leg is committed and its transaction closed
@@ -104,14 +94,14 @@ module _ (s : State) (h : IsSound s) (t : ℕ) (trans : Transaction) (is : at t 
 
   -- what is granted with so many legs left
   granted_legs : (legs : ℕ) → granted (set_at t (record trans { legs = legs; leg = clean_leg }) s.transactions) ≡ granted s.transactions - trans.unit * trans.legs + trans.unit * legs
-  granted_legs legs = omega (arith, less, granted_rolled s.log_bytes s.owners s.transactions s.items h.parts t trans is legs)
+  granted_legs legs = omega (arith, less, granted_rolled s.form.ends s.log_bytes s.owners s.transactions s.items h.parts t trans is legs)
 
   -- the leg is committed and the next one begins
   pub ledger_rolled : ledger_of (with_legs t (legs_after trans.legs) trans (ended t trans.leg s)) ≡ regranted (grant_of trans) cost_after (ledger_of s)
   ledger_rolled = ap (λ n. record (ledger_of s) { granted = n; cil = cost_after }) (granted_legs (legs_after trans.legs))
 
   -- a roll is given up
-  pub ledger_lost : ledger_of (with_legs t 0 trans s) ≡ ungranted (grant_of trans) (cost s.items.cil) (ledger_of s)
+  pub ledger_lost : ledger_of (with_legs t 0 trans s) ≡ ungranted (grant_of trans) (cost s.form.ends s.items.cil) (ledger_of s)
   ledger_lost = ap (λ n. record (ledger_of s) { granted = n }) (omega (arith, granted_legs 0))
 
 -- the grant of the next leg
@@ -153,18 +143,18 @@ still_is ail landed = filter_is (λ e. is_needed ail e.0) (λ e. is_counted (lea
 
 -- ---- checkpoints
 -- a checkpoint is begun
-pub ledger_flown : (ps : List (List ℕ)) (s : State) → ledger_of (flown ps s) ≡ record (ledger_of s) { cil = 0; flight = Some (cost s.items.cil) }
+pub ledger_flown : (ps : List (List ℕ)) (s : State) → ledger_of (flown ps s) ≡ record (ledger_of s) { cil = 0; flight = Some (cost s.form.ends s.items.cil) }
 ledger_flown ps s = refl
 
 -- a checkpoint has landed
 pub ledger_landed : (f : Flight) (s : State) → s.items.flight ≡ Some f
-    → ledger_of (record s { items = landed_items f s.items })
-    ≡ record (ledger_of s) { flight = None; landed = still_counted (least_number (activated f.number f.items s.items.ail)) (put f.number (flight_cost (flight_of s.items.flight)) s.items.landed) }
+    → ledger_of (record s { items = landed_items s.form.ends f s.items })
+    ≡ record (ledger_of s) { flight = None; landed = still_counted (least_number (activated f.number f.items s.items.ail)) (put f.number (flight_cost (flight_of s.form.ends s.items.flight)) s.items.landed) }
 ledger_landed f s flying =
     let ail = activated f.number f.items s.items.ail in
     let landed : List (ℕ × ℕ) → Ledger = λ xs. record (ledger_of s) { flight = None; landed = xs } in
-    ap landed (still_is ail (put f.number (cost f.items) s.items.landed))
-    ∙ ap (λ (o : Option Flight). landed (still_counted (least_number ail) (put f.number (flight_cost (flight_of o)) s.items.landed))) (sym flying)
+    ap landed (still_is ail (put f.number (cost s.form.ends f.items) s.items.landed))
+    ∙ ap (λ (o : Option Flight). landed (still_counted (least_number ail) (put f.number (flight_cost (flight_of s.form.ends o)) s.items.landed))) (sym flying)
 
 -- blocks were written home
 pub ledger_cleaned : (blocks : List ℕ) (s : State)

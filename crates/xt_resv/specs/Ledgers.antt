@@ -3,6 +3,7 @@ use Rattle.std.specs.Prelude.{Bool, Err, List, None, Ok, Option, Result, Some, [
 use Rattle.xt_base.specs.Calls.{legs_after}
 use Rattle.xt_base.specs.Sound.{IsRising}
 use Rattle.xt_base.specs.declared.newly.Newly.{Newly}
+use Rattle.xt_base.specs.declared.sizes.TheConstants.{CHUNK_COST, GRANTED_LEGS, ITEM_COST, MOST_LOG}
 use Rattle.xt_base.specs.declared.steps.Errno.{Errno}
 use Rattle.xt_base.specs.declared.steps.Errno.TheVariants.{Again, Invalid}
 
@@ -15,7 +16,7 @@ pub record Ledger : Type 0 where
   pub flight : Option ℕ
   pub landed : List (ℕ × ℕ)
 
--- what a transaction was granted: log bytes of a leg, legs left with the present one, whether it may roll, and what the present leg was charged
+-- what a transaction was granted: log bytes of a leg, legs left with the present one, whether it may roll, and what the present leg was charged for its blocks and chunks
 pub record Grant : Type 0 where
   pub unit : ℕ
   pub legs : ℕ
@@ -38,14 +39,14 @@ used s = s.granted + s.cil + flight_cost s.flight + sum_by (λ e. e.1) s.landed
 -- what holds of the fields of a ledger, whose total is that of the landed checkpoints
 pub record IsInOrder (s : Ledger) (total : ℕ) : Type 0 where
   pub space : s.granted + s.cil + flight_cost s.flight + total ≤ s.size
-  pub small : s.size ≤ 16777216
+  pub small : s.size ≤ MOST_LOG
   pub rising : IsRising s.landed
   pub summed : total ≡ sum_by (λ e. e.1) s.landed
 
 -- ---- granted
 -- whether no ledger of this size ever grants this
 abbrev pub is_invalid : ℕ → ℕ → Bool → ℕ → Bool
-is_invalid unit count perm size = (unit == 0) || (count == 0) || nat_lt 8 count || (nat_lt 1 count && not perm) || nat_lt size (unit * count)
+is_invalid unit count perm size = (unit == 0) || (count == 0) || nat_lt GRANTED_LEGS count || (nat_lt 1 count && not perm) || nat_lt size (unit * count)
 
 -- what refuses a grant
 abbrev pub grant_refusal : ℕ → ℕ → Bool → Ledger → Option Errno
@@ -61,13 +62,17 @@ grant_unless None t = Ok t
 grant_unless (Some e) t = Err e
 
 -- ---- charged
--- what a leg is charged with what is charged anew; its first change costs 32 more
+-- what a leg is charged for its blocks and chunks, with what is charged anew
 abbrev pub charged_with : Newly → ℕ → ℕ
-charged_with newly charged = charged + (if charged == 0 then 32 else 0) + 16 * newly.blocks + 128 * newly.chunks
+charged_with newly charged = charged + ITEM_COST * newly.blocks + CHUNK_COST * newly.chunks
+
+-- a leg's whole charge: with the first change of a leg come the ends of a text
+abbrev pub whole_charge : ℕ → ℕ → ℕ
+whole_charge ends charged = if charged == 0 then 0 else ends + charged
 
 -- whether a leg may be charged so
-abbrev pub is_fitting : Newly → Grant → Bool
-is_fitting newly t = nat_le (charged_with newly t.charged) t.unit
+abbrev pub is_fitting : ℕ → Newly → Grant → Bool
+is_fitting ends newly t = nat_le (whole_charge ends (charged_with newly t.charged)) t.unit
 
 -- ---- given back
 -- the ledger where the commit list costs this, and a grant is gone with all its legs

@@ -4,3 +4,5 @@
 pub mod space;
 #[cfg(test)]
 mod tests;
+
+pub use space::{LogSpace, Ticket};

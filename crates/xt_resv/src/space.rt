@@ -1,20 +1,22 @@
 //! The log space of one mount: who was granted what, and what its lists and landed checkpoints cost.
 
-ghost use Rattle.std.specs.Prelude.{◌≡◌, ◌≤◌, ◌<◌, ◌+◌, ◌-◌, ◌*◌, Some, None, Ok, Err, true, is_none, is_some, sum_by, if◌then◌else◌, OnOk, OnErr};
+ghost use Rattle.std.specs.Prelude.{◌≡◌, ◌^◌, ◌≤◌, ◌<◌, ◌+◌, ◌-◌, ◌*◌, Some, None, Ok, Err, true, is_none, is_some, sum_by, if◌then◌else◌, OnOk, OnErr};
 ghost use Rattle.std.specs.VecDeque.{deque_len, deque_capacity};
 ghost use Rattle.xt_base.specs.Maps.{put};
 ghost use Rattle.xt_base.specs.Sound.{AllBelow, IsRising};
 ghost use Rattle.xt_base.specs.declared.steps.Errno.TheVariants.{Again as IsAgain, Invalid as IsInvalid, NoSpace as IsNoSpace};
-ghost use Rattle.xt_resv.specs.Ledgers.{new_ledger, used, flight_cost, is_invalid, grant_refusal, new_grant, grant_unless, charged_with, is_fitting, ungranted, is_no_room, next_grant, regranted, is_counted, still_counted, is_front_uncounted};
+ghost use Rattle.xt_resv.specs.Ledgers.{new_ledger, used, flight_cost, is_invalid, grant_refusal, new_grant, grant_unless, charged_with, whole_charge, is_fitting, ungranted, is_no_room, next_grant, regranted, is_counted, still_counted, is_front_uncounted};
 
 use std::alloc::{AllocError, Global};
 use std::collections::VecDeque;
 use std::marker::Model;
+use xt_base::form::Form;
 use xt_base::newly::Newly;
+use xt_base::sizes::{CHUNK_COST, CHUNKS, GRANTED_LEGS, ITEM_COST, MOST_LOG};
 use xt_base::steps::Errno;
 
 /// What a transaction was granted: the log bytes of a leg, the legs left, whether it may roll, and what its
-/// present leg was charged. It can't be let go: it ends in `LogSpace::give_back` or `LogSpace::commit`.
+/// present leg was charged for its blocks and chunks. It can't be let go: it ends in `LogSpace::give_back` or `LogSpace::commit`.
 #[derive(Debug)]
 pub struct Ticket {
     unit: u32,
@@ -56,12 +58,11 @@ impl Ticket {
         self.perm
     }
 
-    /// What the present leg was charged, at most the unit.
-    pub fn charged(&self) -> u32
-        ensures value { result ≡ self.now.charged }
-        ensures range { result ≤ self.now.unit }
+    /// What the present leg was charged, in a mount of this form; 0 for a clean leg.
+    pub fn charged(&self, form: Form) -> u64
+        ensures { result ≡ whole_charge form.ends self.now.charged }
     {
-        self.charged
+        whole_charge(form, u64::from(self.charged))
     }
 
     /// What the legs left were granted together.
@@ -73,8 +74,7 @@ impl Ticket {
 
     /// The next leg begins: one less is left, or one new unit.
     fn begin_leg(&mut self)
-        ensures value { self.new ≡ next_grant self.old }
-        ensures fair { self.old.charged ≤ self.old.unit }
+        ensures { self.new ≡ next_grant self.old }
     {
         if self.legs > 1 {
             self.legs -= 1;
@@ -97,18 +97,16 @@ impl Ticket {
         u64::from(unit) * u64::from(legs)
     }
 
-    /// What the present leg is charged with what is charged anew.
+    /// What the present leg is charged for its blocks and chunks, with what is charged anew.
     fn charged_with(&self, newly: Newly) -> u64
         requires blocks { newly.blocks ≤ 1 }
-        requires chunks { newly.chunks ≤ 32 }
+        requires chunks { newly.chunks ≤ CHUNKS }
         ensures value { result ≡ charged_with newly self.now.charged }
-        ensures range { result ≤ self.now.unit + 4144 }
+        ensures range { result ≤ self.now.unit + ITEM_COST + CHUNK_COST * CHUNKS }
     {
-        let first = if self.charged == 0 { 32 } else { 0 };
         u64::from(self.charged)
-            + first
-            + 16 * u64::from(newly.blocks)
-            + 128 * u64::from(newly.chunks)
+            + ITEM_COST * u64::from(newly.blocks)
+            + CHUNK_COST * u64::from(newly.chunks)
     }
 }
 
@@ -139,7 +137,7 @@ impl Model for LogSpace {
 impl LogSpace {
     /// A log of so many bytes, at most 16,777,216, of which none is in use. It takes no memory.
     pub fn new(alloc: Global, size: u32) -> Self
-        requires { size ≤ 16777216 }
+        requires { size ≤ MOST_LOG }
         ensures { result ≡ new_ledger size }
     {
         LogSpace {
@@ -155,7 +153,7 @@ impl LogSpace {
     /// The size of the log.
     pub fn size(&self) -> u32
         ensures value { result ≡ self.now.size }
-        ensures range { result ≤ 16777216 }
+        ensures range { result ≤ MOST_LOG }
     {
         self.size
     }
@@ -175,7 +173,7 @@ impl LogSpace {
     {
         if unit == 0
             || count == 0
-            || count > 8
+            || count > GRANTED_LEGS
             || (count > 1 && !perm)
             || u64::from(unit) * u64::from(count) > u64::from(self.size)
         {
@@ -208,26 +206,26 @@ impl LogSpace {
         })
     }
 
-    /// Whether the present leg may be charged so: what it is charged then is at most the unit. A leg's first change is
-    /// charged 32, a block 16 and a chunk 128.
-    pub fn fits(ticket: &Ticket, newly: Newly) -> bool
+    /// Whether the present leg may be charged so: its whole charge is then at most the unit. A leg's first change is
+    /// charged the ends of a text of this form, a block 16 and a chunk 128.
+    pub fn fits(form: Form, ticket: &Ticket, newly: Newly) -> bool
         requires blocks { newly.blocks ≤ 1 }
-        requires chunks { newly.chunks ≤ 32 }
-        ensures { result ≡ is_fitting newly ticket.now }
+        requires chunks { newly.chunks ≤ CHUNKS }
+        ensures { result ≡ is_fitting form.ends newly ticket.now }
     {
-        ticket.charged_with(newly) <= u64::from(ticket.unit)
+        whole_charge(form, ticket.charged_with(newly)) <= u64::from(ticket.unit)
     }
 
     /// Charges the present leg. It is refused with `NoSpace` where `fits` says no, and then nothing changes.
-    pub fn charge(ticket: &mut Ticket, newly: Newly) -> Result<(), Errno>
+    pub fn charge(form: Form, ticket: &mut Ticket, newly: Newly) -> Result<(), Errno>
         requires blocks { newly.blocks ≤ 1 }
-        requires chunks { newly.chunks ≤ 32 }
-        ensures result { result ≡ (if is_fitting newly ticket.old then Ok tt else Err IsNoSpace) }
+        requires chunks { newly.chunks ≤ CHUNKS }
+        ensures result { result ≡ (if is_fitting form.ends newly ticket.old then Ok tt else Err IsNoSpace) }
         ensures ok { OnOk result (ticket.new ≡ record ticket.old { charged = charged_with newly ticket.old.charged }) }
         ensures err { OnErr result (ticket.new ≡ ticket.old) }
     {
         let charged = ticket.charged_with(newly);
-        if charged > u64::from(ticket.unit) {
+        if whole_charge(form, charged) > u64::from(ticket.unit) {
             return Err(Errno::NoSpace);
         }
         ticket.charged = charged as u32;
@@ -258,7 +256,7 @@ impl LogSpace {
     pub fn next_leg(&mut self, ticket: &mut Ticket, cil_cost: u64) -> Result<(), Errno>
         requires granted { ticket.old.unit * ticket.old.legs ≤ self.old.granted }
         requires legs { 1 ≤ ticket.old.legs }
-        requires cost { cil_cost ≤ self.old.cil + ticket.old.charged }
+        requires cost { cil_cost ≤ self.old.cil + ticket.old.unit }
         ensures result { result ≡ (if is_no_room ticket.old cil_cost self.old then Err IsAgain else Ok tt) }
         ensures ok { OnOk result ((self.new ≡ regranted ticket.old cil_cost self.old) × (ticket.new ≡ next_grant ticket.old)) }
         ensures err { OnErr result ((self.new ≡ self.old) × (ticket.new ≡ ticket.old)) }
@@ -276,7 +274,7 @@ impl LogSpace {
     /// Whether the last leg finds no space for one new unit, where its commit makes the commit list cost this.
     pub fn is_no_room(&self, ticket: &Ticket, cil_cost: u64) -> bool
         requires granted { ticket.now.unit * ticket.now.legs ≤ self.now.granted }
-        requires cost { cil_cost ≤ self.now.cil + ticket.now.charged }
+        requires cost { cil_cost ≤ self.now.cil + ticket.now.unit }
         ensures { result ≡ is_no_room ticket.now cil_cost self.now }
     {
         ticket.legs == 1
@@ -343,6 +341,20 @@ impl LogSpace {
         ensures { self.new ≡ record self.old { landed = still_counted least self.old.landed } }
     {
         prune(&mut self.landed, &mut self.landed_total, least);
+    }
+}
+
+/// The whole charge of a leg, by what its blocks and chunks are charged: with the first change of a leg come the ends of
+/// a text of this form.
+fn whole_charge(form: Form, charged: u64) -> u64
+    requires { charged < 2 ^ 63 }
+    ensures value { result ≡ whole_charge form.ends charged }
+    ensures range { charged ≤ result }
+{
+    if charged == 0 {
+        0
+    } else {
+        u64::from(form.ends()) + charged
     }
 }
 

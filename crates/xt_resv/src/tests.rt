@@ -1,6 +1,7 @@
 //! The ledger's calls on numbers worked out by hand, and what a refused allocation leaves.
 
 use crate::space::LogSpace;
+use xt_base::form::Form;
 use xt_base::newly::Newly;
 use xt_base::steps::Errno;
 
@@ -19,8 +20,8 @@ fn legs_are_counted(rt: HostRuntime) {
         return;
     };
     assert_eq!(rt; space.used(), 1536);
-    let is_charged = LogSpace::charge(&mut ticket, TWO).is_ok();
-    assert_eq!(rt; ticket.charged(), 304);
+    let is_charged = LogSpace::charge(Form::one(), &mut ticket, TWO).is_ok();
+    assert_eq!(rt; ticket.charged(Form::one()), 304);
     let fits_more = LogSpace::fits(&ticket, TWO);
     let used = space.used();
     space.give_back(ticket);
@@ -51,14 +52,14 @@ fn a_last_leg_asks_a_unit(rt: HostRuntime) {
     let Ok(mut ticket) = space.grant(600, 1, true) else {
         return;
     };
-    if LogSpace::charge(&mut ticket, TWO).is_err() {
+    if LogSpace::charge(Form::one(), &mut ticket, TWO).is_err() {
         space.give_back(ticket);
         return;
     }
     let is_refused = space.next_leg(&mut ticket, 304).is_err();
-    let before = (space.used(), ticket.charged());
+    let before = (space.used(), ticket.charged(Form::one()));
     let is_rolled = space.next_leg(&mut ticket, 303).is_ok();
-    let after = (space.used(), ticket.charged());
+    let after = (space.used(), ticket.charged(Form::one()));
     space.give_up(&mut ticket);
     let left = space.used();
     space.give_back(ticket);
@@ -76,7 +77,7 @@ fn a_commit_frees_the_grant(rt: HostRuntime) {
     let Ok(mut ticket) = space.grant(400, 2, true) else {
         return;
     };
-    if LogSpace::charge(&mut ticket, TWO).is_err() {
+    if LogSpace::charge(Form::one(), &mut ticket, TWO).is_err() {
         space.give_back(ticket);
         return;
     }

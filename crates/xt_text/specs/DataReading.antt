@@ -1,7 +1,9 @@
 -- Data read from its text, loosely: more texts are read than are spellings, and each spelling gives its bytes.
 use Rattle.std.specs.Prelude.{List, None, Option, Some, [], if◌then◌else◌, length, nat_le, replicate, ℕ, ◌&&◌, ◌*◌, ◌++◌, ◌+◌, ◌-◌, ◌==◌, ◌∷◌}
 use Rattle.std.specs.Str.{bytes_eq}
+use Rattle.xt_base.specs.declared.sizes.TheConstants.{BLOCK_BYTES, DATA_BYTES}
 use Rattle.xt_text.specs.Reading.{number_on, ◌>>=◌}
+use Rattle.xt_text.specs.declared.data_text.TheConstants.{DIGITS}
 use Rattle.xt_text.specs.declared.data_text.Place.{Place}
 use Rattle.xt_text.specs.declared.data_text.Place.TheVariants.{Count, Front, Half, Whole}
 
@@ -11,11 +13,11 @@ hex_value c = if nat_le 48 c && nat_le c 57 then Some (c - 48) else if nat_le 97
 
 -- the byte that two digits spell
 abbrev pub byte_value : ℕ → ℕ → Option ℕ
-byte_value high low = hex_value high >>= λ h. hex_value low >>= λ l. Some (16 * h + l)
+byte_value high low = hex_value high >>= λ h. hex_value low >>= λ l. Some (DIGITS * h + l)
 
--- bytes with a run behind them; none over 4,096
+-- bytes with a run behind them; none over what data may have
 abbrev pub with_run : List ℕ → ℕ → ℕ → Option (List ℕ)
-with_run bytes byte count = if nat_le count (4096 - length bytes) then Some (bytes ++ replicate count byte) else None
+with_run bytes byte count = if nat_le count (DATA_BYTES - length bytes) then Some (bytes ++ replicate count byte) else None
 
 -- where a part begins: at a dot nothing has begun
 abbrev pub front_at : ℕ → Place
@@ -50,4 +52,4 @@ read_data text = if bytes_eq text (45 ∷ []) then Some [] else reads [] Front t
 
 -- what a text gives where it gives the content of a block
 abbrev pub read_content : List ℕ → Option (List ℕ)
-read_content text = read_data text >>= λ bytes. if length bytes == 4096 then Some bytes else None
+read_content text = read_data text >>= λ bytes. if length bytes == BLOCK_BYTES then Some bytes else None

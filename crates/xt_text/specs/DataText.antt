@@ -2,6 +2,8 @@
 use Rattle.std.specs.Fmt.{decimal}
 use Rattle.std.specs.List.{All, flat_map}
 use Rattle.std.specs.Prelude.{Bool, List, [], if◌then◌else◌, length, nat_lt, replicate, ℕ, ◌<◌, ◌≤◌, ◌%◌, ◌&&◌, ◌++◌, ◌+◌, ◌/◌, ◌==◌, ◌∷◌}
+use Rattle.xt_base.specs.declared.sizes.TheConstants.{DATA_BYTES}
+use Rattle.xt_text.specs.declared.data_text.TheConstants.{DIGITS}
 use Rattle.xt_text.specs.declared.data_text.Run.{Run}
 
 -- a hexadecimal digit, in lower case
@@ -10,7 +12,7 @@ hex_digit value = if nat_lt value 10 then 48 + value else 87 + value
 
 -- a byte as two hexadecimal digits
 abbrev pub hex : ℕ → List ℕ
-hex byte = hex_digit (byte / 16) ∷ hex_digit (byte % 16) ∷ []
+hex byte = hex_digit (byte / DIGITS) ∷ hex_digit (byte % DIGITS) ∷ []
 
 -- one more byte before some runs: the first run grows if it is of that byte
 abbrev pub onto_runs : ℕ → List Run → List Run
@@ -48,7 +50,7 @@ runs_text (r ∷ rs) = run_text r ++ after_run r rs
 abbrev pub spelling : List ℕ → List ℕ
 spelling bytes = runs_text (runs bytes)
 
--- data: at most 4,096 bytes
+-- data: bytes, no more than a request may carry
 pub record IsData (bytes : List ℕ) : Type 0 where
-  pub few : length bytes ≤ 4096
+  pub few : length bytes ≤ DATA_BYTES
   pub are_bytes : All (λ b. b < 256) bytes

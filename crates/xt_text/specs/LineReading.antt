@@ -5,11 +5,13 @@ use Rattle.std.specs.Str.{bytes_eq}
 use Rattle.xt_base.specs.declared.names.JobKind.{JobKind}
 use Rattle.xt_base.specs.declared.names.JobKind.TheVariants.{Ckpt}
 use Rattle.xt_base.specs.declared.names.JobName.{JobName}
+use Rattle.xt_base.specs.declared.sizes.TheConstants.{SLOTS, WORKERS}
 use Rattle.xt_base.specs.declared.steps.Answer.{Answer}
 use Rattle.xt_base.specs.declared.steps.Request.{Request}
 use Rattle.xt_base.specs.declared.steps.Request.TheVariants.{Alloc, Cancel, Commit, Force, ForceTo, Get, Hold, Inval, Join, Log, Push, Read, Release, Relse, Roll, Shutdown, Unhold, Unmount, View}
 use Rattle.xt_base.specs.declared.steps.Step.{Step}
 use Rattle.xt_base.specs.declared.steps.Step.TheVariants.{Begin, Call, End, Flush, Mount, Peek, Post, Show, Take}
+use Rattle.xt_text.specs.declared.words.TheConstants.{BLANK}
 use Rattle.xt_text.specs.DataReading.{read_content, read_data}
 use Rattle.xt_text.specs.HomeReading.{home_of}
 use Rattle.xt_text.specs.Reading.{below, number_of, ◌>>=◌}
@@ -41,7 +43,7 @@ unfoldable pub name_of : List ℕ → Option JobName
 name_of word =
     let a = behind 46 word in
     let b = behind 46 a in
-    below 16 (before 46 word) >>= λ slot.
+    below SLOTS (before 46 word) >>= λ slot.
     u32_of (before 46 a) >>= λ life.
     kind_of (before 46 b) >>= λ kind.
     number_of (behind 46 b) >>= λ serial.
@@ -63,28 +65,28 @@ sync_of word =
 -- UNIT COUNT plain, or perm
 unfoldable pub alloc_of : List ℕ → Option Request
 alloc_of words =
-    let a = behind 32 words in
-    u32_of (before 32 words) >>= λ unit.
-    u32_of (before 32 a) >>= λ count.
-    perm_of (behind 32 a) >>= λ perm.
+    let a = behind BLANK words in
+    u32_of (before BLANK words) >>= λ unit.
+    u32_of (before BLANK a) >>= λ count.
+    perm_of (behind BLANK a) >>= λ perm.
     Some (Alloc unit count perm)
 
 -- TRANS BLOCK
 unfoldable pub own_of : List ℕ → Option (ℕ × ℕ)
 own_of words =
-    lettered (before 32 words) >>= λ trans.
-    number_of (behind 32 words) >>= λ block.
+    lettered (before BLANK words) >>= λ trans.
+    number_of (behind BLANK words) >>= λ block.
     Some (trans, block)
 
 -- TRANS BLOCK FIRST DATA
 unfoldable pub log_of : List ℕ → Option Request
 log_of words =
-    let a = behind 32 words in
-    let b = behind 32 a in
-    lettered (before 32 words) >>= λ trans.
-    number_of (before 32 a) >>= λ block.
-    u32_of (before 32 b) >>= λ first.
-    read_data (behind 32 b) >>= λ bytes.
+    let a = behind BLANK words in
+    let b = behind BLANK a in
+    lettered (before BLANK words) >>= λ trans.
+    number_of (before BLANK a) >>= λ block.
+    u32_of (before BLANK b) >>= λ first.
+    read_data (behind BLANK b) >>= λ bytes.
     Some (Log first trans block bytes)
 
 -- BLOCK
@@ -133,34 +135,34 @@ request_of verb words =
 unfoldable pub answer_of : List ℕ → Option Answer
 answer_of words =
     if length words == 0 then Some Answer.None
-    else if bytes_eq (behind 32 words) (codes "fail") then Some Answer.Failed
-    else (read_content (behind 32 words) >>= λ bytes. Some (Answer.Content bytes))
+    else if bytes_eq (behind BLANK words) (codes "fail") then Some Answer.Failed
+    else (read_content (behind BLANK words) >>= λ bytes. Some (Answer.Content bytes))
 
 -- ---- steps, by what stands behind their first word
 -- SLOT
 unfoldable pub show_of : List ℕ → Option Step
-show_of words = below 16 words >>= λ slot. Some (Show slot)
+show_of words = below SLOTS words >>= λ slot. Some (Show slot)
 
 -- SLOT
 unfoldable pub peek_of : List ℕ → Option Step
-peek_of words = below 16 words >>= λ slot. Some (Peek slot)
+peek_of words = below SLOTS words >>= λ slot. Some (Peek slot)
 
 -- SLOT LOG BLOCKS
 unfoldable pub mount_of : List ℕ → Option Step
 mount_of words =
-    let a = behind 32 words in
-    below 16 (before 32 words) >>= λ slot.
-    u32_of (before 32 a) >>= λ log_bytes.
-    number_of (behind 32 a) >>= λ blocks.
+    let a = behind BLANK words in
+    below SLOTS (before BLANK words) >>= λ slot.
+    u32_of (before BLANK a) >>= λ log_bytes.
+    number_of (behind BLANK a) >>= λ blocks.
     Some (Mount slot log_bytes blocks)
 
 -- a read, by what stands behind its verb: TRANS BLOCK, and the answer
 unfoldable pub read_of : ℕ → ℕ → List ℕ → Option Step
 read_of slot life words =
-    let a = behind 32 words in
-    lettered (before 32 words) >>= λ trans.
-    number_of (before 32 a) >>= λ block.
-    answer_of (behind 32 a) >>= λ answer.
+    let a = behind BLANK words in
+    lettered (before BLANK words) >>= λ trans.
+    number_of (before BLANK a) >>= λ block.
+    answer_of (behind BLANK a) >>= λ answer.
     Some (Call slot life (Read trans block) answer)
 
 -- a call, by its verb and what stands behind that
@@ -172,9 +174,9 @@ asked_of slot life verb words =
 -- a call: SLOT.LIFE, and the request
 unfoldable pub call_of : List ℕ → List ℕ → Option Step
 call_of mount words =
-    below 16 (before 46 mount) >>= λ slot.
+    below SLOTS (before 46 mount) >>= λ slot.
     u32_of (behind 46 mount) >>= λ life.
-    asked_of slot life (before 32 words) (behind 32 words)
+    asked_of slot life (before BLANK words) (behind BLANK words)
 
 -- NAME
 unfoldable pub post_of : List ℕ → Option Step
@@ -183,35 +185,35 @@ post_of words = name_of words >>= λ name. Some (Post name)
 -- WORKER NAME
 unfoldable pub take_of : List ℕ → Option Step
 take_of words =
-    below 8 (before 32 words) >>= λ worker.
-    name_of (behind 32 words) >>= λ name.
+    below WORKERS (before BLANK words) >>= λ worker.
+    name_of (behind BLANK words) >>= λ name.
     Some (Take worker name)
 
 -- WORKER NAME
 unfoldable pub begin_of : List ℕ → Option Step
 begin_of words =
-    below 8 (before 32 words) >>= λ worker.
-    name_of (behind 32 words) >>= λ name.
+    below WORKERS (before BLANK words) >>= λ worker.
+    name_of (behind BLANK words) >>= λ name.
     Some (Begin worker name)
 
 -- WORKER NAME TAKEN SYNC
 unfoldable pub end_of : List ℕ → Option Step
 end_of words =
-    let a = behind 32 words in
-    let b = behind 32 a in
-    below 8 (before 32 words) >>= λ worker.
-    name_of (before 32 a) >>= λ name.
-    u32_of (before 32 b) >>= λ taken.
-    sync_of (behind 32 b) >>= λ sync.
+    let a = behind BLANK words in
+    let b = behind BLANK a in
+    below WORKERS (before BLANK words) >>= λ worker.
+    name_of (before BLANK a) >>= λ name.
+    u32_of (before BLANK b) >>= λ taken.
+    sync_of (behind BLANK b) >>= λ sync.
     Some (End worker name (record { taken = taken; sync = sync }))
 
 -- WORKER NAME, and the answers
 unfoldable pub flush_of : List ℕ → Option Step
 flush_of words =
-    let a = behind 32 words in
-    below 8 (before 32 words) >>= λ worker.
-    name_of (before 32 a) >>= λ name.
-    home_of (behind 32 a) >>= λ answers.
+    let a = behind BLANK words in
+    below WORKERS (before BLANK words) >>= λ worker.
+    name_of (before BLANK a) >>= λ name.
+    home_of (behind BLANK a) >>= λ answers.
     Some (Flush worker name answers)
 
 -- a step: its first word, and what stands behind it
@@ -229,4 +231,4 @@ words_step word words =
 
 -- what a line gives
 unfoldable pub step_of : List ℕ → Option Step
-step_of line = words_step (before 32 line) (behind 32 line)
+step_of line = words_step (before BLANK line) (behind BLANK line)

@@ -6,6 +6,7 @@ use Rattle.xt_base.specs.Jobs.{write_answers}
 use Rattle.xt_base.specs.declared.names.JobKind.{JobKind}
 use Rattle.xt_base.specs.declared.names.JobKind.TheVariants.{Ckpt}
 use Rattle.xt_base.specs.declared.names.JobName.{JobName}
+use Rattle.xt_base.specs.declared.sizes.TheConstants.{BLOCK_BYTES, FLUSH_BLOCKS, SLOTS, WORKERS}
 use Rattle.xt_base.specs.declared.steps.Answer.{Answer}
 use Rattle.xt_base.specs.declared.steps.HomeAnswers.{HomeAnswers}
 use Rattle.xt_base.specs.declared.steps.Request.{Request}
@@ -13,11 +14,12 @@ use Rattle.xt_base.specs.declared.steps.Request.TheVariants.{Alloc, Cancel, Comm
 use Rattle.xt_base.specs.declared.steps.Step.{Step}
 use Rattle.xt_base.specs.declared.steps.Step.TheVariants.{Begin, Call, End, Flush, Mount, Peek, Post, Show, Take}
 use Rattle.xt_text.specs.DataText.{IsData, spelling}
+use Rattle.xt_text.specs.declared.words.TheConstants.{BLANK}
 
 -- two words with a space between them
 infixr 66 ◌␣◌
 abbrev pub ◌␣◌ : List ℕ → List ℕ → List ℕ
-a ␣ b = a ++ 32 ∷ b
+a ␣ b = a ++ BLANK ∷ b
 
 -- two parts of a word with a dot between them
 infixr 67 ◌·◌
@@ -59,11 +61,11 @@ sync_text (Some ok) = ok_text ok
 
 -- answers of a device, each with a space in front
 abbrev pub oks_text : List Bool → List ℕ
-oks_text oks = flat_map (λ ok. 32 ∷ ok_text ok) oks
+oks_text oks = flat_map (λ ok. BLANK ∷ ok_text ok) oks
 
 -- what the home device answered to a flush, behind its name: to each write, and then to the sync; nothing where it was not asked
 abbrev pub home_text : HomeAnswers → List ℕ
-home_text answers = if answers.count == 0 then [] else oks_text (write_answers answers) ++ 32 ∷ ok_text answers.sync
+home_text answers = if answers.count == 0 then [] else oks_text (write_answers answers) ++ BLANK ∷ ok_text answers.sync
 
 -- ---- lines
 -- the text of a request
@@ -109,7 +111,7 @@ line_of (Peek slot) = codes "peek" ␣ decimal slot
 -- ---- which steps have a line of their own
 -- the values of a name
 abbrev pub IsName : JobName → Type 0
-IsName name = (name.slot < 16) × (name.life < 2 ^ 32) × (name.serial < 2 ^ 64)
+IsName name = (name.slot < SLOTS) × (name.life < 2 ^ 32) × (name.serial < 2 ^ 64)
 
 -- a request with the values that its types have
 abbrev pub IsRequest : Request → Type 0
@@ -133,9 +135,9 @@ IsRequest Push = Unit {0}
 IsRequest Shutdown = Unit {0}
 IsRequest Unmount = Unit {0}
 
--- the content of a block: 4,096 bytes
+-- the content of a block
 abbrev pub IsContent : List ℕ → Type 0
-IsContent bytes = IsData bytes × (length bytes ≡ 4096)
+IsContent bytes = IsData bytes × (length bytes ≡ BLOCK_BYTES)
 
 -- an answer with the values that its types have
 abbrev pub IsAnswer : Answer → Type 0
@@ -155,19 +157,19 @@ IsAnswerTo other answer = IsUnasked answer
 
 -- the answers to a flush: to at most 8 writes; what stands for no answer is false
 pub record IsHomeAnswers (answers : HomeAnswers) : Type 0 where
-  pub eight : length answers.writes ≡ 8
-  pub few : answers.count ≤ 8
-  pub unused : drop answers.count answers.writes ≡ replicate (8 - answers.count) false
+  pub eight : length answers.writes ≡ FLUSH_BLOCKS
+  pub few : answers.count ≤ FLUSH_BLOCKS
+  pub unused : drop answers.count answers.writes ≡ replicate (FLUSH_BLOCKS - answers.count) false
   pub unasked : answers.count ≡ 0 → answers.sync ≡ false
 
 -- a step that has a line of its own: an answer stands only where something was asked
 abbrev pub IsStep : Step → Type 0
-IsStep (Mount slot log_bytes blocks) = (slot < 16) × (log_bytes < 2 ^ 32) × (blocks < 2 ^ 64)
-IsStep (Call slot life request answer) = (slot < 16) × (life < 2 ^ 32) × IsRequest request × IsAnswerTo request answer
+IsStep (Mount slot log_bytes blocks) = (slot < SLOTS) × (log_bytes < 2 ^ 32) × (blocks < 2 ^ 64)
+IsStep (Call slot life request answer) = (slot < SLOTS) × (life < 2 ^ 32) × IsRequest request × IsAnswerTo request answer
 IsStep (Post name) = IsName name
-IsStep (Take worker name) = (worker < 8) × IsName name
-IsStep (Begin worker name) = (worker < 8) × IsName name
-IsStep (End worker name answers) = (worker < 8) × IsName name × (answers.taken < 2 ^ 32)
-IsStep (Flush worker name answers) = (worker < 8) × IsName name × IsHomeAnswers answers
-IsStep (Show slot) = slot < 16
-IsStep (Peek slot) = slot < 16
+IsStep (Take worker name) = (worker < WORKERS) × IsName name
+IsStep (Begin worker name) = (worker < WORKERS) × IsName name
+IsStep (End worker name answers) = (worker < WORKERS) × IsName name × (answers.taken < 2 ^ 32)
+IsStep (Flush worker name answers) = (worker < WORKERS) × IsName name × IsHomeAnswers answers
+IsStep (Show slot) = slot < SLOTS
+IsStep (Peek slot) = slot < SLOTS

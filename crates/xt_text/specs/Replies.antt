@@ -2,29 +2,17 @@
 use Rattle.std.specs.Fmt.{decimal}
 use Rattle.std.specs.List.{flat_map}
 use Rattle.std.specs.Prelude.{List, None, Option, Some, codes, ℕ, ◌++◌, ◌∷◌}
-use Rattle.xt_base.specs.declared.steps.Errno.{Errno}
-use Rattle.xt_base.specs.declared.steps.Errno.TheVariants.{Again, Busy, Invalid, Io, NoBufs, NoDevice, NoMemory, NoSpace, Stale}
+use Rattle.xt_base.specs.Errors.{name_of}
 use Rattle.xt_base.specs.declared.steps.HomeOffer.{HomeOffer}
 use Rattle.xt_base.specs.declared.steps.LogOffer.{LogOffer}
 use Rattle.xt_base.specs.declared.steps.Reason.{Reason}
 use Rattle.xt_base.specs.declared.steps.Reason.TheVariants.{CorruptIncore, ForceUmount, LogIoError, MetaIoError}
 use Rattle.xt_base.specs.declared.steps.Reply.{Reply}
 use Rattle.xt_text.specs.DataText.{spelling}
+use Rattle.xt_text.specs.declared.words.TheConstants.{BLANK}
 use Rattle.xt_text.specs.Lines.{ckpt_text, ok_text, trans_text, ◌␣◌}
 
 -- ---- words
--- the name of a refusal
-abbrev pub errno_text : Errno → List ℕ
-errno_text Io = codes "EIO"
-errno_text Again = codes "EAGAIN"
-errno_text NoMemory = codes "ENOMEM"
-errno_text Busy = codes "EBUSY"
-errno_text NoDevice = codes "ENODEV"
-errno_text Invalid = codes "EINVAL"
-errno_text NoSpace = codes "ENOSPC"
-errno_text NoBufs = codes "ENOBUFS"
-errno_text Stale = codes "ESTALE"
-
 -- what the board shows of a life: live, or why it was shut
 abbrev pub seen_text : Option Reason → List ℕ
 seen_text None = codes "live"
@@ -35,7 +23,7 @@ seen_text (Some CorruptIncore) = codes "CORRUPT_INCORE"
 
 -- blocks that stay held, each with a space in front
 abbrev pub held_text : List ℕ → List ℕ
-held_text blocks = codes " held" ++ flat_map (λ b. 32 ∷ decimal b) blocks
+held_text blocks = codes " held" ++ flat_map (λ b. BLANK ∷ decimal b) blocks
 
 -- ---- replies
 -- the text of a reply, without its slot and newline
@@ -58,7 +46,7 @@ reply_text (Reply.Landed number) = codes "landed" ␣ ckpt_text number
 reply_text (Reply.Failed number) = codes "failed" ␣ ckpt_text number
 reply_text (Reply.Flushed count) = codes "flushed" ␣ decimal count
 reply_text (Reply.Seen life reason) = codes "seen" ␣ decimal life ␣ seen_text reason
-reply_text (Reply.Refused errno) = errno_text errno
+reply_text (Reply.Refused errno) = name_of errno
 
 -- a reply with the slot that its step names in front
 abbrev pub slot_reply_text : ℕ → Reply → List ℕ

@@ -6,6 +6,7 @@ use Rattle.xt_base.specs.declared.steps.Request.{Request}
 use Rattle.xt_base.specs.declared.steps.Request.TheVariants.{Unmount}
 use Rattle.xt_base.specs.declared.steps.Step.{Step}
 use Rattle.xt_base.specs.declared.steps.Step.TheVariants.{Call, Peek}
+use Rattle.xt_text.specs.declared.words.TheConstants.{BLANK}
 use Rattle.xt_text.specs.LineReading.{before, behind}
 
 -- ---- sessions
@@ -32,8 +33,8 @@ takes_data verb = bytes_eq verb (codes "log") || bytes_eq verb (codes "read")
 
 -- a line that begins by this word may carry answers to a flush, or, by the verb behind it, data
 abbrev pub takes_words : List ℕ → List ℕ → Bool
-takes_words word words = bytes_eq word (codes "flush") || takes_data (before 32 words)
+takes_words word words = bytes_eq word (codes "flush") || takes_data (before BLANK words)
 
 -- a line whose parsing may take memory
 abbrev pub takes_memory : List ℕ → Bool
-takes_memory line = nat_le (length line) 8400 && takes_words (before 32 line) (behind 32 line)
+takes_memory line = nat_le (length line) 8400 && takes_words (before BLANK line) (behind BLANK line)

@@ -13,13 +13,14 @@ use crate::bad_line::BadLine;
 use crate::buffer::Text;
 use crate::numbers::{number_on, put_number};
 use std::alloc::Global;
-use xt_base::content::{BLOCK_BYTES, Content, Data};
-
-/// The most bytes that data has.
-const DATA_BYTES: usize = 4096;
+use xt_base::content::{Content, Data};
+use xt_base::sizes::{BLOCK_BYTES, DATA_BYTES};
 
 /// The shortest run that is spelled with a count.
 const COUNTED: usize = 4;
+
+/// The values of a hexadecimal digit.
+const DIGITS: u8 = 16;
 
 /// How many bytes are compared at once where runs are counted.
 const BLOCK: usize = 128;
@@ -47,7 +48,7 @@ enum Place {
 /// The value of a hexadecimal digit in lower case.
 fn hex_value(digit: u8) -> Option<u8>
     ensures value { result ≡ hex_value digit }
-    ensures range { IfSome result (λ value. value < 16) }
+    ensures range { IfSome result (λ value. value < DIGITS) }
 {
     match digit {
         b'0'..=b'9' => Some(digit - b'0'),
@@ -62,7 +63,7 @@ fn byte_value(high: u8, low: u8) -> Result<u8, BadLine>
 {
     let high = hex_value(high).ok_or(BadLine::Spelling)?;
     let low = hex_value(low).ok_or(BadLine::Spelling)?;
-    Ok(16 * high + low)
+    Ok(DIGITS * high + low)
 }
 
 /// Where the next part begins: a dot begins none.
@@ -78,9 +79,9 @@ fn front_at(c: u8) -> Place
 
 /// Puts a run behind some bytes.
 fn push_run(bytes: &mut Vec<u8>, byte: u8, count: u64) -> Result<(), BadLine>
-    requires { length bytes.old.items ≤ 4096 }
+    requires { length bytes.old.items ≤ DATA_BYTES }
     ensures value { GivesAs (λ _. bytes.new.items) result (with_run bytes.old.items byte count) }
-    ensures short { length bytes.new.items ≤ 4096 }
+    ensures short { length bytes.new.items ≤ DATA_BYTES }
 {
     let length = bytes.len();
     if count > (DATA_BYTES - length) as u64 {
@@ -92,9 +93,9 @@ fn push_run(bytes: &mut Vec<u8>, byte: u8, count: u64) -> Result<(), BadLine>
 
 /// Takes one more character of the text.
 fn read_character(bytes: &mut Vec<u8>, place: Place, c: u8) -> Result<Place, BadLine>
-    requires { length bytes.old.items ≤ 4096 }
+    requires { length bytes.old.items ≤ DATA_BYTES }
     ensures value { GivesAs (λ now. (bytes.new.items, now)) result (next bytes.old.items place c) }
-    ensures short { length bytes.new.items ≤ 4096 }
+    ensures short { length bytes.new.items ≤ DATA_BYTES }
 {
     match place {
         Place::Front => Ok(front_at(c)),
@@ -118,9 +119,9 @@ fn read_character(bytes: &mut Vec<u8>, place: Place, c: u8) -> Result<Place, Bad
 
 /// Takes the end of the text.
 fn read_end(bytes: &mut Vec<u8>, place: Place) -> Result<(), BadLine>
-    requires { length bytes.old.items ≤ 4096 }
+    requires { length bytes.old.items ≤ DATA_BYTES }
     ensures value { GivesAs (λ _. bytes.new.items) result (at_end bytes.old.items place) }
-    ensures short { length bytes.new.items ≤ 4096 }
+    ensures short { length bytes.new.items ≤ DATA_BYTES }
 {
     match place {
         Place::Front => Ok(()),
@@ -160,7 +161,7 @@ pub(crate) fn read_data(alloc: Global, text: &[u8]) -> Result<Data, BadLine>
     ensures valid { IfOk result IsData }
 {
     let bytes = read_bytes(alloc, text)?;
-    Ok(Data::of(alloc, bytes)?.unwrap())
+    Ok(Data::of_vec(alloc, bytes)?.unwrap())
 }
 
 /// Reads the content of a block from its text, loosely; a text of more or fewer bytes is a bad spelling.
@@ -172,7 +173,7 @@ pub(crate) fn read_content(alloc: Global, text: &[u8]) -> Result<Content, BadLin
     if bytes.len() != BLOCK_BYTES {
         return Err(BadLine::Spelling);
     }
-    Ok(Content::of(alloc, bytes)?.unwrap())
+    Ok(Content::of_vec(alloc, bytes)?.unwrap())
 }
 
 /// Two lists of bytes that are spelled alike are one list.
@@ -189,7 +190,7 @@ fn is_short(run: Run) -> bool
 
 /// A hexadecimal digit in lower case.
 fn hex_digit(value: u8) -> u8
-    requires { value < 16 }
+    requires { value < DIGITS }
     ensures { result ≡ hex_digit value }
 {
     if value < 10 {
@@ -204,8 +205,8 @@ fn hex_digit(value: u8) -> u8
 fn put_hex(out: &mut Text, byte: u8)
     ensures { out.new ≡ put out.old (hex byte) }
 {
-    out.push(hex_digit(byte / 16));
-    out.push(hex_digit(byte % 16));
+    out.push(hex_digit(byte / DIGITS));
+    out.push(hex_digit(byte % DIGITS));
 }
 
 /// Puts a run's text.

@@ -11,10 +11,8 @@ use crate::bad_line::BadLine;
 use crate::buffer::Text;
 use crate::fields::then_ok;
 use std::alloc::{AllocError, Global};
+use xt_base::sizes::FLUSH_BLOCKS;
 use xt_base::steps::HomeAnswers;
-
-/// How many blocks a flush writes at most.
-const MAX_WRITES: usize = 8;
 
 /// The answers that a text names, by their first letters.
 fn named(alloc: Global, words: &[u8]) -> Result<Vec<bool>, AllocError>
@@ -32,11 +30,11 @@ fn named(alloc: Global, words: &[u8]) -> Result<Vec<bool>, AllocError>
 }
 
 /// Answers to writes, with false behind them.
-fn padded(writes: &[bool]) -> [bool; MAX_WRITES]
-    requires { length writes.now ≤ 8 }
-    ensures { result ≡ writes.now ++ replicate (8 - length writes.now) false }
+fn padded(writes: &[bool]) -> [bool; FLUSH_BLOCKS]
+    requires { length writes.now ≤ FLUSH_BLOCKS }
+    ensures { result ≡ writes.now ++ replicate (FLUSH_BLOCKS - length writes.now) false }
 {
-    let mut all = [false; MAX_WRITES];
+    let mut all = [false; FLUSH_BLOCKS];
     all[..writes.len()].copy_from_slice(writes);
     all
 }
@@ -50,11 +48,11 @@ fn flush_answers(oks: &[bool]) -> Result<HomeAnswers, BadLine>
     match oks.split_last() {
         None => Ok(HomeAnswers {
             count: 0,
-            writes: [false; MAX_WRITES],
+            writes: [false; FLUSH_BLOCKS],
             sync: false,
         }),
         Some((sync, writes)) => {
-            if writes.is_empty() || writes.len() > MAX_WRITES {
+            if writes.is_empty() || writes.len() > FLUSH_BLOCKS {
                 return Err(BadLine::Spelling);
             }
             Ok(HomeAnswers {
@@ -92,7 +90,7 @@ pub(crate) fn then_home(out: &mut Text, answers: &HomeAnswers)
     ensures { out.new ≡ put out.old (home_text answers.now) }
 {
     if answers.count > 0 {
-        let count = MAX_WRITES.min(answers.count as usize);
+        let count = FLUSH_BLOCKS.min(answers.count as usize);
         then_oks(out, &answers.writes[..count]);
         then_ok(out, answers.sync);
     }

@@ -2,38 +2,30 @@
 
 ghost use Rattle.std.specs.Fmt.{decimal};
 ghost use Rattle.std.specs.Prelude.{◌≡◌, ◌≤◌, ◌∷◌, ◌++◌, length};
+ghost use Rattle.xt_base.specs.Errors.{name_of};
 ghost use Rattle.xt_text.specs.Buffer.{put};
 ghost use Rattle.xt_text.specs.Lines.{ckpt_text, ◌␣◌};
-ghost use Rattle.xt_text.specs.Replies.{errno_text, held_text, home_offer_text, log_offer_text, reply_text, seen_text, slot_reply_text};
+ghost use Rattle.xt_text.specs.Replies.{held_text, home_offer_text, log_offer_text, reply_text, seen_text, slot_reply_text};
 
 use crate::buffer::Text;
 use crate::fields::{then_ckpt, then_data, then_number, then_ok, then_word};
 use crate::numbers::put_number;
+use crate::words::BLANK;
 use xt_base::content::HeldBlocks;
 use xt_base::names::{CkptNo, Slot};
 use xt_base::steps::{Errno, HomeOffer, LogOffer, Reason, Reply};
 
 /// The name of a refusal, as in `errno.h`.
 fn put_errno(out: &mut Text, errno: Errno)
-    ensures text { out.new ≡ put out.old (errno_text errno) }
-    ensures short { length (errno_text errno) ≤ 7 }
+    ensures text { out.new ≡ put out.old (name_of errno) }
+    ensures short { length (name_of errno) ≤ 7 }
 {
-    match errno {
-        Errno::Io => out.put(b"EIO"),
-        Errno::Again => out.put(b"EAGAIN"),
-        Errno::NoMemory => out.put(b"ENOMEM"),
-        Errno::Busy => out.put(b"EBUSY"),
-        Errno::NoDevice => out.put(b"ENODEV"),
-        Errno::Invalid => out.put(b"EINVAL"),
-        Errno::NoSpace => out.put(b"ENOSPC"),
-        Errno::NoBufs => out.put(b"ENOBUFS"),
-        Errno::Stale => out.put(b"ESTALE"),
-    }
+    out.put(errno.name().as_bytes());
 }
 
 /// What the board shows of a life: live, or why it was shut.
 fn then_seen(out: &mut Text, reason: Option<Reason>)
-    ensures text { out.new ≡ put out.old (32 ∷ seen_text reason) }
+    ensures text { out.new ≡ put out.old (BLANK ∷ seen_text reason) }
     ensures short { length (seen_text reason) ≤ 14 }
 {
     match reason {
@@ -155,7 +147,7 @@ pub fn print_slot_reply(slot: Slot, reply: &Reply, out: &mut Text)
     ensures short { length (slot_reply_text slot reply.now) ≤ 8400 }
 {
     put_number(out, slot.index() as u64);
-    out.push(b' ');
+    out.push(BLANK);
     print_reply(reply, out);
 }
 

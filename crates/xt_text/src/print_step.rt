@@ -10,13 +10,14 @@ use crate::buffer::Text;
 use crate::fields::{then_ckpt, then_data, then_name, then_number, then_ok, then_trans, then_word};
 use crate::home_answers::then_home;
 use crate::numbers::put_number;
+use crate::words::BLANK;
 use xt_base::content::Data;
 use xt_base::names::{Block, JobName, Life, Slot, TransNo, Worker};
 use xt_base::steps::{Answer, Request, Step};
 
 /// Whether a transaction may roll.
 fn then_perm(out: &mut Text, perm: bool)
-    ensures { out.new ≡ put out.old (32 ∷ perm_text perm) }
+    ensures { out.new ≡ put out.old (BLANK ∷ perm_text perm) }
 {
     out.put(if perm {
         b" perm".as_slice()
@@ -27,7 +28,7 @@ fn then_perm(out: &mut Text, perm: bool)
 
 /// The answer to a sync, if there was one.
 fn then_sync(out: &mut Text, sync: Option<bool>)
-    ensures { out.new ≡ put out.old (32 ∷ sync_text sync) }
+    ensures { out.new ≡ put out.old (BLANK ∷ sync_text sync) }
 {
     match sync {
         Some(ok) => then_ok(out, ok),
@@ -136,7 +137,7 @@ fn put_call(out: &mut Text, slot: Slot, life: Life, request: &Request, answer: &
     put_number(out, slot.index() as u64);
     out.push(b'.');
     put_number(out, life.0 as u64);
-    out.push(b' ');
+    out.push(BLANK);
     put_request(out, request);
     put_answer(out, answer);
 }

@@ -12,7 +12,7 @@ use crate::data_text::{read_content, read_data};
 use crate::home_answers::home_of;
 use crate::numbers::number_of;
 use crate::words::{
-    block_of, ckpt_of, cut, life_of, name_of, perm_of, slot_of, sync_of, trans_of, u32_of,
+    BLANK, block_of, ckpt_of, cut, life_of, name_of, perm_of, slot_of, sync_of, trans_of, u32_of,
     worker_of,
 };
 use std::alloc::Global;
@@ -26,8 +26,8 @@ fn alloc_of(words: &[u8]) -> Result<Request, BadLine>
     ensures valid { IfOk result IsRequest }
     ensures spelling { IfErr result (λ e. e ≡ Spelling) }
 {
-    let (unit, words) = cut(words, b' ');
-    let (count, perm) = cut(words, b' ');
+    let (unit, words) = cut(words, BLANK);
+    let (count, perm) = cut(words, BLANK);
     let unit = u32_of(unit)?;
     let count = u32_of(count)?;
     let perm = perm_of(perm)?;
@@ -41,7 +41,7 @@ fn own_of(words: &[u8]) -> Result<(TransNo, Block), BadLine>
     ensures range { IfOk result (λ p. (p.0 < 2 ^ 64) × (p.1 < 2 ^ 64)) }
     ensures spelling { IfErr result (λ e. e ≡ Spelling) }
 {
-    let (trans, block) = cut(words, b' ');
+    let (trans, block) = cut(words, BLANK);
     let trans = trans_of(trans)?;
     let block = block_of(block)?;
     Ok((trans, block))
@@ -53,9 +53,9 @@ fn log_of(alloc: Global, words: &[u8]) -> Result<Request, BadLine>
     ensures value { Gives result (log_of words.now) }
     ensures valid { IfOk result IsRequest }
 {
-    let (trans, words) = cut(words, b' ');
-    let (block, words) = cut(words, b' ');
-    let (first, bytes) = cut(words, b' ');
+    let (trans, words) = cut(words, BLANK);
+    let (block, words) = cut(words, BLANK);
+    let (first, bytes) = cut(words, BLANK);
     let trans = trans_of(trans)?;
     let block = block_of(block)?;
     let first = u32_of(first)?;
@@ -183,7 +183,7 @@ fn answer_of(alloc: Global, words: &[u8]) -> Result<Answer, BadLine>
     if words.is_empty() {
         return Ok(Answer::None);
     }
-    let (_equals, given) = cut(words, b' ');
+    let (_equals, given) = cut(words, BLANK);
     if given == b"fail".as_slice() {
         Ok(Answer::Failed)
     } else {
@@ -221,8 +221,8 @@ fn mount_of(words: &[u8]) -> Result<Step, BadLine>
     ensures valid { IfOk result IsStep }
     ensures spelling { IfErr result (λ e. e ≡ Spelling) }
 {
-    let (slot, words) = cut(words, b' ');
-    let (log_bytes, blocks) = cut(words, b' ');
+    let (slot, words) = cut(words, BLANK);
+    let (log_bytes, blocks) = cut(words, BLANK);
     let slot = slot_of(slot)?;
     let log_bytes = u32_of(log_bytes)?;
     let blocks = number_of(blocks)?;
@@ -239,8 +239,8 @@ fn read_of(alloc: Global, slot: Slot, life: Life, words: &[u8]) -> Result<Step, 
     ensures value { Gives result (read_of slot life words.now) }
     ensures valid { IfOk result IsStep }
 {
-    let (trans, words) = cut(words, b' ');
-    let (block, answer) = cut(words, b' ');
+    let (trans, words) = cut(words, BLANK);
+    let (block, answer) = cut(words, BLANK);
     let trans = trans_of(trans)?;
     let block = block_of(block)?;
     let answer = answer_of(alloc, answer)?;
@@ -282,10 +282,10 @@ fn asked_of(
 fn call_of(alloc: Global, mount: &[u8], words: &[u8]) -> Result<Step, BadLine>
     ensures value { Gives result (call_of mount.now words.now) }
     ensures valid { IfOk result IsStep }
-    ensures memory { IsErrOf result Memory → IsTrue (takes_data (before 32 words.now)) }
+    ensures memory { IsErrOf result Memory → IsTrue (takes_data (before BLANK words.now)) }
 {
     let (slot, life) = cut(mount, b'.');
-    let (verb, words) = cut(words, b' ');
+    let (verb, words) = cut(words, BLANK);
     let slot = slot_of(slot)?;
     let life = life_of(life)?;
     asked_of(alloc, slot, life, verb, words)
@@ -309,7 +309,7 @@ fn take_of(words: &[u8]) -> Result<Step, BadLine>
     ensures valid { IfOk result IsStep }
     ensures spelling { IfErr result (λ e. e ≡ Spelling) }
 {
-    let (worker, name) = cut(words, b' ');
+    let (worker, name) = cut(words, BLANK);
     let worker = worker_of(worker)?;
     let name = name_of(name)?;
     Ok(Step::Take { worker, name })
@@ -322,7 +322,7 @@ fn begin_of(words: &[u8]) -> Result<Step, BadLine>
     ensures valid { IfOk result IsStep }
     ensures spelling { IfErr result (λ e. e ≡ Spelling) }
 {
-    let (worker, name) = cut(words, b' ');
+    let (worker, name) = cut(words, BLANK);
     let worker = worker_of(worker)?;
     let name = name_of(name)?;
     Ok(Step::Begin { worker, name })
@@ -335,9 +335,9 @@ fn end_of(words: &[u8]) -> Result<Step, BadLine>
     ensures valid { IfOk result IsStep }
     ensures spelling { IfErr result (λ e. e ≡ Spelling) }
 {
-    let (worker, words) = cut(words, b' ');
-    let (name, words) = cut(words, b' ');
-    let (taken, sync) = cut(words, b' ');
+    let (worker, words) = cut(words, BLANK);
+    let (name, words) = cut(words, BLANK);
+    let (taken, sync) = cut(words, BLANK);
     let worker = worker_of(worker)?;
     let name = name_of(name)?;
     let taken = u32_of(taken)?;
@@ -355,8 +355,8 @@ fn flush_of(alloc: Global, words: &[u8]) -> Result<Step, BadLine>
     ensures value { Gives result (flush_of words.now) }
     ensures valid { IfOk result IsStep }
 {
-    let (worker, words) = cut(words, b' ');
-    let (name, answers) = cut(words, b' ');
+    let (worker, words) = cut(words, BLANK);
+    let (name, answers) = cut(words, BLANK);
     let worker = worker_of(worker)?;
     let name = name_of(name)?;
     let answers = home_of(alloc, answers)?;
@@ -400,8 +400,8 @@ fn words_step(alloc: Global, word: &[u8], words: &[u8]) -> Result<Step, BadLine>
 pub(crate) fn step_of(alloc: Global, line: &[u8]) -> Result<Step, BadLine>
     ensures value { Gives result (step_of line.now) }
     ensures valid { IfOk result IsStep }
-    ensures memory { IsErrOf result Memory → IsTrue (takes_words (before 32 line.now) (behind 32 line.now)) }
+    ensures memory { IsErrOf result Memory → IsTrue (takes_words (before BLANK line.now) (behind BLANK line.now)) }
 {
-    let (word, words) = cut(line, b' ');
+    let (word, words) = cut(line, BLANK);
     words_step(alloc, word, words)
 }

@@ -9,6 +9,7 @@ use std::alloc::Global;
 use std::process::Abort;
 use std::test::Fail;
 use xt_base::content::{Content, Data, HeldBlocks};
+use xt_base::form::Form;
 use xt_base::names::{Block, CkptNo, Life, Slot, TransNo};
 use xt_base::steps::{
     Answer, Errno, HomeAnswers, HomeOffer, LogOffer, Reason, Reply, Request, Step,
@@ -478,7 +479,7 @@ fn replies_are_printed(rt: HostRuntime) -> Result<(), Fail> {
     says(
         &rt,
         &mut out,
-        &Reply::Data(Content::zeros(rt.alloc())?),
+        &Reply::Data(Content::zeros(rt.alloc(), Form::one())?),
         "data 00*4096",
     );
     says(&rt, &mut out, &Reply::Nothing, "nothing");
@@ -561,12 +562,12 @@ fn names_of_refusals_and_reasons_are_printed(rt: HostRuntime) -> Result<(), Fail
 fn offers_are_printed(rt: HostRuntime) -> Result<(), Fail> {
     let mut out = Text::new(rt.alloc())?;
     let slot = Slot::new(15).ok_or("a slot")?;
-    let bytes = Data::of(rt.alloc(), vec![in rt.alloc(); 0xaa; 32]?)?.ok_or("few bytes")?;
+    let bytes = Data::of(rt.alloc(), &[0xaa; 32])?.ok_or("few bytes")?;
     print_log_offer(slot, &LogOffer::Piece { bytes, ok: true }, &mut out);
     out.put(b"\n");
     print_log_offer(slot, &LogOffer::Sync { ok: false }, &mut out);
     out.put(b"\n");
-    let content = Content::zeros(rt.alloc())?;
+    let content = Content::zeros(rt.alloc(), Form::one())?;
     print_home_offer(
         slot,
         &HomeOffer::Write {

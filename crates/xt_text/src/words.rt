@@ -11,6 +11,10 @@ ghost use Rattle.xt_text.specs.declared.bad_line.BadLine.TheVariants.{Spelling};
 use crate::bad_line::BadLine;
 use crate::numbers::{below, number_of};
 use xt_base::names::{Block, CkptNo, JobKind, JobName, Life, Slot, TransNo, Worker};
+use xt_base::sizes::{SLOTS, WORKERS};
+
+/// What stands between the words of a line.
+pub const BLANK: u8 = b' ';
 
 /// The place of the first separator; the length of a text that has none.
 fn place_of(text: &[u8], separator: u8) -> usize
@@ -44,21 +48,21 @@ pub(crate) fn u32_of(word: &[u8]) -> Result<u32, BadLine>
 
 /// A slot.
 pub(crate) fn slot_of(word: &[u8]) -> Result<Slot, BadLine>
-    ensures value { Gives result (below 16 word.now) }
-    ensures range { IfOk result (λ slot. slot < 16) }
+    ensures value { Gives result (below SLOTS word.now) }
+    ensures range { IfOk result (λ slot. slot < SLOTS) }
     ensures spelling { IfErr result (λ e. e ≡ Spelling) }
 {
-    let index = below(word, 16)?;
+    let index = below(word, SLOTS as u64)?;
     Ok(Slot::new(index as u8).unwrap())
 }
 
 /// A worker.
 pub(crate) fn worker_of(word: &[u8]) -> Result<Worker, BadLine>
-    ensures value { Gives result (below 8 word.now) }
-    ensures range { IfOk result (λ worker. worker < 8) }
+    ensures value { Gives result (below WORKERS word.now) }
+    ensures range { IfOk result (λ worker. worker < WORKERS) }
     ensures spelling { IfErr result (λ e. e ≡ Spelling) }
 {
-    let index = below(word, 8)?;
+    let index = below(word, WORKERS as u64)?;
     Ok(Worker::new(index as u8).unwrap())
 }
 

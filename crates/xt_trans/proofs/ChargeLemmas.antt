@@ -13,25 +13,25 @@ use Rattle.xt_base.specs.State.{Leg}
 use Rattle.xt_trans.specs.LegItems.{AreItems, change_if, leg_of}
 use Rattle.xt_trans.specs.declared.trans.BufItem.{BufItem}
 
-if_not : (b : Bool) → ◌≡◌ {A = ℕ} (if not b then 0 else 32) (if b then 32 else 0)
-if_not true = refl
-if_not false = refl
+if_not : (ends : ℕ) (b : Bool) → ◌≡◌ {A = ℕ} (if not b then 0 else ends) (if b then ends else 0)
+if_not ends true = refl
+if_not ends false = refl
 
 sixteen : (b : Bool) → ◌≡◌ {A = ℕ} (if b then 0 else 16) (16 * (if b then 0 else 1))
 sixteen true = refl
 sixteen false = refl
 
 -- the charge after an edit, by what is charged anew
-pub newly_edited : (b : ℕ) (marked : List ℕ) (leg : Leg) (blocks chunks : ℕ) → IsRising leg.changes → blocks ≡ (if is_in b leg.changes then 0 else 1)
+pub newly_edited : (ends b : ℕ) (marked : List ℕ) (leg : Leg) (blocks chunks : ℕ) → IsRising leg.changes → blocks ≡ (if is_in b leg.changes then 0 else 1)
     → length (union (change_of b leg).charged marked) ≡ length (change_of b leg).charged + chunks
-    → charge (edited b [] marked leg).changes ≡ charge leg.changes + (if is_dirty leg then 0 else 32) + 16 * blocks + 128 * chunks
-newly_edited b marked leg blocks chunks r one more =
-    omega (arith, charge_logged b [] marked leg r, if_not (length leg.changes == 0), sixteen (is_in b leg.changes), one, more)
+    → charge ends (edited b [] marked leg).changes ≡ charge ends leg.changes + (if is_dirty leg then 0 else ends) + 16 * blocks + 128 * chunks
+newly_edited ends b marked leg blocks chunks r one more =
+    omega (arith, charge_logged ends b [] marked leg r, if_not ends (length leg.changes == 0), sixteen (is_in b leg.changes), one, more)
 
 -- the charge after an invalidation, by what is charged anew
-pub newly_stale : (b : ℕ) (leg : Leg) (blocks chunks : ℕ) → IsRising leg.changes → blocks ≡ (if is_in b leg.changes then 0 else 1) → chunks ≡ 0
-    → charge (invalidated b leg).changes ≡ charge leg.changes + (if is_dirty leg then 0 else 32) + 16 * blocks + 128 * chunks
-newly_stale b leg blocks chunks r one none = omega (arith, charge_invalidated b leg r, if_not (length leg.changes == 0), sixteen (is_in b leg.changes), one, none)
+pub newly_stale : (ends b : ℕ) (leg : Leg) (blocks chunks : ℕ) → IsRising leg.changes → blocks ≡ (if is_in b leg.changes then 0 else 1) → chunks ≡ 0
+    → charge ends (invalidated b leg).changes ≡ charge ends leg.changes + (if is_dirty leg then 0 else ends) + 16 * blocks + 128 * chunks
+newly_stale ends b leg blocks chunks r one none = omega (arith, charge_invalidated ends b leg r, if_not ends (length leg.changes == 0), sixteen (is_in b leg.changes), one, none)
 
 -- the changes of a leg rise
 pub changes_rise : (es : List (ℕ × BufItem)) → AreItems es → IsRising (leg_of es).changes

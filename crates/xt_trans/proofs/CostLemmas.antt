@@ -68,13 +68,13 @@ sum_marked n (e ∷ cs) m r rising =
     omega (arith, later, gains, losses, sum_put item_cost 0 e.0 j m rising, weight_is e.0 (at e.0 m), sum_by-cons (gain_of m) e cs, sum_by-cons (loss_of m) e cs)
 
 -- the cost of a list of items, by what they cost
-pub cost_none : (es : List (ℕ × List ℕ)) → sum_by item_cost es ≡ 0 → cost es ≡ 0
-cost_none [] h = refl
-cost_none (e ∷ es) h = absurd (omega (arith, h, sum_by-cons item_cost e es))
+pub cost_none : (ends : ℕ) (es : List (ℕ × List ℕ)) → sum_by item_cost es ≡ 0 → cost ends es ≡ 0
+cost_none ends [] h = refl
+cost_none ends (e ∷ es) h = absurd (omega (arith, h, sum_by-cons item_cost e es))
 
-pub cost_some : (es : List (ℕ × List ℕ)) → sum_by item_cost es ≢ 0 → cost es ≡ 32 + sum_by item_cost es
-cost_some [] h = absurd (h refl)
-cost_some (e ∷ es) h = cost-cons e es
+pub cost_some : (ends : ℕ) (es : List (ℕ × List ℕ)) → sum_by item_cost es ≢ 0 → cost ends es ≡ ends + sum_by item_cost es
+cost_some ends [] h = absurd (h refl)
+cost_some ends (e ∷ es) h = cost-cons ends e es
 
 -- the items with the marks of some entries joined to them
 pub cost_parts : (es : List (ℕ × BufItem)) (list : List (ℕ × List ℕ)) → IsRising es → IsRising list
@@ -83,8 +83,8 @@ cost_parts es list rises rising =
     omega (arith, sum_marked 0 (leg_of es).changes list (rises_view change_if 0 es rises) rising, gains_are list es, losses_are list es)
 
 -- and their cost
-pub cost_is_none : (total : ℕ) (ms : List (ℕ × List ℕ)) → total ≡ sum_by item_cost ms → total ≡ 0 → 0 ≡ cost ms
-cost_is_none total ms is none = sym (cost_none ms (sym is ∙ none))
+pub cost_is_none : (ends total : ℕ) (ms : List (ℕ × List ℕ)) → total ≡ sum_by item_cost ms → total ≡ 0 → 0 ≡ cost ends ms
+cost_is_none ends total ms is none = sym (cost_none ends ms (sym is ∙ none))
 
-pub cost_is_some : (total : ℕ) (ms : List (ℕ × List ℕ)) → total ≡ sum_by item_cost ms → total ≢ 0 → 32 + total ≡ cost ms
-cost_is_some total ms is some = ap (λ (n : ℕ). 32 + n) is ∙ sym (cost_some ms (λ z. some (is ∙ z)))
+pub cost_is_some : (ends total : ℕ) (ms : List (ℕ × List ℕ)) → total ≡ sum_by item_cost ms → total ≢ 0 → ends + total ≡ cost ends ms
+cost_is_some ends total ms is some = ap (λ (n : ℕ). ends + n) is ∙ sym (cost_some ends ms (λ z. some (is ∙ z)))

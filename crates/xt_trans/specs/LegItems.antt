@@ -6,6 +6,7 @@ use Rattle.xt_base.specs.Marks.{Marks, marks_of}
 use Rattle.xt_base.specs.Sound.{Each, IsRising}
 use Rattle.xt_base.specs.State.{Change, Leg}
 use Rattle.xt_base.specs.Views.{keys_where, view}
+use Rattle.xt_base.specs.declared.sizes.TheConstants.{CHUNK_COST, ITEM_COST}
 use Rattle.xt_trans.specs.declared.trans.BufItem.{BufItem}
 
 -- whether an entry's block has the hold mark
@@ -67,11 +68,11 @@ item_at b es = unwrap_or (at b es) blank
 -- what an item of a commit list costs, if it stands there
 abbrev pub standing_cost : Option (List ℕ) → ℕ
 standing_cost None = 0
-standing_cost (Some chunks) = 16 + 128 * length chunks
+standing_cost (Some chunks) = ITEM_COST + CHUNK_COST * length chunks
 
 -- what the item of an entry's block costs with the entry's marks, if the entry changes it
 abbrev pub item_gain : BufItem → Option (List ℕ) → ℕ
-item_gain i old = if is_item_dirty i then 16 + 128 * length (joined_marks old (change_in i)) else 0
+item_gain i old = if is_item_dirty i then ITEM_COST + CHUNK_COST * length (joined_marks old (change_in i)) else 0
 
 -- what it costs without them
 abbrev pub item_loss : BufItem → Option (List ℕ) → ℕ

@@ -4,3 +4,5 @@
 #[cfg(test)]
 mod tests;
 pub mod trans;
+
+pub use trans::{BufItem, Change, TransRec};

@@ -4,6 +4,7 @@ use crate::trans::TransRec;
 use std::test::*;
 use xt_base::chunks::Chunks;
 use xt_base::content::Content;
+use xt_base::form::Form;
 
 /// Where memory is refused, the call that took it says so, and the leg answers as before. Run it with each allocation
 /// failing in turn.
@@ -13,12 +14,12 @@ fn memory_refused(rt: HostRuntime) {
     let Ok(mut leg) = TransRec::new(alloc) else {
         return;
     };
-    let Ok(edit) = Content::zeros(alloc) else {
+    let Ok(edit) = Content::zeros(alloc, Form::one()) else {
         return;
     };
     leg.hold(7);
     leg.log(7, edit, Chunks::mark(0, 1));
-    let is_seen = leg.seen(alloc, None, 7, false, None).is_ok();
+    let is_seen = leg.seen(alloc, Form::one(), None, 7, false, None).is_ok();
     let is_told = leg.held(alloc).is_ok();
     assert!(rt; is_seen || is_told);
     assert!(rt; leg.is_held(7) && leg.is_changed(7));

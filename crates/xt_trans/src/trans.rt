@@ -1,7 +1,7 @@
 //! What the present leg of a transaction did to its blocks: the bytes written, the chunks marked and charged, and which blocks
 //! are invalidated or stay locked when the leg ends.
 
-ghost use Rattle.std.specs.Prelude.{◌≡◌, ◌+◌, ◌*◌, ◌<◌, ◌≤◌, ◌==◌, ◌∷◌, [], Some, None, false, true, if◌then◌else◌, length, option_copied, option_map, sum_by, unwrap_or, IfOk, IfSome, MatchOption, is_none};
+ghost use Rattle.std.specs.Prelude.{ℕ, ◌≡◌, ◌+◌, ◌*◌, ◌<◌, ◌≤◌, ◌==◌, ◌∷◌, [], Some, None, false, true, if◌then◌else◌, length, option_copied, option_map, sum_by, unwrap_or, IfOk, IfSome, MatchOption, is_none};
 ghost use Rattle.xt_base.specs.Calls.{edited, held_of, invalidated as invalidated_leg, seen_with, without_hold};
 ghost use Rattle.xt_base.specs.Chunks.{union as either};
 ghost use Rattle.xt_base.specs.Legs.{change_of, clean_leg, is_dirty, is_stale, joined_marks, with_marks};
@@ -16,10 +16,12 @@ use std::alloc::{AllocError, Global};
 use std::marker::Model;
 use xt_base::chunks::Chunks;
 use xt_base::content::{Content, HeldBlocks};
+use xt_base::form::Form;
 use xt_base::map::NumberMap;
 use xt_base::marks::ItemMarks;
 use xt_base::names::Block;
 use xt_base::newly::Newly;
+use xt_base::sizes::{BUSY_BLOCKS, CHUNK_COST, CHUNKS, ITEM_COST, MOST_ENDS, ROOM};
 
 /// What a leg did to one block, after `xfs_buf_log_item`: its marks, the bytes, if it was changed, the chunks marked, and
 /// the chunks charged.
@@ -126,43 +128,48 @@ impl TransRec {
     pub fn seen(
         &self,
         alloc: Global,
+        form: Form,
         spare: Option<Content>,
         block: u64,
         is_fresh: bool,
         committed: Option<&Content>,
     ) -> Result<Content, AllocError>
-        ensures { IfOk result (λ content. content ≡ seen_with block self.now is_fresh (unwrap_or (option_copied committed.entry) zeros)) }
+        ensures { IfOk result (λ content. content ≡ seen_with form.size block self.now is_fresh (unwrap_or (option_copied committed.entry) (zeros form.size))) }
     {
         if let Some(edit) = self.edit(block) {
             return edit.copy_over(alloc, spare);
         }
         if is_fresh || self.is_stale(block) {
-            return Content::zeros(alloc);
+            return Content::zeros(alloc, form);
         }
         match committed {
             Some(content) => content.copy_over(alloc, spare),
-            None => Content::zeros(alloc),
+            None => Content::zeros(alloc, form),
         }
     }
 
-    /// What a commit list costs once the marks of this leg were joined to it: the length of its checkpoint text, at most
-    /// 1,052,704.
-    pub fn cost_with(&self, list: &NumberMap<Chunks>) -> u64
+    /// What a commit list costs once the marks of this leg were joined to it: the length of its checkpoint text of this form,
+    /// at most 1,052,708.
+    pub fn cost_with(&self, form: Form, list: &NumberMap<Chunks>) -> u64
         requires { IsRising list.now }
-        ensures value { result ≡ cost (with_marks self.now.changes list.now) }
-        ensures range { result ≤ 1052704 }
+        ensures value { result ≡ cost form.ends (with_marks self.now.changes list.now) }
+        ensures range { result ≤ MOST_ENDS + 2 * ROOM * (ITEM_COST + CHUNK_COST * CHUNKS) }
     {
         let entries = self.items.entries();
         let total = standing(list.entries()) + gained(entries, list) - lost(entries, list);
-        if total == 0 { 0 } else { 32 + total }
+        if total == 0 {
+            0
+        } else {
+            u64::from(form.ends()) + total
+        }
     }
 
     /// What the leg would charge anew, were these chunks of a block changed too.
     pub fn newly_logged(&self, block: u64, marked: Chunks) -> Newly
         ensures blocks { result.blocks ≡ (if is_in block self.now.changes then 0 else 1) }
         ensures chunks { length (either (change_of block self.now).charged marked) ≡ length (change_of block self.now).charged + result.chunks }
-        ensures range { result.chunks ≤ 32 }
-        ensures charge { charge (edited block [] marked self.now).changes ≡ charge self.now.changes + (if is_dirty self.now then 0 else 32) + 16 * result.blocks + 128 * result.chunks }
+        ensures range { result.chunks ≤ CHUNKS }
+        ensures charge { (ends : ℕ) → charge ends (edited block [] marked self.now).changes ≡ charge ends self.now.changes + (if is_dirty self.now then 0 else ends) + ITEM_COST * result.blocks + CHUNK_COST * result.chunks }
     {
         let _ = &self.items;
         let chunks = self.charged_of(block).lacks(marked);
@@ -176,7 +183,7 @@ impl TransRec {
     pub fn newly_invalidated(&self, block: u64) -> Newly
         ensures blocks { result.blocks ≡ (if is_in block self.now.changes then 0 else 1) }
         ensures chunks { result.chunks ≡ 0 }
-        ensures charge { charge (invalidated_leg block self.now).changes ≡ charge self.now.changes + (if is_dirty self.now then 0 else 32) + 16 * result.blocks + 128 * result.chunks }
+        ensures charge { (ends : ℕ) → charge ends (invalidated_leg block self.now).changes ≡ charge ends self.now.changes + (if is_dirty self.now then 0 else ends) + ITEM_COST * result.blocks + CHUNK_COST * result.chunks }
     {
         let _ = &self.items;
         Newly {
@@ -197,7 +204,7 @@ impl TransRec {
 
     /// The blocks with the hold mark, ascending, if there are some. The one error is want of memory.
     pub fn held(&self, alloc: Global) -> Result<Option<HeldBlocks>, AllocError>
-        requires { length self.now.holds ≤ 64 }
+        requires { length self.now.holds ≤ BUSY_BLOCKS }
         ensures { IfOk result (λ blocks. blocks ≡ held_of self.now.holds) }
     {
         let blocks = held_blocks(alloc, self.items.entries())?;
@@ -206,7 +213,7 @@ impl TransRec {
 
     /// A block has these bytes in the leg, and these chunks are marked and charged too. One that was invalidated is so no more.
     pub fn log(&mut self, block: u64, edit: Content, marked: Chunks)
-        requires { is_in block self.old.changes ≡ false → length self.old.changes + length self.old.holds < 128 }
+        requires { is_in block self.old.changes ≡ false → length self.old.changes + length self.old.holds < ROOM }
         ensures { self.new ≡ edited block edit marked self.old }
     {
         let item = take_item(&mut self.items, block);
@@ -215,7 +222,7 @@ impl TransRec {
 
     /// A block is invalidated: its bytes, marks and hold mark go, and what it was charged stays.
     pub fn inval(&mut self, block: u64)
-        requires { is_in block self.old.changes ≡ false → length self.old.changes + length self.old.holds < 128 }
+        requires { is_in block self.old.changes ≡ false → length self.old.changes + length self.old.holds < ROOM }
         ensures { self.new ≡ invalidated_leg block self.old }
     {
         let item = take_item(&mut self.items, block);
@@ -224,7 +231,7 @@ impl TransRec {
 
     /// A block stays locked when the leg ends.
     pub fn hold(&mut self, block: u64)
-        requires { has self.old.holds block ≡ false → length self.old.changes + length self.old.holds < 128 }
+        requires { has self.old.holds block ≡ false → length self.old.changes + length self.old.holds < ROOM }
         ensures { self.new ≡ record self.old { holds = with_member block self.old.holds } }
     {
         let item = take_item(&mut self.items, block);
@@ -288,13 +295,13 @@ impl TransRec {
 
 /// What the items of a commit list cost.
 fn standing(list: &[(u64, Chunks)]) -> u64
-    requires { length list.now ≤ 128 }
+    requires { length list.now ≤ ROOM }
     ensures value { result ≡ sum_by item_cost list.now }
-    ensures range { result ≤ 526336 }
+    ensures range { result ≤ ROOM * (ITEM_COST + CHUNK_COST * CHUNKS) }
 {
     let mut total = 0;
     for e in list {
-        total += 16 + 128 * e.1.count() as u64;
+        total += ITEM_COST + CHUNK_COST * e.1.count() as u64;
     }
     total
 }
@@ -312,10 +319,10 @@ fn joined(item: &BufItem, old: Option<&Chunks>) -> Chunks
 /// What the commit list's item of an entry's block costs with the entry's marks.
 fn gain(item: &BufItem, old: Option<&Chunks>) -> u64
     ensures value { result ≡ item_gain item.now (option_copied old.entry) }
-    ensures range { result ≤ 4112 }
+    ensures range { result ≤ ITEM_COST + CHUNK_COST * CHUNKS }
 {
     if item.marks.is_dirty() {
-        16 + 128 * joined(item, old).count() as u64
+        ITEM_COST + CHUNK_COST * joined(item, old).count() as u64
     } else {
         0
     }
@@ -324,19 +331,19 @@ fn gain(item: &BufItem, old: Option<&Chunks>) -> u64
 /// What the commit list's item of an entry's block costs, if the entry changes it.
 fn loss(item: &BufItem, old: Option<&Chunks>) -> u64
     ensures value { result ≡ item_loss item.now (option_copied old.entry) }
-    ensures range { result ≤ 4112 }
+    ensures range { result ≤ ITEM_COST + CHUNK_COST * CHUNKS }
 {
     match old {
-        Some(chunks) if item.marks.is_dirty() => 16 + 128 * chunks.count() as u64,
+        Some(chunks) if item.marks.is_dirty() => ITEM_COST + CHUNK_COST * chunks.count() as u64,
         _ => 0,
     }
 }
 
 /// What the items of changed blocks cost on a commit list with the marks of these entries.
 fn gained(items: &[(u64, BufItem)], list: &NumberMap<Chunks>) -> u64
-    requires { length items.now ≤ 128 }
+    requires { length items.now ≤ ROOM }
     ensures value { result ≡ sum_by (gain_in list.now) items.now }
-    ensures range { result ≤ 526336 }
+    ensures range { result ≤ ROOM * (ITEM_COST + CHUNK_COST * CHUNKS) }
 {
     let mut total = 0;
     for e in items {
@@ -347,9 +354,9 @@ fn gained(items: &[(u64, BufItem)], list: &NumberMap<Chunks>) -> u64
 
 /// What the items of changed blocks cost on a commit list without them.
 fn lost(items: &[(u64, BufItem)], list: &NumberMap<Chunks>) -> u64
-    requires { length items.now ≤ 128 }
+    requires { length items.now ≤ ROOM }
     ensures value { result ≡ sum_by (loss_in list.now) items.now }
-    ensures range { result ≤ 526336 }
+    ensures range { result ≤ ROOM * (ITEM_COST + CHUNK_COST * CHUNKS) }
 {
     let mut total = 0;
     for e in items {
@@ -421,7 +428,7 @@ fn take_dirty(items: &mut NumberMap<BufItem>, block: u64) -> BufItem
 fn take_item(items: &mut NumberMap<BufItem>, block: u64) -> BufItem
     ensures value { result ≡ item_at block items.old }
     ensures rest { items.new ≡ without block items.old }
-    ensures room { (is_in block items.old ≡ false → length items.old < 128) → length items.new < 128 }
+    ensures room { (is_in block items.old ≡ false → length items.old < ROOM) → length items.new < ROOM }
 {
     match items.remove(block) {
         Some(item) => item,

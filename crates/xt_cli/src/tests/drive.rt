@@ -96,7 +96,7 @@ fn read(alloc: Global, home: &mut dyn HomeDevice, block: Block) -> Result<Answer
     if home.read(block, &mut bytes).is_err() {
         return Ok(Answer::Failed);
     }
-    match Content::of(alloc, bytes.as_slice().to_vec(alloc)?)? {
+    match Content::of(alloc, bytes.as_slice())? {
         Some(content) => Ok(Answer::Content(content)),
         None => Err(Fail::from("the length of a block")),
     }

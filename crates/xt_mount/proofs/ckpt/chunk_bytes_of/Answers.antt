@@ -1,15 +1,14 @@
 use Rattle.std.proofs.Common.{◌*◌, ◌∙◌, ◌++◌, [], ℕ, List, ap, sym, length, arith, if◌then◌else◌}
-use Rattle.std.specs.Prelude.{◌==◌, flat_map, option_copied, Bool}
+use Rattle.std.specs.Prelude.{◌==◌, flat_map, Bool}
 use Rattle.std.specs.Int.{bit_at}
 use Rattle.xt_base.specs.Text.{chunk}
-use Rattle.xt_mount.specs.Texts.{seen_content}
 use Rattle.xt_mount.proofs.CkptLemmas.{marked_step, marked_count, marked_all}
 use Rattle.xt_mount.proofs.ckpt.chunk_bytes_of.Goals as goal
 
 pub loop-k-preserved : goal.loop-k-preserved
 loop-k-preserved c =
     let marked : ℕ → Bool = λ k. bit_at c.word-word.result k == 1 in
-    let bytes : ℕ → List ℕ = chunk (seen_content (option_copied c.args.content)) in
+    let bytes : ℕ → List ℕ = chunk c.args.content.now in
     record {
       bytes = c.in_ok-push_if_marked.ensures.bytes ∙ ap (λ xs. xs ++ (if marked c.loop-k.k then bytes c.loop-k.k else [])) c.loop-k.invariant.bytes ∙ sym (marked_step bytes marked c.loop-k.k);
       form = omega (arith, c.in_ok-push_if_marked.ensures.count, c.loop-k.invariant.form, marked_count marked c.loop-k.k);
@@ -17,7 +16,7 @@ loop-k-preserved c =
 
 pub returns-clause-bytes : goal.returns-clause-bytes
 returns-clause-bytes c =
-    c.loop-k.invariant.bytes ∙ ap (flat_map (chunk (seen_content (option_copied c.args.content)))) (marked_all c.word-word.result c.loop-k.k c.args.chunks c.loop-k-test.false c.loop-k.auto.k-end c.word-word.ensures.back)
+    c.loop-k.invariant.bytes ∙ ap (flat_map (chunk c.args.content.now)) (marked_all c.word-word.result c.loop-k.k c.args.chunks c.loop-k-test.false c.loop-k.auto.k-end c.word-word.ensures.back)
 
 pub returns-clause-form : goal.returns-clause-form
 returns-clause-form c =

@@ -1,13 +1,12 @@
 use Rattle.std.proofs.Common.{◌≡◌, ◌*◌, length, filter}
-use Rattle.std.specs.Prelude.{◌==◌, flat_map, option_copied}
+use Rattle.std.specs.Prelude.{◌==◌, flat_map}
 use Rattle.std.specs.Int.{bit_at}
 use Rattle.xt_base.specs.Chunks.{below}
 use Rattle.xt_base.specs.Text.{chunk}
-use Rattle.xt_mount.specs.Texts.{seen_content}
 use Rattle.xt_mount.proofs.ckpt.chunk_bytes_of.Given as goal
 
 abbrev pub invariant-loop-k : goal.invariant-loop-k
 invariant-loop-k l = record {
-  bytes : l.bytes.items ≡ flat_map (chunk (seen_content (option_copied l.content))) (filter (λ k. bit_at l.word k == 1) (below l.k));
+  bytes : l.bytes.items ≡ flat_map (chunk l.content) (filter (λ k. bit_at l.word k == 1) (below l.k));
   form : length l.bytes.items ≡ 128 * length (filter (λ k. bit_at l.word k == 1) (below l.k));
 }

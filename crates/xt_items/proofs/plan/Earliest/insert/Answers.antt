@@ -15,16 +15,16 @@ loop-place-preserved c =
       list = shifted_more c.loop-place.place now.count now.entries _ c.loop-place.carried (0, 0) (omega arith) (omega arith) i.list;
     }
 
-pub returns-then-self-lt-PLAN : goal.returns-then-self-lt-PLAN
-returns-then-self-lt-PLAN c =
+pub returns-then-self-lt-FLUSH_BLOCKS : goal.returns-then-self-lt-FLUSH_BLOCKS
+returns-then-self-lt-FLUSH_BLOCKS c =
     let now = c.loop-place.self-inside in
     let i = c.loop-place.invariant in
     let old : length (take c.self.inside.count c.self.inside.entries) ≡ c.self.inside.count = length-take-le c.self.inside.count c.self.inside.entries (omega arith) in
     let at : c.loop-place.place ≡ now.count = omega (arith, ap length c.self.view_is) in
     room_left 8 now.count now.entries (inserted c.args.at c.args.entry c.args.self.now) c.loop-place.carried (omega arith) (omega arith) (ap (λ k. inserted k c.loop-place.carried (take now.count now.entries)) (sym at) ∙ i.list)
 
-pub returns-else-self-lt-PLAN : goal.returns-else-self-lt-PLAN
-returns-else-self-lt-PLAN c =
+pub returns-else-self-lt-FLUSH_BLOCKS : goal.returns-else-self-lt-FLUSH_BLOCKS
+returns-else-self-lt-FLUSH_BLOCKS c =
     let now = c.loop-place.self-inside in
     let i = c.loop-place.invariant in
     let old : length (take c.self.inside.count c.self.inside.entries) ≡ c.self.inside.count = length-take-le c.self.inside.count c.self.inside.entries (omega arith) in

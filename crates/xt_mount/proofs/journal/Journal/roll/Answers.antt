@@ -26,7 +26,7 @@ invariant_of-self-2 c =
     let whole = granted_in c.args.trans c.in-Some.opened c.self.inside.transactions _ there c.remove.ensures.rest c.new.result _ rises c.put_new.ensures in (
       omega (arith, whole, within, c.self.invariant.0, ap (λ (l : Ledger). l.granted) ledger, ap (λ (g : Grant). g.unit * g.legs) c.into_parts-ticket.ensures.ticket, ap (λ (x : Transaction). x.unit * x.legs) c.new.ensures, ap (λ (g : Grant). g.unit * g.legs) ticket),
       ap (λ (l : Ledger). l.cil) ledger ∙ c.cil_cost.ensures.value,
-      ap (λ (l : Ledger). l.flight) ledger ∙ c.self.invariant.2 ∙ ap (λ (l : Lists). flight_of l.flight) (sym c.keep_changes.ensures.cil),
+      ap (λ (l : Ledger). l.flight) ledger ∙ c.self.invariant.2 ∙ ap (λ (l : Lists). flight_of c.self.inside.form.ends l.flight) (sym c.keep_changes.ensures.cil),
     )
 
 pub returns-clause-pages : goal.returns-clause-pages

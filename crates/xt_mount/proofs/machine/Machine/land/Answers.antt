@@ -11,7 +11,7 @@ use Rattle.xt_mount.proofs.machine.Machine.land.Goals as goal
 pub land-requires-clause-room : goal.land-requires-clause-room
 land-requires-clause-room c =
     let s : State = state_of c.args.self.now in
-    omega (arith, few_active s.log_bytes s.owners s.transactions s.items c.requires.sound.parts, few_flying s.log_bytes s.owners s.transactions s.items c.requires.sound.parts)
+    omega (arith, few_active s.form.ends s.log_bytes s.owners s.transactions s.items c.requires.sound.parts, few_flying s.form.ends s.log_bytes s.owners s.transactions s.items c.requires.sound.parts)
 
 pub returns : goal.returns
 returns c =

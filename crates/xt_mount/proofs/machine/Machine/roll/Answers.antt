@@ -5,7 +5,7 @@ use Rattle.xt_base.specs.Calls.{gives, held_of}
 use Rattle.xt_base.specs.Legs.{is_dirty}
 use Rattle.xt_base.specs.State.{Leg}
 use Rattle.xt_mount.proofs.EndLemmas.{if_some}
-use Rattle.xt_mount.proofs.RollLemmas.{changes_rise, grant_there, paid_charge, roll_goes_on, roll_waits, room_is}
+use Rattle.xt_mount.proofs.RollLemmas.{changes_rise, grant_there, paid_unit, roll_goes_on, roll_waits, room_is}
 use Rattle.xt_mount.specs.Machines.{state_of}
 use Rattle.xt_mount.proofs.machine.Machine.roll.Goals as goal
 
@@ -16,7 +16,7 @@ pub finds_no_room-requires-clause-granted : goal.finds_no_room-requires-clause-g
 finds_no_room-requires-clause-granted c = grant_there (state_of c.args.self.now) c.requires c.args.trans c.in-Some.opened.now c.in-Some.ensures
 
 pub finds_no_room-requires-clause-paid : goal.finds_no_room-requires-clause-paid
-finds_no_room-requires-clause-paid c = paid_charge (state_of c.args.self.now) c.requires c.args.trans c.in-Some.opened.now c.in-Some.ensures
+finds_no_room-requires-clause-paid c = paid_unit (state_of c.args.self.now) c.requires c.args.trans c.in-Some.opened.now c.in-Some.ensures
 
 pub returns-then-finds_no_room-clause-ok : goal.returns-then-finds_no_room-clause-ok
 returns-then-finds_no_room-clause-ok c =

@@ -1,5 +1,5 @@
-use Rattle.std.proofs.Common.{◌∙◌, ap, arith}
-use Rattle.std.specs.Prelude.{sum_by}
+use Rattle.std.proofs.Common.{◌∙◌, ◌+◌, ap, arith, ℕ}
+use Rattle.std.specs.Prelude.{sum_by, ◌-◌}
 use Rattle.xt_base.specs.Legs.{with_marks}
 use Rattle.xt_base.specs.Space.{item_cost}
 use Rattle.xt_base.specs.State.{Leg}
@@ -22,7 +22,7 @@ returns-then-total-eq0-clause-value c =
     let gains = c.gained.ensures.value ∙ ap (sum_by (gain_in c.args.list.now)) c.entries-entries.ensures.value in
     let losses = c.lost.ensures.value ∙ ap (sum_by (loss_in c.args.list.now)) c.entries-entries.ensures.value in
     let here = ap (λ (l : Leg). sum_by item_cost (with_marks l.changes c.args.list.now)) c.self.view_is in
-    cost_is_none _ (with_marks c.args.self.now.changes c.args.list.now) (omega (arith, whole, here, stands, gains, losses)) c.if-total-eq0.true
+    cost_is_none c.args.form.ends _ (with_marks c.args.self.now.changes c.args.list.now) (omega (arith, whole, here, stands, gains, losses)) c.if-total-eq0.true
 
 pub returns-else-total-eq0-clause-value : goal.returns-else-total-eq0-clause-value
 returns-else-total-eq0-clause-value c =
@@ -31,4 +31,5 @@ returns-else-total-eq0-clause-value c =
     let gains = c.gained.ensures.value ∙ ap (sum_by (gain_in c.args.list.now)) c.entries-entries.ensures.value in
     let losses = c.lost.ensures.value ∙ ap (sum_by (loss_in c.args.list.now)) c.entries-entries.ensures.value in
     let here = ap (λ (l : Leg). sum_by item_cost (with_marks l.changes c.args.list.now)) c.self.view_is in
-    cost_is_some _ (with_marks c.args.self.now.changes c.args.list.now) (omega (arith, whole, here, stands, gains, losses)) c.if-total-eq0.false
+    let total : ℕ = c.standing.result + c.gained.result - c.lost.result in
+    omega (arith, c.ends.ensures.value, cost_is_some c.args.form.ends total (with_marks c.args.self.now.changes c.args.list.now) (omega (arith, whole, here, stands, gains, losses)) c.if-total-eq0.false)

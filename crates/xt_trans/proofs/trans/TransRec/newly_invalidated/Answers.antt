@@ -8,10 +8,10 @@ pub returns-then-is_changed-clause-charge : goal.returns-then-is_changed-clause-
 returns-then-is_changed-clause-charge c =
     let rise = subst (λ (l : Leg). IsRising l.changes) c.self.view_is (changes_rise c.self.inside.items c.self.invariant) in
     let one = sym (ap {B = ℕ} (λ b. if b then 0 else 1) (sym c.is_changed.ensures ∙ c.if-is_changed.true)) in
-    newly_stale c.args.block c.args.self.now 0 0 rise one refl
+    λ ends. newly_stale ends c.args.block c.args.self.now 0 0 rise one refl
 
 pub returns-else-is_changed-clause-charge : goal.returns-else-is_changed-clause-charge
 returns-else-is_changed-clause-charge c =
     let rise = subst (λ (l : Leg). IsRising l.changes) c.self.view_is (changes_rise c.self.inside.items c.self.invariant) in
     let one = sym (ap {B = ℕ} (λ b. if b then 0 else 1) (sym c.is_changed.ensures ∙ c.if-is_changed.false)) in
-    newly_stale c.args.block c.args.self.now 1 0 rise one refl
+    λ ends. newly_stale ends c.args.block c.args.self.now 1 0 rise one refl

@@ -1,0 +1,69 @@
+//! What differs from mount to mount in its sizes.
+
+ghost use Rattle.std.specs.Prelude.{◌≡◌, ◌≤◌};
+ghost use Rattle.xt_base.specs.Form.{form_one};
+ghost use Rattle.xt_base.specs.declared.sizes.TheConstants.{BLOCK_BYTES, MOST_ENDS};
+
+use crate::sizes::{self, ENDS};
+use std::marker::Model;
+
+/// The form of a mount: the bytes of a block, the bytes that the text of a checkpoint has beside its items, and whether
+/// a text says the size of a block. One value of a mount and of its layers. Today each block has 4,096 bytes.
+#[derive(Clone, Copy, Debug)]
+pub struct Form {
+    size: u32,
+    ends: u32,
+    sized: bool,
+}
+
+impl Model for Form {
+    ghost use Rattle.std.specs.Prelude.{◌≡◌};
+    ghost use Rattle.xt_base.specs.Form.{Form as FormValue, IsForm};
+    ghost use Rattle.xt_base.specs.declared.sizes.TheConstants.{BLOCK_BYTES};
+
+    ghost Value = { FormValue };
+
+    ghost view = { λ f. record { size = f.size; ends = f.ends; sized = f.sized } };
+
+    ghost invariant = { λ f. IsForm (record { size = f.size; ends = f.ends; sized = f.sized }) × (f.size ≡ BLOCK_BYTES) };
+
+    ghost inverse = { λ v. record { size = v.size; ends = v.ends; sized = v.sized } };
+}
+
+impl Form {
+    /// The form of a mount of today: blocks of 4,096 bytes, and texts that do not say so.
+    pub fn one() -> Self
+        ensures { result ≡ form_one }
+    {
+        Form {
+            size: sizes::BLOCK_BYTES as u32,
+            ends: ENDS,
+            sized: false,
+        }
+    }
+
+    /// The bytes of a block, at most 4,096.
+    pub fn size(self) -> u32
+        ensures value { result ≡ self.size }
+        ensures range { result ≤ BLOCK_BYTES }
+    {
+        self.size
+    }
+
+    /// The bytes of a block, as many as a content has today.
+    pub(crate) fn block_bytes(self) -> usize
+        ensures value { result ≡ self.size }
+        ensures today { result ≡ BLOCK_BYTES }
+    {
+        self.size as usize
+    }
+
+    /// The bytes that the text of a checkpoint has beside its items: 1 to 36.
+    pub fn ends(self) -> u32
+        ensures value { result ≡ self.ends }
+        ensures least { 1 ≤ result }
+        ensures most { result ≤ MOST_ENDS }
+    {
+        self.ends
+    }
+}
