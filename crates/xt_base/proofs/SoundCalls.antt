@@ -5,7 +5,7 @@ use Rattle.xt_base.proofs.SoundBuffers.{sound_get_call, sound_hold, sound_join, 
 use Rattle.xt_base.proofs.SoundJobs.{sound_force_to}
 use Rattle.xt_base.proofs.SoundLegs.{sound_cancel, sound_inval, sound_roll}
 use Rattle.xt_base.proofs.SoundSteps.{sound_alloc, sound_commit, sound_either, sound_force, sound_push, sound_shutdown}
-use Rattle.xt_base.specs.Calls.{Outcome, alone_with, cancel, commit, get, gives, hold, inval, is_kept, join, log, read, relse, roll, unhold, unmount, view, is_own, seen, with_trans}
+use Rattle.xt_base.specs.Calls.{Outcome, alone_with, cancel, commit, get, gives, hold, inval, is_in_use, join, log, read, relse, roll, unhold, unmount, view, is_own, seen, with_trans}
 use Rattle.xt_base.specs.Maps.{at}
 use Rattle.xt_base.specs.Settle.{Dropped}
 use Rattle.xt_base.specs.Sound.{IsSound}
@@ -22,7 +22,7 @@ sound_view t b s trans h = sound_either (is_own s t b) (gives (Reply.Data (seen 
 
 -- an unmount changes no mount
 pub sound_unmount : (s : State) → IsSound s → IsSound (unmount s).state
-sound_unmount s h = sound_either (is_kept s) (gives (Refused Busy) s) (gives Okay s) (λ kept. h) (λ left. h)
+sound_unmount s h = sound_either (is_in_use s) (gives (Refused Busy) s) (gives Okay s) (λ kept. h) (λ left. h)
 
 with_some : (o : Option Transaction) (s : State) (f : Transaction → Outcome) → IsSound s → ((trans : Transaction) → o ≡ Some trans → IsSound (f trans).state) → IsSound (with_trans o s f).state
 with_some None s f h each = h

@@ -9,7 +9,7 @@ use Rattle.xt_base.proofs.SoundBuffers.{held_no_trans}
 use Rattle.xt_base.proofs.SoundParts.{apart_from, none_else}
 use Rattle.xt_base.proofs.SoundSteps.{passes_first}
 use Rattle.xt_base.proofs.StillLemmas.{IsStill, fact_either, fact_if, fact_unless, fact_with_trans, still_aborted, still_busied, still_closed, still_ended, still_landed, still_leg, still_legs, still_made_fresh, still_not_fresh, still_owner, still_same, still_settled, still_shut_if, still_then, still_unowned}
-use Rattle.xt_base.specs.Calls.{Outcome, alloc, alloc_refusals, allocated, alone_with, answered, asks_ckpt, asks_flush, at_end, brought, busied, cancel, closed, commit, commit_number, committed_of, edited, first_of, force, force_to, force_to_refusals, get, get_refusals, gives, held_of, hold, inval, inval_refusals, invalidated, io_of, is_absent, is_elsewhere, is_flight, is_fresh, is_held, is_kept, is_no_room, is_own, join, join_refusals, legs_after, locked, log, log_refusals, logged_leg, made_fresh, new_trans, not_fresh, push, read, read_refusals, release, released, relse, roll, seen, shut_down, shut_if, unhold, unmount, unowned, view, waits_for, with_leg, with_legs, with_owner, with_trans, without_hold}
+use Rattle.xt_base.specs.Calls.{Outcome, alloc, alloc_refusals, allocated, alone_with, answered, asks_ckpt, asks_flush, at_end, brought, busied, cancel, closed, commit, commit_number, committed_of, edited, first_of, force, force_to, force_to_refusals, get, get_refusals, gives, held_of, hold, inval, inval_refusals, invalidated, io_of, is_absent, is_elsewhere, is_flight, is_fresh, is_held, is_in_use, is_no_room, is_own, join, join_refusals, legs_after, locked, log, log_refusals, logged_leg, made_fresh, new_trans, not_fresh, push, read, read_refusals, release, released, relse, roll, seen, shut_down, shut_if, unhold, unmount, unowned, view, waits_for, with_leg, with_legs, with_owner, with_trans, without_hold}
 use Rattle.xt_base.specs.Chunks.{marks}
 use Rattle.xt_base.specs.Jobs.{begin, begun, cleaned, end, end_of, failed, finished, flush, flush_plan, flushed, gone, is_ok, landed, landed_items, next_pieces, posted, renewed, unflushed, waits_on}
 use Rattle.xt_base.specs.Laws.{names}
@@ -248,7 +248,7 @@ module _ (t b : ℕ) (s : State) (h : IsSound s) (own : is_own s t b ≡ true) w
   still_push = fact_either (IsStill t b s) (is_some s.shut) (gives (Refused Io) s) (gives Okay (asks_flush s)) (λ shut. still_same t b s) (λ live. record { form = refl; trans = refl; owner = refl; fresh = refl; content = refl })
 
   still_unmount : IsStill t b s (unmount s).state
-  still_unmount = fact_either (IsStill t b s) (is_kept s) (gives (Refused Busy) s) (gives Okay s) (λ kept. still_same t b s) (λ left. still_same t b s)
+  still_unmount = fact_either (IsStill t b s) (is_in_use s) (gives (Refused Busy) s) (gives Okay s) (λ kept. still_same t b s) (λ left. still_same t b s)
 
   -- ---- any call that does not name the transaction
   with_other : (u : ℕ) (f : Transaction → Outcome) → (u == t) ≡ false → ((trans : Transaction) → u ≢ t → at u s.transactions ≡ Some trans → IsStill t b s (f trans).state) → IsStill t b s (with_trans (at u s.transactions) s f).state

@@ -1,5 +1,5 @@
 -- One slot alone: any of its steps, and lists of them.
-use Rattle.std.specs.Prelude.{Bool, List, None, Option, Some, [], false, if◌then◌else◌, is_some, nat_lt, true, ℕ, ◌&&◌, ◌+◌, ◌==◌, ◌||◌, ◌∷◌, ◌≡◌, ◌⊎◌}
+use Rattle.std.specs.Prelude.{Bool, List, None, Option, Some, [], false, if◌then◌else◌, is_some, nat_lt, not, true, ℕ, ◌&&◌, ◌+◌, ◌==◌, ◌||◌, ◌∷◌, ◌≡◌, ◌⊎◌}
 use Rattle.xt_base.specs.Calls.{Outcome, alone_with, first_of, gives, is_unmount, log}
 use Rattle.xt_base.specs.Form.{form_one}
 use Rattle.xt_base.specs.Jobs.{begin, end, end_offers, flush, flush_offers, posted}
@@ -147,6 +147,44 @@ alone_run steps = alone_from steps empty
 abbrev pub shut_after : List Step → Option Reason
 shut_after steps = reason_of (after steps empty).mounted
 
--- a call or a job took place, or it was refused memory and nothing changed
-abbrev pub IsCallUnlessMemory : Outcome → Reply → State → State → Type 0
-IsCallUnlessMemory outcome reply new old = (gives reply new ≡ outcome) ⊎ ((reply ≡ Refused NoMemory) × (new ≡ old))
+-- ---- want of memory
+-- whether a reply is a refusal
+abbrev pub is_refusal : Reply → Bool
+is_refusal (Refused e) = true
+is_refusal other = false
+
+-- whether a reply names blocks that stay held
+abbrev pub names_held : Reply → Bool
+names_held (Reply.OkayHeld held) = true
+names_held (Reply.CommittedHeld number held) = true
+names_held (Reply.Aborted held) = true
+names_held other = false
+
+-- whether a begin found something to do
+abbrev pub has_begun : Reply → Bool
+has_begun (Reply.Begun number pieces) = true
+has_begun other = false
+
+-- whether a request may be answered ENOMEM where its own reply would be this: a transaction that is opened, a content that is copied, and the blocks that
+-- a leg leaves held, an aborted one (EIO) too; no other request takes memory, and no other refusal does
+abbrev pub may_want_memory : Request → Reply → Bool
+may_want_memory (Request.Alloc unit count perm) reply = not (is_refusal reply)
+may_want_memory (Request.Read t b) reply = not (is_refusal reply)
+may_want_memory (Request.View t b) reply = not (is_refusal reply)
+may_want_memory (Request.Log first t b bytes) reply = not (is_refusal reply)
+may_want_memory (Request.Commit t) reply = names_held reply
+may_want_memory (Request.Roll t) reply = names_held reply
+may_want_memory (Request.Cancel t) reply = names_held reply
+may_want_memory other reply = false
+
+-- the same of a step: a mount, a call, a post, and a begin that finds something to do
+abbrev pub step_may_want : Step → Reply → Bool
+step_may_want (Mount slot log_bytes blocks) reply = not (is_refusal reply)
+step_may_want (Call slot life request answer) reply = may_want_memory request reply
+step_may_want (Post name) reply = true
+step_may_want (Begin worker name) reply = has_begun reply
+step_may_want other reply = false
+
+-- a call or a job took place, or it was refused memory, which it may want for its own reply, and nothing changed
+abbrev pub IsCallUnlessMemory : (Reply → Bool) → Outcome → Reply → State → State → Type 0
+IsCallUnlessMemory may_want outcome reply new old = (gives reply new ≡ outcome) ⊎ ((reply ≡ Refused NoMemory) × (new ≡ old) × (may_want outcome.reply ≡ true))

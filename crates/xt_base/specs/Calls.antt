@@ -408,14 +408,14 @@ abbrev pub shutdown : State → Outcome
 shutdown s = gives Okay (shut_down ForceUmount s)
 
 -- whether something keeps the mount: an open transaction, a held block, an outstanding job, or, if live, a listed block
-abbrev pub is_kept : State → Bool
-is_kept s =
+abbrev pub is_in_use : State → Bool
+is_in_use s =
     not (length s.transactions == 0) || list_any (λ e. is_held (Some e.1)) s.owners || is_some s.jobs.ckpt || is_some s.jobs.flush
     || (is_none s.shut && not ((length s.items.cil == 0) && is_none s.items.flight && (length s.items.ail == 0)))
 
 -- the slot is emptied by its owner
 abbrev pub unmount : State → Outcome
-unmount s = if is_kept s then gives (Refused Busy) s else gives Okay s
+unmount s = if is_in_use s then gives (Refused Busy) s else gives Okay s
 
 -- ---- a call
 -- the blocks in dropped found no memory when they settled

@@ -1,6 +1,6 @@
 //! Bytes: the content of a block, what a request carries, and lists of blocks that stay held.
 
-ghost use Rattle.std.specs.Prelude.{◌≡◌, ◌+◌, ◌≤◌, ◌<◌, ◌++◌, ◌↔◌, List, ℕ, length, take, drop, replicate, IfOk, IsSome, IfSome};
+ghost use Rattle.std.specs.Prelude.{◌≡◌, ◌+◌, ◌≤◌, ◌<◌, ◌++◌, ◌↔◌, List, ℕ, length, take, drop, replicate, IfOk, IsSome, IfSome, OnErr};
 
 use crate::form::Form;
 use crate::names::Block;
@@ -176,10 +176,11 @@ impl Model for HeldBlocks {
 }
 
 impl HeldBlocks {
-    /// The blocks of a list of 1 to 64; else None. The one error is want of memory.
+    /// The blocks of a list of 1 to 64; else None, which takes no memory. The one error is want of memory.
     pub fn of(alloc: Global, blocks: Vec<Block>) -> Result<Option<Self>, AllocError>
         ensures valid { IfOk result (λ found. IsSome found ↔ ((0 < length blocks.items) × (length blocks.items ≤ BUSY_BLOCKS))) }
         ensures value { IfOk result (λ found. IfSome found (λ held. held ≡ blocks.items)) }
+        ensures want { OnErr result (0 < length blocks.items) }
     {
         if blocks.is_empty() || blocks.len() > BUSY_BLOCKS {
             return Ok(None);

@@ -5,6 +5,7 @@
 pub mod chunks;
 pub mod content;
 pub mod form;
+pub mod kinds;
 pub mod laws;
 pub mod map;
 pub mod marks;

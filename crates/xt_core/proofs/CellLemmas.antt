@@ -16,7 +16,7 @@ use Rattle.xt_base.specs.declared.steps.Reason.{Reason}
 use Rattle.xt_base.specs.declared.steps.Reply.{Reply}
 use Rattle.xt_base.specs.declared.steps.Step.{Step}
 use Rattle.xt_core.proofs.MemoryLemmas.{alone_no_want}
-use Rattle.xt_core.specs.Cells.{Cell, IsTurned, with_lone}
+use Rattle.xt_core.specs.Cells.{Cell, IsTurned, IsUnturned, with_lone}
 use Rattle.xt_mount.specs.Slots.{IsServed, IsServedUnlessMemory, SlotState, contents_in, form_in, lone_with, pieces_in, plan_in}
 
 -- what follows by the reply
@@ -46,7 +46,7 @@ module _ (x : Step) (r : Reply) (life : ℕ) (reason : Option Reason) (new old :
   pub turned_served : IsServed x r new old → IsTurned x r (cell_with life reason new) (cell_with life reason old)
   turned_served s =
       let t = alone x (lone_with life reason old) in
-      to_false (is_no_memory r) (cell_with life reason new ≡ cell_with life reason old) ((r ≡ t.reply) × (cell_with life reason new ≡ with_lone t.slot (cell_with life reason old)))
+      to_false (is_no_memory r) (IsUnturned x (cell_with life reason new) (cell_with life reason old)) ((r ≡ t.reply) × (cell_with life reason new ≡ with_lone t.slot (cell_with life reason old)))
       (ap is_no_memory (s.reply life reason) ∙ alone_no_want x (lone_with life reason old))
       (s.reply life reason, ap (λ n. record { slot = n; lone = lone_with life reason new }) s.slot ∙ ap (λ l. record { slot = old.slot; lone = l }) (s.state life reason))
 
@@ -55,8 +55,8 @@ module _ (x : Step) (r : Reply) (life : ℕ) (reason : Option Reason) (new old :
   turned (inl s) = turned_served s
   turned (inr refused) =
       let t = alone x (lone_with life reason old) in
-      to_true (is_no_memory r) (cell_with life reason new ≡ cell_with life reason old) ((r ≡ t.reply) × (cell_with life reason new ≡ with_lone t.slot (cell_with life reason old)))
-      (ap is_no_memory refused.0) (ap (cell_with life reason) refused.1)
+      to_true (is_no_memory r) (IsUnturned x (cell_with life reason new) (cell_with life reason old)) ((r ≡ t.reply) × (cell_with life reason new ≡ with_lone t.slot (cell_with life reason old)))
+      (ap is_no_memory refused.reply) (ap (cell_with life reason) refused.kept, refused.want life reason)
 
 -- the same of a step and a slot by what they are equal to
 pub turned_as : (step x : Step) (r : Reply) (new cell old : Cell) → step ≡ x → cell ≡ old → IsTurned x r new cell → IsTurned step r new old

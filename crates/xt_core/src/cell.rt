@@ -11,7 +11,6 @@ ghost use Rattle.xt_core.specs.Cells.{IsTurned, with_lone};
 ghost use Rattle.xt_mount.specs.Slots.{plan_in};
 
 use crate::offers::{home_offers, log_offers};
-use crate::turns::is_ckpt;
 use std::alloc::{AllocError, Global};
 use std::marker::Model;
 use xt_base::names::{JobName, Life, Slot};
@@ -124,10 +123,10 @@ impl SlotCell {
                 ..
             } => self.is_answered(*life, request, answer),
             Step::Post(name) => self.is_owed(name),
-            Step::Begin { name, .. } => is_ckpt(name.kind) && self.is_waiting(name),
+            Step::Begin { name, .. } => name.kind.is_ckpt() && self.is_waiting(name),
             Step::End { name, answers, .. } => self.fits_end(name, answers),
             Step::Flush { name, answers, .. } => {
-                !is_ckpt(name.kind) && self.fits_flush(name, answers)
+                !name.kind.is_ckpt() && self.fits_flush(name, answers)
             }
             _ => true,
         }

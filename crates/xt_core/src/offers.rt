@@ -2,6 +2,7 @@
 
 ghost use Rattle.std.specs.Prelude.{◌≡◌, ◌≤◌, ◌++◌, All, true, length, IfOk};
 ghost use Rattle.xt_base.specs.Jobs.{fits_pieces, fits_plan, sync_offer, write_answers, writes};
+ghost use Rattle.xt_base.specs.Maps.{is_in};
 ghost use Rattle.xt_base.specs.Text.{content_at, log_offers_of, offered};
 ghost use Rattle.xt_base.specs.declared.steps.HomeOffer.{HomeOffer as AHomeOffer};
 ghost use Rattle.xt_base.specs.declared.steps.LogOffer.{LogOffer as AnOffer};
@@ -59,12 +60,13 @@ pub fn log_offers(
     Ok(offers)
 }
 
-/// A copy of what a slot's mount has committed of a block; zeros where it keeps nothing.
+/// A copy of what a slot's mount has committed of a block.
 fn committed_copy(alloc: Global, slot: &MountSlot, block: Block) -> Result<Content, AllocError>
+    requires { is_in block (contents_in slot.now.mounted) ≡ true }
     ensures { IfOk result (λ content. content ≡ content_at (form_in slot.now.mounted).size block (contents_in slot.now.mounted)) }
 {
     let Some(bytes) = slot.committed(block) else {
-        return Content::zeros(alloc, slot.form());
+        unreachable!();
     };
     match Content::of(alloc, bytes)? {
         Some(content) => Ok(content),
@@ -79,6 +81,7 @@ fn write_offer(
     block: Block,
     ok: bool,
 ) -> Result<HomeOffer, AllocError>
+    requires { is_in block (contents_in slot.now.mounted) ≡ true }
     ensures { IfOk result (λ offer. offer ≡ AHomeOffer.Write block (content_at (form_in slot.now.mounted).size block (contents_in slot.now.mounted)) ok) }
 {
     let content = committed_copy(alloc, slot, block)?;
@@ -92,7 +95,8 @@ fn write_offers(
     blocks: &[Block],
     answers: &[bool],
 ) -> Result<Vec<HomeOffer>, AllocError>
-    requires { length answers.now ≡ length blocks.now }
+    requires answered { length answers.now ≡ length blocks.now }
+    requires committed { All (λ b. is_in b (contents_in slot.now.mounted) ≡ true) blocks.now }
     ensures { IfOk result (λ offers. offers.items ≡ writes (form_in slot.now.mounted).size (contents_in slot.now.mounted) blocks.now answers.now) }
 {
     let mut offers = Vec::new(alloc);

@@ -1,14 +1,13 @@
 //! Whose turn it is: the queue of the posted names, and the names in the workers' hands.
 
 ghost use Rattle.std.specs.Prelude.{◌≡◌, ◌++◌, ◌∷◌, ℕ, [], None, is_none, OnOk, OnErr};
-ghost use Rattle.xt_base.specs.Order.{is_first, is_nothing, same_kind, same_name};
-ghost use Rattle.xt_base.specs.Jobs.{is_ckpt};
+ghost use Rattle.xt_base.specs.Order.{is_first, is_nothing};
 ghost use Rattle.xt_core.specs.Turns.{hand_after, hand_of, held_in, keeps_turn, queue_left};
 
 use std::alloc::{AllocError, Global};
 use std::collections::VecDeque;
 use std::marker::Model;
-use xt_base::names::{JobKind, JobName, Worker};
+use xt_base::names::{JobName, Worker};
 use xt_base::steps::{Reply, Step};
 
 /// The names that were posted and not taken, in order, and what each of the eight workers took and has not finished.
@@ -43,7 +42,7 @@ impl Turns {
         ensures { result ≡ is_first name.now self.now.queue }
     {
         match self.queue.front() {
-            Some(first) => is_same(first, name),
+            Some(first) => first.is_same(name),
             None => false,
         }
     }
@@ -53,7 +52,7 @@ impl Turns {
         ensures { result ≡ is_first name.now (held_in (hand_of self.now) worker) }
     {
         match &self.hands[worker.index()] {
-            Some(held) => is_same(held, name),
+            Some(held) => held.is_same(name),
             None => false,
         }
     }
@@ -109,33 +108,6 @@ impl Turns {
             _ => {}
         }
     }
-}
-
-/// Whether two kinds are one.
-fn is_same_kind(a: JobKind, b: JobKind) -> bool
-    ensures { result ≡ same_kind a b }
-{
-    match a {
-        JobKind::Ckpt => is_ckpt(b),
-        JobKind::Flush => !is_ckpt(b),
-    }
-}
-
-/// Whether a job is a checkpoint.
-pub fn is_ckpt(kind: JobKind) -> bool
-    ensures { result ≡ is_ckpt kind }
-{
-    match kind {
-        JobKind::Ckpt => true,
-        JobKind::Flush => false,
-    }
-}
-
-/// Whether two names are one.
-fn is_same(a: &JobName, b: &JobName) -> bool
-    ensures { result ≡ same_name a.now b.now }
-{
-    a.slot == b.slot && a.life == b.life && is_same_kind(a.kind, b.kind) && a.serial == b.serial
 }
 
 /// Whether a begin found nothing to do.

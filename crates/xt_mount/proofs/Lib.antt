@@ -8,3 +8,4 @@ pub mod JournalLemmas
 pub mod RollLemmas
 pub mod FlushLemmas
 pub mod SlotLemmas
+pub mod WantLemmas

@@ -3,13 +3,15 @@ use Rattle.std.proofs.Common.{◌≡◌, ◌∙◌, ◌⊎◌, ◌+◌, ◌*◌,
 use Rattle.std.proofs.lemmas.List.Elements.{All-cons, All-nil}
 use Rattle.std.proofs.lemmas.List.{length-drop}
 use Rattle.std.specs.Prelude.{All, is_some}
+use Rattle.xt_base.proofs.DeviceLemmas.{planned_committed}
 use Rattle.xt_base.proofs.SameLemmas.{IsSameLife, same_begin, same_call, same_end, same_flush, same_life}
 use Rattle.xt_base.proofs.SoundCalls.{sound_call}
 use Rattle.xt_base.proofs.SoundSteps.{sound_begin, sound_end}
 use Rattle.xt_base.proofs.SoundJobs.{sound_flush}
 use Rattle.xt_base.specs.Calls.{Outcome, alone_with, gives}
-use Rattle.xt_base.specs.Jobs.{begin, end, end_of, flight_pieces, flush, is_ckpt, is_ok, is_waiting, next_pieces}
-use Rattle.xt_base.specs.Sound.{IsSound}
+use Rattle.xt_base.specs.Jobs.{begin, end, end_of, flight_pieces, flush, flush_plan, is_ckpt, is_ok, is_waiting, next_pieces}
+use Rattle.xt_base.specs.Maps.{is_in}
+use Rattle.xt_base.specs.Sound.{Each, IsSound}
 use Rattle.xt_base.specs.State.{Flight, State}
 use Rattle.xt_base.specs.Text.{first_pieces, piece_count, pieces, text_of}
 use Rattle.xt_base.specs.declared.names.JobName.{JobName}
@@ -38,6 +40,15 @@ are_pieces text few = record { few = few; some = some_pieces (piece_count text) 
 
 pub no_pieces : ArePieces []
 no_pieces = record { few = omega arith; some = All-nil (λ p. 1 ≤ length p); short = All-nil (λ p. length p ≤ 4096) }
+
+-- ---- the blocks of a flush
+all_of : (P : ℕ → Type 0) (xs : List ℕ) → Each P xs → All P xs
+all_of P [] h = All-nil P
+all_of P (x ∷ xs) h = All-cons P x xs h.0 (all_of P xs h.1)
+
+-- each has a committed content
+pub plan_committed : (s : State) → IsSound s → All (λ b. is_in b s.frames.committed ≡ true) (flush_plan s)
+plan_committed s sound = all_of (λ b. is_in b s.frames.committed ≡ true) (flush_plan s) (planned_committed s sound)
 
 -- ---- what holds of every mount
 -- sound, with pieces in flight such as a log device takes

@@ -69,13 +69,13 @@ take_past (x ∷ xs) (suc i) le = ap (λ ys. x ∷ ys) (take_past xs i (omega ar
 
 -- the idle list with what leaves of some contents
 abbrev pub rest_of : (ℕ → Bool) → Bool → List (ℕ × List ℕ) → List (ℕ × List ℕ) → List (ℕ × List ℕ)
-rest_of busy is_kept xs idle = if is_kept then rested (leaving_contents busy xs) idle else idle
+rest_of busy is_live xs idle = if is_live then rested (leaving_contents busy xs) idle else idle
 
 -- as far as a place, busy contents stayed and the others went
-pub record Settles (busy : ℕ → Bool) (is_kept : Bool) (index : ℕ) (old now : Frames) : Type 0 where
+pub record Settles (busy : ℕ → Bool) (is_live : Bool) (index : ℕ) (old now : Frames) : Type 0 where
   pub within : index ≤ length now.committed
   pub stays : take index now.committed ++ filter (λ e. busy e.0) (drop index now.committed) ≡ filter (λ e. busy e.0) old.committed
-  pub rests : rest_of busy is_kept (drop index now.committed) now.idle ≡ rest_of busy is_kept old.committed old.idle
+  pub rests : rest_of busy is_live (drop index now.committed) now.idle ≡ rest_of busy is_live old.committed old.idle
   pub fresh : now.fresh ≡ old.fresh
 
 -- two facts of one value
@@ -99,30 +99,30 @@ filter_goes p xs i e le cut fails =
     ∙ ap (λ ys. take i xs ++ ys) (sym (ap (filter p) cut ∙ filter_drop p e (drop (suc i) xs) fails))
 
 -- the idle list, by whether contents are kept
-rests_on : (busy : ℕ → Bool) (is_kept : Bool) (e : ℕ × List ℕ) (xs idle : List (ℕ × List ℕ)) → busy e.0 ≡ false
-    → rest_of busy is_kept xs (if is_kept then take 64 (e ∷ idle) else idle) ≡ rest_of busy is_kept (e ∷ xs) idle
+rests_on : (busy : ℕ → Bool) (is_live : Bool) (e : ℕ × List ℕ) (xs idle : List (ℕ × List ℕ)) → busy e.0 ≡ false
+    → rest_of busy is_live xs (if is_live then take 64 (e ∷ idle) else idle) ≡ rest_of busy is_live (e ∷ xs) idle
 rests_on busy true e xs idle free = rested_more e (leaving_contents busy xs) idle ∙ ap (λ ys. rested ys idle) (sym (filter_pass (λ x. not (busy x.0)) e xs (ap not free)))
 rests_on busy false e xs idle free = refl
 
-rests_still : (busy : ℕ → Bool) (is_kept : Bool) (e : ℕ × List ℕ) (xs idle : List (ℕ × List ℕ)) → busy e.0 ≡ true → rest_of busy is_kept xs idle ≡ rest_of busy is_kept (e ∷ xs) idle
+rests_still : (busy : ℕ → Bool) (is_live : Bool) (e : ℕ × List ℕ) (xs idle : List (ℕ × List ℕ)) → busy e.0 ≡ true → rest_of busy is_live xs idle ≡ rest_of busy is_live (e ∷ xs) idle
 rests_still busy true e xs idle here = ap (λ ys. rested ys idle) (sym (filter_drop (λ x. not (busy x.0)) e xs (ap not here)))
 rests_still busy false e xs idle here = refl
 
-rests_none : (is_kept : Bool) (idle : List (ℕ × List ℕ)) → length idle ≤ 64 → (if is_kept then rested [] idle else idle) ≡ idle
+rests_none : (is_live : Bool) (idle : List (ℕ × List ℕ)) → length idle ≤ 64 → (if is_live then rested [] idle else idle) ≡ idle
 rests_none true idle le = take_short 64 idle le
 rests_none false idle le = refl
 
-module _ (busy : ℕ → Bool) (is_kept : Bool) (index : ℕ) (old now : Frames) (before : Settles busy is_kept index old now) where
+module _ (busy : ℕ → Bool) (is_live : Bool) (index : ℕ) (old now : Frames) (before : Settles busy is_live index old now) where
   -- a busy content stays
-  pub settles_stay : (b : ℕ) → index < length now.committed → IfSome (slice_get now.committed index) (λ e. b ≡ e.0) → busy b ≡ true → Settles busy is_kept (index + 1) old now
+  pub settles_stay : (b : ℕ) → index < length now.committed → IfSome (slice_get now.committed index) (λ e. b ≡ e.0) → busy b ≡ true → Settles busy is_live (index + 1) old now
   settles_stay b lt here holds =
       let found = place_at (λ e. b ≡ e.0) now.committed index lt here in
       let busy_here : busy found.0.0 ≡ true = subst (λ n. busy n ≡ true) found.3 holds in
       record {
         within = omega arith;
         stays = filter_stays (λ x. busy x.0) now.committed index found.0 found.1 found.2 busy_here ∙ before.stays;
-        rests = ap (λ n. rest_of busy is_kept (drop n now.committed) now.idle) (add-one index) ∙ rests_still busy is_kept found.0 (drop (suc index) now.committed) now.idle busy_here
-            ∙ ap (λ xs. rest_of busy is_kept xs now.idle) (sym found.1) ∙ before.rests;
+        rests = ap (λ n. rest_of busy is_live (drop n now.committed) now.idle) (add-one index) ∙ rests_still busy is_live found.0 (drop (suc index) now.committed) now.idle busy_here
+            ∙ ap (λ xs. rest_of busy is_live xs now.idle) (sym found.1) ∙ before.rests;
         fresh = before.fresh;
       }
 
@@ -130,21 +130,21 @@ module _ (busy : ℕ → Bool) (is_kept : Bool) (index : ℕ) (old now : Frames)
   abbrev pub frames_without : ℕ × List ℕ → Frames
   frames_without e = record now {
     committed = take index now.committed ++ drop (index + 1) now.committed;
-    idle = if is_kept then take 64 (e ∷ now.idle) else now.idle;
+    idle = if is_live then take 64 (e ∷ now.idle) else now.idle;
   }
 
   -- a content that is not busy goes
   pub settles_go : (b : ℕ) (next : Frames) → index < length now.committed → IfSome (slice_get now.committed index) (λ e. b ≡ e.0) → busy b ≡ false
-      → IfSome (slice_get now.committed index) (λ e. next ≡ frames_without e) → Settles busy is_kept index old next
+      → IfSome (slice_get now.committed index) (λ e. next ≡ frames_without e) → Settles busy is_live index old next
   settles_go b next lt here holds gone =
       let found = place_at (λ e. (b ≡ e.0) × (next ≡ frames_without e)) now.committed index lt (both_some (slice_get now.committed index) (λ e. b ≡ e.0) (λ e. next ≡ frames_without e) here gone) in
       let free : busy found.0.0 ≡ false = subst (λ n. busy n ≡ false) found.3.0 holds in
       let le : index ≤ length now.committed = omega arith in
-      subst (λ f. Settles busy is_kept index old f) (sym found.3.1) (record {
+      subst (λ f. Settles busy is_live index old f) (sym found.3.1) (record {
         within = within_without now.committed index (drop (index + 1) now.committed) le;
         stays = filter_goes (λ x. busy x.0) now.committed index found.0 le found.1 free ∙ before.stays;
-        rests = ap (λ xs. rest_of busy is_kept xs (if is_kept then take 64 (found.0 ∷ now.idle) else now.idle)) (drop_without now.committed index (drop (index + 1) now.committed) le ∙ ap (λ n. drop n now.committed) (add-one index))
-            ∙ rests_on busy is_kept found.0 (drop (suc index) now.committed) now.idle free ∙ ap (λ xs. rest_of busy is_kept xs now.idle) (sym found.1) ∙ before.rests;
+        rests = ap (λ xs. rest_of busy is_live xs (if is_live then take 64 (found.0 ∷ now.idle) else now.idle)) (drop_without now.committed index (drop (index + 1) now.committed) le ∙ ap (λ n. drop n now.committed) (add-one index))
+            ∙ rests_on busy is_live found.0 (drop (suc index) now.committed) now.idle free ∙ ap (λ xs. rest_of busy is_live xs now.idle) (sym found.1) ∙ before.rests;
         fresh = before.fresh;
       })
 
@@ -157,11 +157,11 @@ module _ (busy : ℕ → Bool) (is_kept : Bool) (index : ℕ) (old now : Frames)
       (omega (arith, length-append (take index now.committed) (drop (index + 1) now.committed), length-take index now.committed, length-drop (index + 1) now.committed))
 
   -- all are settled
-  pub settles_all : length now.committed ≤ index → length now.idle ≤ 64 → now ≡ settled_contents busy is_kept old
+  pub settles_all : length now.committed ≤ index → length now.idle ≤ 64 → now ≡ settled_contents busy is_live old
   settles_all past short =
       let kept : now.committed ≡ filter (λ e. busy e.0) old.committed
       = sym (append-nil now.committed) ∙ ap (λ xs. xs ++ []) (sym (take_past now.committed index past)) ∙ ap (λ xs. take index now.committed ++ filter (λ e. busy e.0) xs) (sym (drop_past now.committed index past)) ∙ before.stays in
-      let idle : now.idle ≡ rest_of busy is_kept old.committed old.idle = sym (rests_none is_kept now.idle short) ∙ ap (λ xs. rest_of busy is_kept xs now.idle) (sym (drop_past now.committed index past)) ∙ before.rests in
+      let idle : now.idle ≡ rest_of busy is_live old.committed old.idle = sym (rests_none is_live now.idle short) ∙ ap (λ xs. rest_of busy is_live xs now.idle) (sym (drop_past now.committed index past)) ∙ before.rests in
       ap (λ c. record { committed = c; fresh = now.fresh; idle = now.idle }) kept ∙ ap (λ f. record { committed = filter (λ e. busy e.0) old.committed; fresh = f; idle = now.idle }) before.fresh
       ∙ ap (λ i. record { committed = filter (λ e. busy e.0) old.committed; fresh = old.fresh; idle = i }) idle
 

@@ -2,7 +2,7 @@
 use Rattle.std.proofs.Common.{◌≡◌, ◌∙◌, ◌⊎◌, ℕ, Bool, None, Option, Some, [], ap, false, if◌then◌else◌, inl, inr, refl, subst, sym, true}
 use Rattle.std.specs.Prelude.{◌&&◌, ◌==◌}
 use Rattle.xt_base.proofs.SameLemmas.{same_call}
-use Rattle.xt_base.specs.Alone.{call, called, is_okay, turn}
+use Rattle.xt_base.specs.Alone.{call, called, is_okay, may_want_memory, turn}
 use Rattle.xt_base.specs.Calls.{Outcome, alone_with, is_unmount}
 use Rattle.xt_base.specs.Own.{IsOwnIn}
 use Rattle.xt_base.specs.State.{Lone, State}
@@ -62,7 +62,11 @@ module _ (slot last life : ℕ) (request : Request) (answer : Answer) (r : Reply
     reply = λ seen reason. ap (λ (p : Reply × Option State). p.0) gave ∙ reply_is last life request answer seen reason o;
     state = λ seen reason. ap (lone last life request answer seen reason) (after_is ∙ ap (after_call request) gave) ∙ state_is last life request answer seen reason o;
   })
-  called_slot (inr refused) = inr (refused.0, ap slot_with (after_is ∙ ap (λ q. after_call request (q, mid)) refused.0 ∙ ap (λ k. if k then None else mid) (and_none (is_unmount request)) ∙ refused.1))
+  called_slot (inr refused) = inr (record {
+    reply = refused.0;
+    kept = ap slot_with (after_is ∙ ap (λ q. after_call request (q, mid)) refused.0 ∙ ap (λ k. if k then None else mid) (and_none (is_unmount request)) ∙ refused.1);
+    want = λ seen reason. ap (may_want_memory request) (sym (reply_is last life request answer seen reason o)) ∙ refused.2;
+  })
 
 -- the mount that a call leaves is of the same slot and life
 own_after : (slot last : ℕ) (e : Bool) (m : State) (x : Outcome) → (x.state.slot ≡ m.slot) → (x.state.life ≡ m.life) → IsOwnIn slot last (Some m)

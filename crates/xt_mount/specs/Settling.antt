@@ -14,11 +14,11 @@ is_busy_in owners l b = is_in b owners || is_listed l b
 abbrev pub leaving_contents : (ℕ → Bool) → List (ℕ × List ℕ) → List (ℕ × List ℕ)
 leaving_contents busy contents = filter (λ e. not (busy e.0)) contents
 
--- contents of blocks that are not busy go, to the idle list where they are kept
+-- contents of blocks that are not busy go, on a live mount to the idle list
 abbrev pub settled_contents : (ℕ → Bool) → Bool → Frames → Frames
-settled_contents busy is_kept f = record f {
+settled_contents busy is_live f = record f {
   committed = filter (λ e. busy e.0) f.committed;
-  idle = if is_kept then rested (leaving_contents busy f.committed) f.idle else f.idle;
+  idle = if is_live then rested (leaving_contents busy f.committed) f.idle else f.idle;
 }
 
 -- fresh marks of blocks that are not busy go

@@ -1,6 +1,6 @@
 -- A slot: the last life given, and the mount if there is one. What the board shows of it stands beside it.
-use Rattle.std.specs.Prelude.{List, None, Option, Some, [], if◌then◌else◌, not, option_map, ℕ, ◌==◌, ◌≡◌, ◌⊎◌}
-use Rattle.xt_base.specs.Alone.{alone}
+use Rattle.std.specs.Prelude.{List, None, Option, Some, [], if◌then◌else◌, not, option_map, ℕ, true, ◌==◌, ◌≡◌, ◌⊎◌}
+use Rattle.xt_base.specs.Alone.{alone, may_want_memory, step_may_want}
 use Rattle.xt_base.specs.Calls.{alone_with}
 use Rattle.xt_base.specs.Form.{Form, form_one}
 use Rattle.xt_base.specs.Jobs.{flight_pieces, flush_plan, is_begun, is_waiting}
@@ -39,18 +39,25 @@ pub record IsServed (x : Step) (r : Reply) (new old : SlotState) : Type 0 where
   pub reply : (life : ℕ) (reason : Option Reason) → r ≡ (alone x (lone_with life reason old)).reply
   pub state : (life : ℕ) (reason : Option Reason) → lone_with life reason new ≡ (alone x (lone_with life reason old)).slot
 
--- a step was served, or it was refused memory and nothing changed
+-- a step was refused memory, which it may want for the slot's own reply, and nothing changed
+pub record IsRefusedMemory (x : Step) (r : Reply) (new old : SlotState) : Type 0 where
+  pub reply : r ≡ Refused NoMemory
+  pub kept : new ≡ old
+  pub want : (life : ℕ) (reason : Option Reason) → step_may_want x (alone x (lone_with life reason old)).reply ≡ true
+
+-- the one or the other
 abbrev pub IsServedUnlessMemory : Step → Reply → SlotState → SlotState → Type 0
-IsServedUnlessMemory x r new old = IsServed x r new old ⊎ ((r ≡ Refused NoMemory) × (new ≡ old))
+IsServedUnlessMemory x r new old = IsServed x r new old ⊎ IsRefusedMemory x r new old
 
 -- what a request to one life makes of a mount, before an unmount empties the slot
 abbrev pub answered_in : ℕ → Request → Answer → Option State → Reply × Option State
 answered_in life request answer None = (Refused NoDevice, None)
 answered_in life request answer (Some m) = if m.life == life then (let o = alone_with [] request answer m in (o.reply, Some o.state)) else (Refused Stale, Some m)
 
--- the same, or it was refused memory and nothing changed
+-- the same, or it was refused memory, which it may want for that reply, and nothing changed
 abbrev pub IsAnsweredUnlessMemory : ℕ → Request → Answer → Reply → Option State → Option State → Type 0
-IsAnsweredUnlessMemory life request answer r new old = ((r, new) ≡ answered_in life request answer old) ⊎ ((r ≡ Refused NoMemory) × (new ≡ old))
+IsAnsweredUnlessMemory life request answer r new old =
+    ((r, new) ≡ answered_in life request answer old) ⊎ ((r ≡ Refused NoMemory) × (new ≡ old) × (may_want_memory request (answered_in life request answer old).0 ≡ true))
 
 -- ---- what the mount of a slot is asked; an empty slot has none of it
 -- its life

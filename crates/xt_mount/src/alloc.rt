@@ -1,6 +1,7 @@
 //! Opening a transaction.
 
 ghost use Rattle.std.specs.Prelude.{◌≡◌, ◌<◌, None, false, length, IfOk, OnErr};
+ghost use Rattle.xt_base.specs.Alone.{is_refusal};
 ghost use Rattle.xt_base.specs.Calls.{alloc as alloc_step, alloc_refusals, first_of, gives};
 ghost use Rattle.xt_base.specs.Sound.{IsSound};
 ghost use Rattle.xt_mount.specs.Machines.{state_of};
@@ -41,6 +42,7 @@ impl Machine {
         requires { IsSound (state_of self.old) }
         ensures ok { IfOk result (λ reply. gives reply (state_of self.new) ≡ alloc_step unit count perm (state_of self.old)) }
         ensures err { OnErr result (state_of self.new ≡ state_of self.old) }
+        ensures want { OnErr result (is_refusal (alloc_step unit count perm (state_of self.old)).reply ≡ false) }
     {
         if let Some(errno) = self.alloc_refusal(unit, count, perm) {
             return Ok(Reply::Refused(errno));

@@ -2,6 +2,7 @@
 
 ghost use Rattle.std.specs.Prelude.{◌≡◌, ◌+◌, ◌*◌, ◌≤◌, ◌<◌, ◌++◌, true, All, length, map, flat_map, is_some, is_none, IfOk, OnOk, OnErr, Some, [], IfSome, ◌==◌, if◌then◌else◌};
 ghost use Rattle.std.specs.Int.{bit_at};
+ghost use Rattle.xt_base.specs.Alone.{has_begun};
 ghost use Rattle.xt_base.specs.Calls.{gives};
 ghost use Rattle.xt_base.specs.Jobs.{begin as begin_step, end as end_step, failed as failed_step, flight_pieces, is_ok, landed as landed_step, next_pieces};
 ghost use Rattle.xt_base.specs.Maps.{at};
@@ -80,6 +81,7 @@ impl Machine {
         ensures ok { IfOk result (λ reply. gives reply (state_of self.new) ≡ begin_step (state_of self.old)) }
         ensures few { OnOk result (length (flight_pieces self.new.journal.items.flight) ≤ TEXT_PIECES) }
         ensures err { OnErr result (state_of self.new ≡ state_of self.old) }
+        ensures want { OnErr result (has_begun (begin_step (state_of self.old)).reply ≡ true) }
     {
         if self.is_shut() {
             self.jobs.finish(JobKind::Ckpt);

@@ -1,6 +1,7 @@
 //! Ending a transaction.
 
-ghost use Rattle.std.specs.Prelude.{◌≡◌, ◌&&◌, [], is_some, IfOk, OnErr, if◌then◌else◌};
+ghost use Rattle.std.specs.Prelude.{◌≡◌, ◌&&◌, [], is_some, true, IfOk, OnErr, if◌then◌else◌};
+ghost use Rattle.xt_base.specs.Alone.{names_held};
 ghost use Rattle.xt_base.specs.Calls.{cancel as cancel_step, commit as commit_step, committed_of, gives, io_of, okay_of, shut_if, with_trans};
 ghost use Rattle.xt_base.specs.Maps.{at};
 ghost use Rattle.xt_base.specs.Sound.{IsSound};
@@ -38,6 +39,7 @@ impl Machine {
         requires { IsSound (state_of self.old) }
         ensures ok { IfOk result (λ reply. gives reply (state_of self.new) ≡ with_trans (at trans self.old.journal.transactions) (state_of self.old) (commit_step [] trans (state_of self.old))) }
         ensures err { OnErr result (state_of self.new ≡ state_of self.old) }
+        ensures want { OnErr result (names_held (with_trans (at trans self.old.journal.transactions) (state_of self.old) (commit_step [] trans (state_of self.old))).reply ≡ true) }
     {
         let Some(opened) = self.journal.get(trans) else {
             return Ok(Reply::Refused(Errno::Invalid));
@@ -70,6 +72,7 @@ impl Machine {
         requires { IsSound (state_of self.old) }
         ensures ok { IfOk result (λ reply. gives reply (state_of self.new) ≡ with_trans (at trans self.old.journal.transactions) (state_of self.old) (cancel_step [] trans (state_of self.old))) }
         ensures err { OnErr result (state_of self.new ≡ state_of self.old) }
+        ensures want { OnErr result (names_held (with_trans (at trans self.old.journal.transactions) (state_of self.old) (cancel_step [] trans (state_of self.old))).reply ≡ true) }
     {
         let Some(opened) = self.journal.get(trans) else {
             return Ok(Reply::Refused(Errno::Invalid));

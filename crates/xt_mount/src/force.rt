@@ -1,7 +1,7 @@
 //! What a force waits for, and what a mount is asked as a whole.
 
 ghost use Rattle.std.specs.Prelude.{◌≡◌, ◌&&◌, ◌==◌, is_none, length, not};
-ghost use Rattle.xt_base.specs.Calls.{first_of, force as force_step, force_to as force_to_step, force_to_refusals, gives, is_flight, is_kept, push as push_step, shutdown as shutdown_step, unmount as unmount_step};
+ghost use Rattle.xt_base.specs.Calls.{first_of, force as force_step, force_to as force_to_step, force_to_refusals, gives, is_flight, is_in_use, push as push_step, shutdown as shutdown_step, unmount as unmount_step};
 ghost use Rattle.xt_mount.specs.Machines.{state_of};
 
 use crate::machine::Machine;
@@ -98,8 +98,8 @@ impl Machine {
 
     /// Whether something keeps the mount: an open transaction, a held block, an outstanding job, or, if it is live, a
     /// listed block.
-    fn is_kept(&self) -> bool
-        ensures { result ≡ is_kept (state_of self.now) }
+    fn is_in_use(&self) -> bool
+        ensures { result ≡ is_in_use (state_of self.now) }
     {
         self.journal.open_count() > 0
             || self.locks.has_held()
@@ -112,7 +112,7 @@ impl Machine {
     pub fn unmount(&self) -> Reply
         ensures { gives result (state_of self.now) ≡ unmount_step (state_of self.now) }
     {
-        if self.is_kept() {
+        if self.is_in_use() {
             Reply::Refused(Errno::Busy)
         } else {
             Reply::Okay

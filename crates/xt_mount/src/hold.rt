@@ -15,7 +15,8 @@ use xt_base::steps::{Errno, Reply};
 impl Machine {
     /// A block has no hold mark in a transaction's leg.
     pub fn mark_unheld(&mut self, trans: u64, block: u64)
-        requires { IsRising self.old.journal.transactions }
+        requires there { is_in trans self.old.journal.transactions ≡ true }
+        requires rising { IsRising self.old.journal.transactions }
         ensures { IfSome (at trans self.old.journal.transactions) (λ t. state_of self.new ≡ with_leg trans t (without_hold block t.leg) (state_of self.old)) }
     {
         self.journal.unhold(trans, block);
@@ -23,6 +24,7 @@ impl Machine {
 
     /// A block is invalidated in a transaction's leg, and fresh no more.
     fn mark_stale(&mut self, trans: u64, block: u64)
+        requires there { is_in trans self.old.journal.transactions ≡ true }
         requires rising { IsRising self.old.journal.transactions }
         requires few { IfSome (at trans self.old.journal.transactions) (λ t. is_in block t.leg.changes ≡ false → length t.leg.changes + length t.leg.holds < ROOM) }
         requires fits { IfSome (at trans self.old.journal.transactions) (λ t. charge self.old.journal.form.ends (invalidated block t.leg).changes ≤ t.unit) }

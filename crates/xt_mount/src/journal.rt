@@ -299,13 +299,14 @@ impl Journal {
 
     /// The leg of a transaction has these bytes of a block, and these chunks are marked and charged. It takes no memory.
     pub fn log(&mut self, trans: u64, block: u64, edit: Content, marked: Chunks)
+        requires there { is_in trans self.old.transactions ≡ true }
         requires rising { IsRising self.old.transactions }
         requires few { IfSome (at trans self.old.transactions) (λ t. is_in block t.leg.changes ≡ false → length t.leg.changes + length t.leg.holds < ROOM) }
         requires fits { IfSome (at trans self.old.transactions) (λ t. charge self.old.form.ends (edited block [] marked t.leg).changes ≤ t.unit) }
         ensures { IfSome (at trans self.old.transactions) (λ t. self.new ≡ releg trans t (edited block edit marked t.leg) self.old) }
     {
         let Some(mut opened) = self.transactions.remove(trans) else {
-            return;
+            unreachable!();
         };
         opened.log(self.form, block, edit, marked);
         self.transactions.put_new(trans, opened);
@@ -313,13 +314,14 @@ impl Journal {
 
     /// The leg of a transaction invalidates a block. It takes no memory.
     pub fn inval(&mut self, trans: u64, block: u64)
+        requires there { is_in trans self.old.transactions ≡ true }
         requires rising { IsRising self.old.transactions }
         requires few { IfSome (at trans self.old.transactions) (λ t. is_in block t.leg.changes ≡ false → length t.leg.changes + length t.leg.holds < ROOM) }
         requires fits { IfSome (at trans self.old.transactions) (λ t. charge self.old.form.ends (invalidated block t.leg).changes ≤ t.unit) }
         ensures { IfSome (at trans self.old.transactions) (λ t. self.new ≡ releg trans t (invalidated block t.leg) self.old) }
     {
         let Some(mut opened) = self.transactions.remove(trans) else {
-            return;
+            unreachable!();
         };
         opened.inval(self.form, block);
         self.transactions.put_new(trans, opened);
@@ -327,12 +329,13 @@ impl Journal {
 
     /// A block has the hold mark in the leg of a transaction. It takes no memory.
     pub fn hold(&mut self, trans: u64, block: u64)
+        requires there { is_in trans self.old.transactions ≡ true }
         requires rising { IsRising self.old.transactions }
         requires few { IfSome (at trans self.old.transactions) (λ t. has t.leg.holds block ≡ false → length t.leg.changes + length t.leg.holds < ROOM) }
         ensures { IfSome (at trans self.old.transactions) (λ t. self.new ≡ releg trans t (record t.leg { holds = with_member block t.leg.holds }) self.old) }
     {
         let Some(mut opened) = self.transactions.remove(trans) else {
-            return;
+            unreachable!();
         };
         opened.hold(block);
         self.transactions.put_new(trans, opened);
@@ -340,11 +343,12 @@ impl Journal {
 
     /// A block has no hold mark in the leg of a transaction. It takes no memory.
     pub fn unhold(&mut self, trans: u64, block: u64)
-        requires { IsRising self.old.transactions }
+        requires there { is_in trans self.old.transactions ≡ true }
+        requires rising { IsRising self.old.transactions }
         ensures { IfSome (at trans self.old.transactions) (λ t. self.new ≡ releg trans t (without_hold block t.leg) self.old) }
     {
         let Some(mut opened) = self.transactions.remove(trans) else {
-            return;
+            unreachable!();
         };
         opened.unhold(block);
         self.transactions.put_new(trans, opened);
@@ -354,6 +358,7 @@ impl Journal {
     /// A transaction ends, and its leg is committed: its edits are the committed contents, and its marks are joined to the
     /// commit list. It takes no memory.
     pub fn commit(&mut self, trans: u64, frames: &mut Frames)
+        requires there { is_in trans self.old.transactions ≡ true }
         requires contents { IfSome (at trans self.old.transactions) (λ t. length frames.old.committed + length t.leg.changes ≤ ROOM) }
         requires list { IfSome (at trans self.old.transactions) (λ t. length self.old.items.cil + length t.leg.changes ≤ ROOM) }
         requires paid { IfSome (at trans self.old.transactions) (λ t. cost self.old.form.ends (with_marks t.leg.changes self.old.items.cil) ≤ cost self.old.form.ends self.old.items.cil + t.unit * t.legs) }
@@ -361,7 +366,7 @@ impl Journal {
         ensures frames { IfSome (at trans self.old.transactions) (λ t. frames.new ≡ edits_kept t.leg.changes frames.old) }
     {
         let Some(opened) = self.transactions.remove(trans) else {
-            return;
+            unreachable!();
         };
         let (ticket, mut leg) = opened.into_parts();
         keep_changes(frames, &mut self.items, &mut leg);
@@ -371,6 +376,7 @@ impl Journal {
 
     /// A leg is committed, and the next one of its transaction begins. It takes no memory.
     pub fn roll(&mut self, trans: u64, frames: &mut Frames)
+        requires there { is_in trans self.old.transactions ≡ true }
         requires rising { IsRising self.old.transactions }
         requires contents { IfSome (at trans self.old.transactions) (λ t. length frames.old.committed + length t.leg.changes ≤ ROOM) }
         requires list { IfSome (at trans self.old.transactions) (λ t. length self.old.items.cil + length t.leg.changes ≤ ROOM) }
@@ -381,7 +387,7 @@ impl Journal {
         ensures frames { IfSome (at trans self.old.transactions) (λ t. frames.new ≡ edits_kept t.leg.changes frames.old) }
     {
         let Some(opened) = self.transactions.remove(trans) else {
-            return;
+            unreachable!();
         };
         let (mut ticket, mut leg) = opened.into_parts();
         keep_changes(frames, &mut self.items, &mut leg);
@@ -399,12 +405,13 @@ impl Journal {
 
     /// A transaction ends, and its leg is given up. It takes no memory.
     pub fn cancel(&mut self, trans: u64, frames: &mut Frames)
-        requires { IfSome (at trans self.old.transactions) (λ t. length frames.old.fresh + length t.leg.changes ≤ ROOM) }
+        requires there { is_in trans self.old.transactions ≡ true }
+        requires fresh { IfSome (at trans self.old.transactions) (λ t. length frames.old.fresh + length t.leg.changes ≤ ROOM) }
         ensures pages { IfSome (at trans self.old.transactions) (λ t. self.new ≡ closed_in trans self.old) }
         ensures frames { IfSome (at trans self.old.transactions) (λ t. frames.new ≡ leg_lost t.leg frames.old) }
     {
         let Some(opened) = self.transactions.remove(trans) else {
-            return;
+            unreachable!();
         };
         let (ticket, mut leg) = opened.into_parts();
         lose_leg(frames, &mut leg);
@@ -414,13 +421,14 @@ impl Journal {
 
     /// A leg is given up, and its transaction stays with no leg left. It takes no memory.
     pub fn give_up(&mut self, trans: u64, frames: &mut Frames)
+        requires there { is_in trans self.old.transactions ≡ true }
         requires rising { IsRising self.old.transactions }
         requires fresh { IfSome (at trans self.old.transactions) (λ t. length frames.old.fresh + length t.leg.changes ≤ ROOM) }
         ensures pages { IfSome (at trans self.old.transactions) (λ t. self.new ≡ legs_in trans 0 t self.old) }
         ensures frames { IfSome (at trans self.old.transactions) (λ t. frames.new ≡ leg_lost t.leg frames.old) }
     {
         let Some(opened) = self.transactions.remove(trans) else {
-            return;
+            unreachable!();
         };
         let (mut ticket, mut leg) = opened.into_parts();
         lose_leg(frames, &mut leg);

@@ -3,7 +3,7 @@
 ghost use Rattle.std.specs.Prelude.{◌≡◌, ◌+◌, ◌≤◌, ◌<◌, ◌&&◌, false, is_none, is_some, length, filter_map, IfSome, true};
 ghost use Rattle.xt_base.specs.Calls.{closed, is_no_room, legs_after, with_legs};
 ghost use Rattle.xt_base.specs.Legs.{aborted, ended, is_dirty, owner_aborted, owner_after, with_edit, joined_marks};
-ghost use Rattle.xt_base.specs.Maps.{at, put};
+ghost use Rattle.xt_base.specs.Maps.{at, is_in, put};
 ghost use Rattle.xt_base.specs.Sound.{IsSound};
 ghost use Rattle.xt_mount.specs.Ending.{contents_lost, edits_kept, fresh_lost, is_saved, leg_lost, lost_with, marks_kept, owner_kept, owner_left};
 ghost use Rattle.xt_mount.specs.Machines.{state_of};
@@ -21,11 +21,12 @@ impl Machine {
     /// A transaction ends, and its leg is committed. It takes no memory.
     pub fn close(&mut self, trans: u64)
         requires sound { IsSound (state_of self.old) }
+        requires there { is_in trans self.old.journal.transactions ≡ true }
         requires kept { IfSome (at trans self.old.journal.transactions) (λ t. (is_dirty t.leg && is_some self.old.shut) ≡ false) }
         ensures { IfSome (at trans self.old.journal.transactions) (λ t. state_of self.new ≡ closed trans (ended trans t.leg (state_of self.old))) }
     {
         let Some(opened) = self.journal.get(trans) else {
-            return;
+            unreachable!();
         };
         pass_on(
             &mut self.locks,
@@ -39,12 +40,13 @@ impl Machine {
     /// A leg is committed, and the next one of its transaction begins. It takes no memory.
     pub fn next_leg(&mut self, trans: u64)
         requires sound { IsSound (state_of self.old) }
+        requires there { is_in trans self.old.journal.transactions ≡ true }
         requires live { is_none self.old.shut ≡ true }
         requires room { IfSome (at trans self.old.journal.transactions) (λ t. is_no_room trans t (state_of self.old) ≡ false) }
         ensures { IfSome (at trans self.old.journal.transactions) (λ t. state_of self.new ≡ with_legs trans (legs_after t.legs) t (ended trans t.leg (state_of self.old))) }
     {
         let Some(opened) = self.journal.get(trans) else {
-            return;
+            unreachable!();
         };
         pass_on(
             &mut self.locks,
@@ -57,11 +59,12 @@ impl Machine {
 
     /// A transaction ends, and its leg is given up. It takes no memory.
     pub fn close_aborted(&mut self, trans: u64)
-        requires { IsSound (state_of self.old) }
+        requires sound { IsSound (state_of self.old) }
+        requires there { is_in trans self.old.journal.transactions ≡ true }
         ensures { IfSome (at trans self.old.journal.transactions) (λ t. state_of self.new ≡ closed trans (aborted trans t.leg (state_of self.old))) }
     {
         let Some(opened) = self.journal.get(trans) else {
-            return;
+            unreachable!();
         };
         pass_held(&mut self.locks, trans, opened.leg());
         self.journal.cancel(trans, &mut self.frames);
@@ -69,11 +72,12 @@ impl Machine {
 
     /// A leg is given up, and its transaction stays with no leg left. It takes no memory.
     pub fn give_up_leg(&mut self, trans: u64)
-        requires { IsSound (state_of self.old) }
+        requires sound { IsSound (state_of self.old) }
+        requires there { is_in trans self.old.journal.transactions ≡ true }
         ensures { IfSome (at trans self.old.journal.transactions) (λ t. state_of self.new ≡ with_legs trans 0 t (aborted trans t.leg (state_of self.old))) }
     {
         let Some(opened) = self.journal.get(trans) else {
-            return;
+            unreachable!();
         };
         pass_held(&mut self.locks, trans, opened.leg());
         self.journal.give_up(trans, &mut self.frames);
@@ -96,8 +100,8 @@ fn owner_left(leg: &TransRec, number: u64, block: u64) -> Option<Owner>
 fn owner_kept(leg: &TransRec, block: u64) -> Option<Owner>
     ensures { result ≡ owner_kept leg.now block }
 {
-    let is_kept = leg.is_held(block);
-    if is_kept { Some(Owner::Held) } else { None }
+    let stays = leg.is_held(block);
+    if stays { Some(Owner::Held) } else { None }
 }
 
 /// The blocks of a leg that was committed pass on.

@@ -2,6 +2,7 @@
 #![tactic(auto)]
 
 mod alloc;
+mod busy;
 mod ckpt;
 mod commit;
 mod flush;
@@ -20,7 +21,6 @@ mod roll;
 mod serve;
 mod settle;
 pub mod slot;
-mod space;
 
 pub use mount::{Mount, Stage};
 pub use slot::MountSlot;

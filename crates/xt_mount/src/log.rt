@@ -1,6 +1,7 @@
 //! What a transaction sees of its blocks, and writing bytes in its leg.
 
 ghost use Rattle.std.specs.Prelude.{◌≡◌, ◌+◌, ◌<◌, ◌≤◌, ◌||◌, [], None, false, true, length, IfOk, OnErr, IfSome};
+ghost use Rattle.xt_base.specs.Alone.{is_refusal};
 ghost use Rattle.xt_base.specs.Calls.{edited, first_of, gives, is_fresh, is_own, log as log_step, log_refusals, not_fresh, seen, view as view_step, with_leg, with_trans};
 ghost use Rattle.xt_base.specs.Chunks.{marks};
 ghost use Rattle.xt_base.specs.Legs.{is_stale};
@@ -40,7 +41,8 @@ impl Machine {
 
     /// What a transaction sees of its block. The one error is want of memory for the copy.
     pub fn view(&self, trans: u64, block: u64) -> Result<Reply, AllocError>
-        ensures { IfOk result (λ reply. gives reply (state_of self.now) ≡ with_trans (at trans self.now.journal.transactions) (state_of self.now) (view_step trans block (state_of self.now))) }
+        ensures ok { IfOk result (λ reply. gives reply (state_of self.now) ≡ with_trans (at trans self.now.journal.transactions) (state_of self.now) (view_step trans block (state_of self.now))) }
+        ensures want { OnErr result (is_refusal (with_trans (at trans self.now.journal.transactions) (state_of self.now) (view_step trans block (state_of self.now))).reply ≡ false) }
     {
         let Some(opened) = self.journal.get(trans) else {
             return Ok(Reply::Refused(Errno::Invalid));
@@ -93,6 +95,7 @@ impl Machine {
 
     /// A transaction's leg has these bytes of a block, which is fresh no more. It takes no memory.
     fn keep_edit(&mut self, trans: u64, block: u64, content: Content, marked: Chunks)
+        requires there { is_in trans self.old.journal.transactions ≡ true }
         requires rising { IsRising self.old.journal.transactions }
         requires few { IfSome (at trans self.old.journal.transactions) (λ t. is_in block t.leg.changes ≡ false → length t.leg.changes + length t.leg.holds < ROOM) }
         requires fits { IfSome (at trans self.old.journal.transactions) (λ t. charge self.old.journal.form.ends (edited block [] marked t.leg).changes ≤ t.unit) }
@@ -113,6 +116,7 @@ impl Machine {
         requires { IsSound (state_of self.old) }
         ensures ok { IfOk result (λ reply. gives reply (state_of self.new) ≡ with_trans (at trans self.old.journal.transactions) (state_of self.old) (log_step trans block first bytes.now (state_of self.old))) }
         ensures err { OnErr result (state_of self.new ≡ state_of self.old) }
+        ensures want { OnErr result (is_refusal (with_trans (at trans self.old.journal.transactions) (state_of self.old) (log_step trans block first bytes.now (state_of self.old))).reply ≡ false) }
     {
         let spare = self.frames.take_spare();
         let Some(opened) = self.journal.get(trans) else {

@@ -8,8 +8,8 @@ ghost use Rattle.xt_base.specs.Space.{busy_count, is_busy};
 ghost use Rattle.xt_base.specs.State.{mount_of};
 ghost use Rattle.xt_mount.specs.Machines.{state_of};
 
+use crate::busy::{beside_ail, beside_cil, beside_flight};
 use crate::journal::Journal;
-use crate::space::{beside_ail, beside_cil, beside_flight};
 use std::alloc::{AllocError, Global};
 use xt_base::form::Form;
 use xt_base::names::{Block, JobKind, Life, Slot, TransNo};

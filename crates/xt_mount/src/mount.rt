@@ -1,11 +1,11 @@
 //! One mount: each call and each job is one step of the machine of one mount.
 
 ghost use Rattle.std.specs.Prelude.{◌≡◌, ◌≤◌, ◌+◌, ◌⊎◌, [], All, None, Some, Ok, false, true, length, is_some, option_copied, IfOk, IfErr, IfSome, if◌then◌else◌};
-ghost use Rattle.xt_base.specs.Alone.{IsCallUnlessMemory};
+ghost use Rattle.xt_base.specs.Alone.{IsCallUnlessMemory, has_begun, may_want_memory};
 ghost use Rattle.xt_base.specs.Calls.{alone_with, asks, first_of, gives};
 ghost use Rattle.xt_base.specs.Form.{form_one};
 ghost use Rattle.xt_base.specs.Jobs.{begin as begin_step, end as end_step, fits_pieces, fits_plan, flight_pieces, flush as flush_step, flush_plan, is_begun, is_ckpt, is_waiting, posted as posted_state};
-ghost use Rattle.xt_base.specs.Maps.{at};
+ghost use Rattle.xt_base.specs.Maps.{at, is_in};
 ghost use Rattle.xt_base.specs.Order.{is_there};
 ghost use Rattle.xt_base.specs.State.{mount_of};
 ghost use Rattle.xt_base.specs.declared.steps.Errno.TheVariants.{NoMemory};
@@ -128,11 +128,11 @@ impl Mount {
         self.machine.needs(request)
     }
 
-    /// Serves a request: its reply and the state that it leaves are those of the machine of one mount. Where
-    /// memory is refused the reply is ENOMEM, and nothing changes.
+    /// Serves a request: its reply and the state that it leaves are those of the machine of one mount. Where memory is refused
+    /// the reply is ENOMEM, and nothing changes; no refusal that can be decided without memory is hidden so.
     pub fn serve(&mut self, request: &Request, answer: &Answer) -> Reply
         requires { is_there (asks request.now self.old) answer.now ≡ true }
-        ensures served { IsCallUnlessMemory (alone_with [] request.now answer.now self.old) result self.new self.old }
+        ensures served { IsCallUnlessMemory (may_want_memory request.now) (alone_with [] request.now answer.now self.old) result self.new self.old }
         ensures same { IsSameMount self.new self.old }
     {
         match self.machine.serve(request, answer) {
@@ -144,7 +144,7 @@ impl Mount {
     /// The same, of a request and an answer that are handed over.
     pub fn call(&mut self, request: Request, answer: Answer) -> Reply
         requires { is_there (asks request self.old) answer ≡ true }
-        ensures served { IsCallUnlessMemory (alone_with [] request answer self.old) result self.new self.old }
+        ensures served { IsCallUnlessMemory (may_want_memory request) (alone_with [] request answer self.old) result self.new self.old }
         ensures same { IsSameMount self.new self.old }
     {
         self.serve(&request, &answer)
@@ -179,7 +179,7 @@ impl Mount {
     pub fn begin(&mut self, name: JobName) -> Reply
         requires waiting { is_waiting name self.old ≡ true }
         requires kind { is_ckpt name.kind ≡ true }
-        ensures begun { IsCallUnlessMemory (begin_step self.old) result self.new self.old }
+        ensures begun { IsCallUnlessMemory has_begun (begin_step self.old) result self.new self.old }
         ensures same { IsSameMount self.new self.old }
     {
         let _name = name;
@@ -202,10 +202,11 @@ impl Mount {
     }
 
     /// The blocks that a flush writes home now, 0 to 8, in the order of their writes (`xfsaild_push`): those of the active list
-    /// with the least (number, block) that are neither committed nor in flight and that nobody owns. A plan of no block, as on
-    /// a shut mount, means that nothing is offered. It takes no memory and is never refused.
+    /// with the least (number, block) that are neither committed nor in flight and that nobody owns. Each has a committed
+    /// content. A plan of no block, as on a shut mount, means that nothing is offered. It takes no memory and is never refused.
     pub fn flush_plan(&self) -> Result<FlushPlan, Errno>
-        ensures { result ≡ Ok (flush_plan self.now) }
+        ensures plan { result ≡ Ok (flush_plan self.now) }
+        ensures committed { IfOk result (λ plan. All (λ b. is_in b self.now.frames.committed ≡ true) plan) }
     {
         Ok(self.machine.flush_plan())
     }

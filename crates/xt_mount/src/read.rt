@@ -1,6 +1,7 @@
 //! Reading a block, and which reads ask the home device.
 
 ghost use Rattle.std.specs.Prelude.{◌≡◌, ◌<◌, ◌&&◌, ◌||◌, None, false, is_none, is_some, length, true, IfOk, IfSome, OnErr, Some, if◌then◌else◌};
+ghost use Rattle.xt_base.specs.Alone.{is_refusal};
 ghost use Rattle.xt_base.specs.Calls.{answered, asks, at_end, busied, first_of, gives, is_absent, is_elsewhere, is_fresh, is_own, is_resident, read as read_step, read_asks, read_refusals, with_owner, with_trans};
 ghost use Rattle.xt_base.specs.Legs.{is_dirty, is_stale, own_count};
 ghost use Rattle.xt_base.specs.Maps.{at, is_in};
@@ -9,7 +10,7 @@ ghost use Rattle.xt_base.specs.Sound.{IsSound};
 ghost use Rattle.xt_base.specs.declared.steps.Owner.TheVariants.{Trans as OwnedBy};
 ghost use Rattle.xt_mount.specs.Come.{read_block};
 ghost use Rattle.xt_mount.specs.Machines.{state_of};
-ghost use Rattle.xt_mount.specs.Reads.{IsAnswered};
+ghost use Rattle.xt_mount.specs.Reads.{IsAnswered, is_given};
 
 use crate::get::is_at_end;
 use crate::machine::Machine;
@@ -116,6 +117,7 @@ impl Machine {
         requires free { is_elsewhere (state_of self.old) trans block ≡ false }
         ensures ok { IfOk result (λ reply. IsAnswered trans block dirty answer.now reply (state_of self.new) (state_of self.old)) }
         ensures err { OnErr result (state_of self.new ≡ state_of self.old) }
+        ensures want { OnErr result (is_given answer.now ≡ true) }
     {
         if let Answer::Content(content) = answer {
             let content = content.copy(self.alloc)?;
@@ -134,6 +136,7 @@ impl Machine {
         requires { IsSound (state_of self.old) }
         ensures ok { IfOk result (λ reply. gives reply (state_of self.new) ≡ with_trans (at trans self.old.journal.transactions) (state_of self.old) (read_step trans block answer.now (state_of self.old))) }
         ensures err { OnErr result (state_of self.new ≡ state_of self.old) }
+        ensures want { OnErr result (is_refusal (with_trans (at trans self.old.journal.transactions) (state_of self.old) (read_step trans block answer.now (state_of self.old))).reply ≡ false) }
     {
         let Some(opened) = self.journal.get(trans) else {
             return Ok(Reply::Refused(Errno::Invalid));

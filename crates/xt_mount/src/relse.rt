@@ -1,8 +1,8 @@
 //! Giving blocks back, and taking held ones over.
 
-ghost use Rattle.std.specs.Prelude.{◌≡◌, [], IfSome, if◌then◌else◌};
+ghost use Rattle.std.specs.Prelude.{◌≡◌, [], true, IfSome, if◌then◌else◌};
 ghost use Rattle.xt_base.specs.Calls.{first_of, gives, join as join_step, join_refusals, release as release_step, relse as relse_step, unowned, with_leg, with_trans, without_hold};
-ghost use Rattle.xt_base.specs.Maps.{at};
+ghost use Rattle.xt_base.specs.Maps.{at, is_in};
 ghost use Rattle.xt_base.specs.Settle.{settled};
 ghost use Rattle.xt_base.specs.Sound.{IsSound};
 ghost use Rattle.xt_mount.specs.Machines.{state_of};
@@ -22,7 +22,8 @@ impl Machine {
 
     /// A block of a transaction, with its hold mark, is given back and settles.
     fn give_back(&mut self, trans: u64, block: u64)
-        requires { IsSound (state_of self.old) }
+        requires there { is_in trans self.old.journal.transactions ≡ true }
+        requires sound { IsSound (state_of self.old) }
         ensures { IfSome (at trans self.old.journal.transactions) (λ t. state_of self.new ≡ settled [] (unowned block (with_leg trans t (without_hold block t.leg) (state_of self.old)))) }
     {
         self.mark_unheld(trans, block);

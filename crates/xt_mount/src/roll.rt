@@ -1,9 +1,10 @@
 //! Committing a leg and going on with the next one.
 
-ghost use Rattle.std.specs.Prelude.{◌≡◌, [], IfOk, IfSome, OnErr};
+ghost use Rattle.std.specs.Prelude.{◌≡◌, ◌<◌, [], length, true, IfOk, IfSome, OnErr};
+ghost use Rattle.xt_base.specs.Alone.{names_held};
 ghost use Rattle.xt_base.specs.Calls.{gives, held_of, io_of as io_reply, roll as roll_step, with_legs, with_trans};
 ghost use Rattle.xt_base.specs.Legs.{aborted};
-ghost use Rattle.xt_base.specs.Maps.{at};
+ghost use Rattle.xt_base.specs.Maps.{at, is_in};
 ghost use Rattle.xt_base.specs.Settle.{settled};
 ghost use Rattle.xt_base.specs.Sound.{IsSound};
 ghost use Rattle.xt_mount.specs.Machines.{state_of};
@@ -21,6 +22,7 @@ impl Machine {
         requires { IsSound (state_of self.old) }
         ensures ok { IfOk result (λ reply. gives reply (state_of self.new) ≡ with_trans (at trans self.old.journal.transactions) (state_of self.old) (roll_step [] trans (state_of self.old))) }
         ensures err { OnErr result (state_of self.new ≡ state_of self.old) }
+        ensures want { OnErr result (names_held (with_trans (at trans self.old.journal.transactions) (state_of self.old) (roll_step [] trans (state_of self.old))).reply ≡ true) }
     {
         let Some(opened) = self.journal.get(trans) else {
             return Ok(Reply::Refused(Errno::Invalid));
@@ -44,12 +46,14 @@ impl Machine {
 
     /// The same on a shut mount: the leg is given up.
     fn roll_shut(&mut self, trans: u64) -> Result<Reply, AllocError>
-        requires { IsSound (state_of self.old) }
+        requires there { is_in trans self.old.journal.transactions ≡ true }
+        requires sound { IsSound (state_of self.old) }
         ensures ok { IfOk result (λ reply. IfSome (at trans self.old.journal.transactions) (λ t. gives reply (state_of self.new) ≡ gives (io_reply (held_of t.leg.holds)) (settled [] (with_legs trans 0 t (aborted trans t.leg (state_of self.old)))))) }
         ensures err { OnErr result (state_of self.new ≡ state_of self.old) }
+        ensures want { OnErr result (IfSome (at trans self.old.journal.transactions) (λ t. 0 < length t.leg.holds)) }
     {
         let Some(opened) = self.journal.get(trans) else {
-            return Ok(Reply::Refused(Errno::Invalid));
+            unreachable!();
         };
         let held = opened.leg().held(self.alloc)?;
         self.give_up_leg(trans);

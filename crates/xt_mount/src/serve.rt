@@ -1,8 +1,9 @@
 //! Requests and jobs, each to the method that serves it.
 
 ghost use Rattle.std.specs.Prelude.{◌≡◌, ◌/◌, [], true, if◌then◌else◌, IfOk, OnErr};
+ghost use Rattle.xt_base.specs.Alone.{may_want_memory};
 ghost use Rattle.xt_base.specs.Calls.{alone_with, gives};
-ghost use Rattle.xt_base.specs.Jobs.{is_ckpt, is_owed, is_wanted, is_worth};
+ghost use Rattle.xt_base.specs.Jobs.{is_owed, is_wanted, is_worth};
 ghost use Rattle.xt_base.specs.Sound.{IsSound};
 ghost use Rattle.xt_base.specs.declared.steps.Answer.{Answer as AnyAnswer};
 ghost use Rattle.xt_mount.specs.Come.{is_of_mount, owed_name};
@@ -21,6 +22,7 @@ impl Machine {
         requires sound { IsSound (state_of self.old) }
         ensures ok { IfOk result (λ reply. gives reply (state_of self.new) ≡ alone_with [] request.now answer.now (state_of self.old)) }
         ensures err { OnErr result (state_of self.new ≡ state_of self.old) }
+        ensures want { OnErr result (may_want_memory request.now (alone_with [] request.now answer.now (state_of self.old)).reply ≡ true) }
     {
         match request {
             Request::Alloc { unit, count, perm } => self.alloc(*unit, *count, *perm),
@@ -115,24 +117,13 @@ impl Machine {
     pub fn stage(&self, name: JobName) -> Option<Stage>
         ensures { result ≡ stage_of name (state_of self.now) }
     {
-        let kind = name.kind;
         if name.slot != self.jobs.slot() || !self.jobs.is_outstanding(&name) {
             return None;
         }
-        if is_ckpt(kind) && self.journal.is_flying() {
+        if name.kind.is_ckpt() && self.journal.is_flying() {
             Some(Stage::Begun)
         } else {
             Some(Stage::Waiting)
         }
-    }
-}
-
-/// Whether a job is a checkpoint.
-fn is_ckpt(kind: JobKind) -> bool
-    ensures { result ≡ is_ckpt kind }
-{
-    match kind {
-        JobKind::Ckpt => true,
-        JobKind::Flush => false,
     }
 }

@@ -31,9 +31,9 @@ fn is_busy_in(locks: &Locks, journal: &Journal, near: &mut usize, block: u64) ->
     journal.is_listed_near(near, block) || locks.is_locked(Block(block))
 }
 
-/// Committed contents of blocks that are no longer busy go; those that are kept, to the idle list.
-fn settle_contents(frames: &mut Frames, locks: &Locks, journal: &Journal, is_kept: bool)
-    ensures { frames.new ≡ settled_contents (is_busy_in locks.now journal.now.items) is_kept frames.old }
+/// Committed contents of blocks that are no longer busy go, on a live mount to the idle list.
+fn settle_contents(frames: &mut Frames, locks: &Locks, journal: &Journal, is_live: bool)
+    ensures { frames.new ≡ settled_contents (is_busy_in locks.now journal.now.items) is_live frames.old }
 {
     let mut near = 0;
     let mut index = 0;
@@ -41,7 +41,7 @@ fn settle_contents(frames: &mut Frames, locks: &Locks, journal: &Journal, is_kep
         if is_busy_in(locks, journal, &mut near, frames.committed_at(index)) {
             index += 1;
         } else {
-            frames.settle_at(index, is_kept);
+            frames.settle_at(index, is_live);
         }
     }
 }

@@ -4,7 +4,7 @@ ghost use Rattle.std.specs.Prelude.{◌≡◌, ◌≤◌, ◌&&◌, All, IfSome,
 ghost use Rattle.xt_base.specs.Alone.{is_okay, reason_of};
 ghost use Rattle.xt_base.specs.Calls.{is_unmount};
 ghost use Rattle.xt_base.specs.Jobs.{fits_pieces, fits_plan, is_begun, is_ckpt, is_owed_as, is_waiting};
-ghost use Rattle.xt_base.specs.Maps.{at};
+ghost use Rattle.xt_base.specs.Maps.{at, is_in};
 ghost use Rattle.xt_base.specs.Order.{is_there, mount_is, of_life};
 ghost use Rattle.xt_base.specs.declared.steps.Reply.{Reply as AReply};
 ghost use Rattle.xt_base.specs.declared.steps.Step.{Step as AStep};
@@ -149,10 +149,11 @@ impl MountSlot {
         }
     }
 
-    /// The blocks that a flush writes home now, 0 to 8, in the order of their writes; none in an empty slot. It takes no
-    /// memory.
+    /// The blocks that a flush writes home now, 0 to 8, in the order of their writes; none in an empty slot. Each has a committed
+    /// content. It takes no memory.
     pub fn flush_plan(&self) -> FlushPlan
-        ensures { result ≡ plan_in self.now.mounted }
+        ensures plan { result ≡ plan_in self.now.mounted }
+        ensures committed { All (λ b. is_in b (contents_in self.now.mounted) ≡ true) result }
     {
         match &self.mount {
             Some(mount) => match mount.flush_plan() {

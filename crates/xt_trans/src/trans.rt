@@ -1,7 +1,7 @@
 //! What the present leg of a transaction did to its blocks: the bytes written, the chunks marked and charged, and which blocks
 //! are invalidated or stay locked when the leg ends.
 
-ghost use Rattle.std.specs.Prelude.{ℕ, ◌≡◌, ◌+◌, ◌*◌, ◌<◌, ◌≤◌, ◌==◌, ◌∷◌, [], Some, None, false, true, if◌then◌else◌, length, option_copied, option_map, sum_by, unwrap_or, IfOk, IfSome, MatchOption, is_none};
+ghost use Rattle.std.specs.Prelude.{ℕ, ◌≡◌, ◌+◌, ◌*◌, ◌<◌, ◌≤◌, ◌==◌, ◌∷◌, [], Some, None, false, true, if◌then◌else◌, length, option_copied, option_map, sum_by, unwrap_or, IfOk, OnErr, IfSome, MatchOption, is_none};
 ghost use Rattle.xt_base.specs.Calls.{edited, held_of, invalidated as invalidated_leg, seen_with, without_hold};
 ghost use Rattle.xt_base.specs.Chunks.{union as either};
 ghost use Rattle.xt_base.specs.Legs.{change_of, clean_leg, is_dirty, is_stale, joined_marks, with_marks};
@@ -202,10 +202,12 @@ impl TransRec {
         }
     }
 
-    /// The blocks with the hold mark, ascending, if there are some. The one error is want of memory.
+    /// The blocks with the hold mark, ascending, if there are some; where there is none it takes no memory. The one error is
+    /// want of memory.
     pub fn held(&self, alloc: Global) -> Result<Option<HeldBlocks>, AllocError>
         requires { length self.now.holds ≤ BUSY_BLOCKS }
-        ensures { IfOk result (λ blocks. blocks ≡ held_of self.now.holds) }
+        ensures ok { IfOk result (λ blocks. blocks ≡ held_of self.now.holds) }
+        ensures want { OnErr result (0 < length self.now.holds) }
     {
         let blocks = held_blocks(alloc, self.items.entries())?;
         HeldBlocks::of(alloc, blocks)
@@ -372,9 +374,10 @@ fn block_of(number: u64) -> Block
     Block(number)
 }
 
-/// The blocks of the entries with the hold mark.
+/// The blocks of the entries with the hold mark; where there is none it takes no memory.
 fn held_blocks(alloc: Global, items: &[(u64, BufItem)]) -> Result<Vec<Block>, AllocError>
-    ensures { IfOk result (λ blocks. blocks.items ≡ (leg_of items.now).holds) }
+    ensures ok { IfOk result (λ blocks. blocks.items ≡ (leg_of items.now).holds) }
+    ensures want { OnErr result (0 < length (leg_of items.now).holds) }
 {
     let mut blocks = Vec::new(alloc);
     for e in items {

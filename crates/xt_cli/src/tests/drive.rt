@@ -1,17 +1,17 @@
 //! One mount, driven call by call over devices in memory.
 
-ghost use Rattle.std.specs.Prelude.{◌≡◌, ◌≤◌, All, length, true, IfOk};
+ghost use Rattle.std.specs.Prelude.{◌≡◌, All, length, true, IfOk};
 ghost use Rattle.xt_base.specs.Calls.{asks};
-ghost use Rattle.xt_base.specs.Jobs.{fits_pieces, fits_plan, flush_plan, is_begun, is_ckpt, is_waiting};
+ghost use Rattle.xt_base.specs.Jobs.{fits_plan, flush_plan, is_begun, is_waiting};
+ghost use Rattle.xt_base.specs.Maps.{is_in};
 ghost use Rattle.xt_base.specs.Order.{is_answer, is_there};
 
 use crate::lines::parse_script;
-use bytes::Bytes;
 use std::alloc::Global;
 use std::test::Fail;
 use xt_base::content::Content;
-use xt_base::names::{Block, JobKind, JobName, Life, Slot};
-use xt_base::steps::{Answer, HomeAnswers, LogAnswers, LogOffer, Reply, Request, Step};
+use xt_base::names::{Block, JobName, Life, Slot};
+use xt_base::steps::{Answer, HomeAnswers, LogOffer, Reply, Request, Step};
 use xt_dev::call::HomeCall;
 use xt_dev::home::HomeDevice;
 use xt_dev::log::LogDevice;
@@ -142,16 +142,6 @@ fn post(mount: &mut Mount, name: JobName) -> Result<Reply, Fail> {
     Ok(Reply::Okay)
 }
 
-/// Whether a job is a checkpoint.
-fn is_ckpt(kind: JobKind) -> bool
-    ensures { result ≡ is_ckpt kind }
-{
-    match kind {
-        JobKind::Ckpt => true,
-        JobKind::Flush => false,
-    }
-}
-
 /// Whether a job of the mount's slot is outstanding and not begun.
 fn is_waiting(mount: &Mount, name: &JobName) -> bool
     ensures { result ≡ true → is_waiting name.now mount.now ≡ true }
@@ -168,28 +158,10 @@ fn is_begun(mount: &Mount, name: &JobName) -> bool
 
 /// Begins a checkpoint that was posted.
 fn begin(mount: &mut Mount, name: JobName) -> Result<Reply, Fail> {
-    if is_ckpt(name.kind) && is_waiting(mount, &name) {
+    if name.kind.is_ckpt() && is_waiting(mount, &name) {
         Ok(mount.begin(name))
     } else {
         Err(Fail::from("no such checkpoint waits"))
-    }
-}
-
-/// Whether each piece has at most 4,096 bytes.
-fn are_short(pieces: &[Bytes]) -> bool
-    ensures { result ≡ true → All (λ piece. length piece ≤ 4096) pieces.now }
-{
-    pieces.iter().all(|piece| piece.len() <= 4096)
-}
-
-/// What the log device answers to the pieces of a checkpoint and to the sync.
-fn offered(log: &mut dyn LogDevice, pieces: &[Bytes]) -> Result<LogAnswers, Fail>
-    ensures { IfOk result (λ answers. fits_pieces answers (length pieces.now) ≡ true) }
-{
-    if pieces.len() <= 65 && are_short(pieces) {
-        Ok(offer(log, pieces))
-    } else {
-        Err(Fail::from("pieces of no checkpoint"))
     }
 }
 
@@ -198,52 +170,52 @@ fn end(mount: &mut Mount, log: &mut dyn LogDevice, name: JobName) -> Result<Repl
     if !is_begun(mount, &name) {
         return Err(Fail::from("no such checkpoint is begun"));
     }
-    let answers = offered(log, mount.pieces())?;
+    let answers = offer(log, mount.pieces());
     Ok(mount.end(name, answers))
 }
 
-/// Whether each content is that of a whole block.
-fn are_whole(writes: &[(Block, &[u8])]) -> bool
-    ensures { result ≡ true → All (λ w. length w.1.now ≡ 4096) writes.now }
+/// The writes of these blocks, each with its committed content.
+fn writes_of<'a>(
+    alloc: Global,
+    mount: &'a Mount,
+    blocks: &[Block],
+) -> Result<Vec<(Block, &'a [u8])>, Fail>
+    requires { All (λ b. is_in b mount.now.frames.committed ≡ true) blocks.now }
+    ensures count { IfOk result (λ writes. length writes.items ≡ length blocks.now) }
+    ensures whole { IfOk result (λ writes. All (λ w. length w.1.now ≡ 4096) writes.items) }
 {
-    writes.iter().all(|write| write.1.len() == 4096)
-}
-
-/// The write at a place of a plan: its block with the committed content, if there are both.
-fn write_at<'a>(mount: &'a Mount, blocks: &[Block], place: usize) -> (Block, &'a [u8]) {
-    let block = blocks.get(place).copied().unwrap_or(Block(0));
-    (block, mount.committed(block).unwrap_or(b""))
+    let mut writes = Vec::new(alloc);
+    for block in blocks {
+        match mount.committed(*block) {
+            Some(content) => writes.push((*block, content))?,
+            None => unreachable!(),
+        }
+    }
+    Ok(writes)
 }
 
 /// What the home device answers to the writes of a flush: each block of its plan with the committed content.
-fn written(mount: &Mount, home: &mut dyn HomeDevice) -> Result<HomeAnswers, Fail>
+fn written(alloc: Global, mount: &Mount, home: &mut dyn HomeDevice) -> Result<HomeAnswers, Fail>
     ensures { IfOk result (λ answers. fits_plan answers (flush_plan mount.now) ≡ true) }
 {
-    let plan = mount.flush_plan().map_err(|_| "no plan")?;
-    let blocks = plan.blocks();
-    let writes = [
-        write_at(mount, blocks, 0),
-        write_at(mount, blocks, 1),
-        write_at(mount, blocks, 2),
-        write_at(mount, blocks, 3),
-        write_at(mount, blocks, 4),
-        write_at(mount, blocks, 5),
-        write_at(mount, blocks, 6),
-        write_at(mount, blocks, 7),
-    ];
-    let writes = &writes[..blocks.len()];
-    if !are_whole(writes) {
-        return Err(Fail::from("contents of no blocks"));
-    }
-    Ok(offer_home(home, writes))
+    let Ok(plan) = mount.flush_plan() else {
+        unreachable!();
+    };
+    let writes = writes_of(alloc, mount, plan.blocks())?;
+    Ok(offer_home(home, &writes))
 }
 
 /// Ends a flush by what the home device answers.
-fn flush(mount: &mut Mount, home: &mut dyn HomeDevice, name: JobName) -> Result<Reply, Fail> {
-    if is_ckpt(name.kind) || !is_waiting(mount, &name) {
+fn flush(
+    alloc: Global,
+    mount: &mut Mount,
+    home: &mut dyn HomeDevice,
+    name: JobName,
+) -> Result<Reply, Fail> {
+    if name.kind.is_ckpt() || !is_waiting(mount, &name) {
         return Err(Fail::from("no such flush waits"));
     }
-    let answers = written(mount, home)?;
+    let answers = written(alloc, mount, home)?;
     Ok(mount.flush(name, answers))
 }
 
@@ -261,7 +233,7 @@ fn take(
         Step::Take { .. } => Ok(Reply::Okay),
         Step::Begin { name, .. } => begin(mount, name),
         Step::End { name, .. } => end(mount, log, name),
-        Step::Flush { name, .. } => flush(mount, home, name),
+        Step::Flush { name, .. } => flush(alloc, mount, home, name),
         Step::Mount { .. } | Step::Show(_) | Step::Peek(_) => Err(Fail::from("no step of a mount")),
     }
 }

@@ -12,4 +12,4 @@ loop-i-preserved c =
     let block = c.index-blocks-i.result in
     c.in_ok-push.ensures.items ∙ ap (λ (o : HomeOffer). c.loop-i.offers.items ++ o ∷ []) c.in_ok-write_offer.ensures
     ∙ ap (λ (xs : List HomeOffer). xs ++ HomeOffer.Write block (content_at size block contents) (get_or c.args.answers.now c.loop-i.i false) ∷ []) c.loop-i.invariant
-    ∙ sym (writes_more size contents c.args.blocks.now c.args.answers.now c.loop-i.i block false c.loop-i-test.true c.requires c.index-blocks-i.is)
+    ∙ sym (writes_more size contents c.args.blocks.now c.args.answers.now c.loop-i.i block false c.loop-i-test.true c.requires.answered c.index-blocks-i.is)

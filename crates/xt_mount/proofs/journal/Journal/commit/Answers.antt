@@ -9,8 +9,8 @@ pub commit-requires-clause-granted : goal.commit-requires-clause-granted
 commit-requires-clause-granted c =
     covered c.args.trans c.in-Some.opened c.self.inside.transactions _ (sym c.remove.ensures.value ∙ c.in-Some.is) c.remove.ensures.rest c.into_parts-ticket.result.0 c.self.inside.space.granted c.into_parts-ticket.ensures.ticket c.self.invariant.0
 
-pub invariant_of-self-2 : goal.invariant_of-self-2
-invariant_of-self-2 c =
+pub invariant_of-self : goal.invariant_of-self
+invariant_of-self c =
     let left = granted_out c.args.trans c.in-Some.opened c.self.inside.transactions _ (sym c.remove.ensures.value ∙ c.in-Some.is) c.remove.ensures.rest in (
       omega (arith, left, c.self.invariant.0, ap (λ (l : Ledger). l.granted) c.commit.ensures, ap (λ (g : Grant). g.unit * g.legs) c.into_parts-ticket.ensures.ticket),
       ap (λ (l : Ledger). l.cil) c.commit.ensures ∙ c.cil_cost.ensures.value,

@@ -13,8 +13,8 @@ pub give_up-requires : goal.give_up-requires
 give_up-requires c =
     covered c.args.trans c.in-Some.opened c.self.inside.transactions _ (sym c.remove.ensures.value ∙ c.in-Some.is) c.remove.ensures.rest c.into_parts-ticket.result.0 c.self.inside.space.granted c.into_parts-ticket.ensures.ticket c.self.invariant.0
 
-pub invariant_of-self-2 : goal.invariant_of-self-2
-invariant_of-self-2 c =
+pub invariant_of-self : goal.invariant_of-self
+invariant_of-self c =
     let rises = subst (λ (x : Pages). IsRising x.transactions) (sym c.self.view_is) c.requires.rising in
     let there = sym c.remove.ensures.value ∙ c.in-Some.is in
     let whole = granted_in c.args.trans c.in-Some.opened c.self.inside.transactions _ there c.remove.ensures.rest c.new.result _ rises c.put_new.ensures in (

@@ -7,8 +7,8 @@ use Rattle.xt_mount.specs.contracts.journal.Journal.{the_view}
 use Rattle.xt_mount.proofs.JournalLemmas.{granted_same, relegged}
 use Rattle.xt_mount.proofs.journal.Journal.hold.Goals as goal
 
-pub invariant_of-self-2 : goal.invariant_of-self-2
-invariant_of-self-2 c =
+pub invariant_of-self : goal.invariant_of-self
+invariant_of-self c =
     let rises = subst (λ (x : Pages). IsRising x.transactions) (sym c.self.view_is) c.requires.rising in
     (c.self.invariant.0 ∙ sym (granted_same c.args.trans c.in-Some.opened c.self.inside.transactions _ (sym c.remove.ensures.value ∙ c.in-Some.is) c.remove.ensures.rest _ _ rises c.put_new.ensures _ c.hold.ensures), c.self.invariant.1, c.self.invariant.2)
 

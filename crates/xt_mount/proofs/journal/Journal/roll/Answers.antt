@@ -16,8 +16,8 @@ pub next_leg-requires-2-clause-granted : goal.next_leg-requires-2-clause-granted
 next_leg-requires-2-clause-granted c =
     covered c.args.trans c.in-Some.opened c.self.inside.transactions _ (sym c.remove.ensures.value ∙ c.in-Some.is) c.remove.ensures.rest c.into_parts-ticket.result.0 c.self.inside.space.granted c.into_parts-ticket.ensures.ticket c.self.invariant.0
 
-pub invariant_of-self-2 : goal.invariant_of-self-2
-invariant_of-self-2 c =
+pub invariant_of-self : goal.invariant_of-self
+invariant_of-self c =
     let rises = subst (λ (x : Pages). IsRising x.transactions) (sym c.self.view_is) c.requires.rising in
     let there = sym c.remove.ensures.value ∙ c.in-Some.is in
     let ledger = c.in-Ok.ensures.ok.0 in

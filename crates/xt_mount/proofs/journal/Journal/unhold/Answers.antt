@@ -6,11 +6,11 @@ use Rattle.xt_mount.specs.contracts.journal.Journal.{the_view}
 use Rattle.xt_mount.proofs.JournalLemmas.{granted_same, relegged}
 use Rattle.xt_mount.proofs.journal.Journal.unhold.Goals as goal
 
-pub invariant_of-self-2 : goal.invariant_of-self-2
-invariant_of-self-2 c =
-    let rises = subst (λ (x : Pages). IsRising x.transactions) (sym c.self.view_is) c.requires in
+pub invariant_of-self : goal.invariant_of-self
+invariant_of-self c =
+    let rises = subst (λ (x : Pages). IsRising x.transactions) (sym c.self.view_is) c.requires.rising in
     (c.self.invariant.0 ∙ sym (granted_same c.args.trans c.in-Some.opened c.self.inside.transactions _ (sym c.remove.ensures.value ∙ c.in-Some.is) c.remove.ensures.rest _ _ rises c.put_new.ensures _ c.unhold.ensures), c.self.invariant.1, c.self.invariant.2)
 
 pub returns : goal.returns
 returns c =
-    relegged c.args.self.now (the_view c.self.inside) c.self.view_is c.args.trans c.in-Some.opened _ _ _ (sym c.remove.ensures.value ∙ c.in-Some.is) c.requires c.remove.ensures.rest c.put_new.ensures (without_hold c.args.block) c.unhold.ensures
+    relegged c.args.self.now (the_view c.self.inside) c.self.view_is c.args.trans c.in-Some.opened _ _ _ (sym c.remove.ensures.value ∙ c.in-Some.is) c.requires.rising c.remove.ensures.rest c.put_new.ensures (without_hold c.args.block) c.unhold.ensures

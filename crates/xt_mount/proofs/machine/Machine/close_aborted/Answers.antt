@@ -2,5 +2,5 @@ use Rattle.xt_mount.proofs.RollLemmas.{fresh_room}
 use Rattle.xt_mount.specs.Machines.{state_of}
 use Rattle.xt_mount.proofs.machine.Machine.close_aborted.Goals as goal
 
-pub cancel-requires : goal.cancel-requires
-cancel-requires c = fresh_room (state_of c.args.self.now) c.requires c.args.trans c.in-Some.opened.now c.in-Some.ensures
+pub cancel-requires-clause-fresh : goal.cancel-requires-clause-fresh
+cancel-requires-clause-fresh c = fresh_room (state_of c.args.self.now) c.requires.sound c.args.trans c.in-Some.opened.now c.in-Some.ensures

@@ -3,4 +3,4 @@ use Rattle.xt_mount.specs.Machines.{state_of}
 use Rattle.xt_mount.proofs.machine.Machine.give_up_leg.Goals as goal
 
 pub give_up-requires-clause-fresh : goal.give_up-requires-clause-fresh
-give_up-requires-clause-fresh c = fresh_room (state_of c.args.self.now) c.requires c.args.trans c.in-Some.opened.now c.in-Some.ensures
+give_up-requires-clause-fresh c = fresh_room (state_of c.args.self.now) c.requires.sound c.args.trans c.in-Some.opened.now c.in-Some.ensures

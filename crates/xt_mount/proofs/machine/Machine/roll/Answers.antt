@@ -1,4 +1,4 @@
-use Rattle.std.proofs.Common.{◌∙◌, ap, arith, length, sym, if◌then◌else◌}
+use Rattle.std.proofs.Common.{◌∙◌, ◌<◌, ap, arith, length, subst, sym, if◌then◌else◌}
 use Rattle.std.specs.Prelude.{not}
 use Rattle.xt_base.proofs.SoundBounds.{few_holds}
 use Rattle.xt_base.specs.Calls.{gives, held_of}
@@ -6,6 +6,7 @@ use Rattle.xt_base.specs.Legs.{is_dirty}
 use Rattle.xt_base.specs.State.{Leg}
 use Rattle.xt_mount.proofs.EndLemmas.{if_some}
 use Rattle.xt_mount.proofs.RollLemmas.{changes_rise, grant_there, paid_unit, roll_goes_on, roll_waits, room_is}
+use Rattle.xt_mount.proofs.WantLemmas.{on_err, roll_names}
 use Rattle.xt_mount.specs.Machines.{state_of}
 use Rattle.xt_mount.proofs.machine.Machine.roll.Goals as goal
 
@@ -32,6 +33,12 @@ pub returns-clause-ok : goal.returns-clause-ok
 returns-clause-ok c =
     ap (λ r. gives r (state_of c.settle.new.self)) c.committed_of.ensures
     ∙ roll_goes_on (state_of c.args.self.now) c.requires c.args.trans c.in-Some.opened.now c.in-Some.ensures (ap not (sym c.perm.ensures ∙ c.if-not-perm.false)) (sym c.is_shut.ensures ∙ c.if-is_shut.false) (room_is (state_of c.args.self.now) c.requires c.args.trans c.in-Some.opened.now c.in-Some.ensures ∙ sym c.finds_no_room.ensures ∙ c.if-finds_no_room.false) c.in_ok-held.held c.commit_number-number.result _ _
-    (c.in_ok-held.ensures ∙ ap (λ (l : Leg). held_of l.holds) c.leg.ensures)
+    (c.in_ok-held.ensures.ok ∙ ap (λ (l : Leg). held_of l.holds) c.leg.ensures)
     (c.commit_number-number.ensures ∙ ap (λ b. if b then (state_of c.args.self.now).items.open_number else 0) (c.is_dirty.ensures ∙ ap is_dirty c.leg-2.ensures))
     c.next_leg.ensures c.settle.ensures
+
+pub returns-in_err-held-clause-want : goal.returns-in_err-held-clause-want
+returns-in_err-held-clause-want c =
+    on_err c.from_residual.result _
+    (roll_names (state_of c.args.self.now) c.args.trans c.in-Some.opened.now _ c.in-Some.ensures (subst (λ (l : Leg). 0 < length l.holds) c.leg.ensures c.in_err-held.ensures.want) (ap not (sym c.perm.ensures ∙ c.if-not-perm.false))
+    (sym c.is_shut.ensures ∙ c.if-is_shut.false) (room_is (state_of c.args.self.now) c.requires c.args.trans c.in-Some.opened.now c.in-Some.ensures ∙ sym c.finds_no_room.ensures ∙ c.if-finds_no_room.false))

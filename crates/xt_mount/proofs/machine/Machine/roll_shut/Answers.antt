@@ -5,4 +5,4 @@ use Rattle.xt_mount.specs.Machines.{state_of}
 use Rattle.xt_mount.proofs.machine.Machine.roll_shut.Goals as goal
 
 pub held-requires : goal.held-requires
-held-requires c = omega (arith, few_holds (state_of c.args.self.now) c.requires c.args.trans c.in-Some.opened.now (sym c.in-Some.ensures), ap (λ (l : Leg). length l.holds) c.leg.ensures)
+held-requires c = omega (arith, few_holds (state_of c.args.self.now) c.requires.sound c.args.trans c.in-Some.opened.now (sym c.in-Some.ensures), ap (λ (l : Leg). length l.holds) c.leg.ensures)

@@ -1,4 +1,5 @@
 use Rattle.std.proofs.Common.{◌≡◌, ◌∙◌, true, ap, subst, sym, inl, inr}
+use Rattle.xt_base.specs.Alone.{has_begun}
 use Rattle.xt_base.specs.Calls.{gives}
 use Rattle.xt_base.specs.Jobs.{begin, is_waiting}
 use Rattle.xt_base.specs.State.{State}
@@ -16,7 +17,7 @@ pub returns-clause-begun : goal.returns-clause-begun
 returns-clause-begun c =
     elim c.match-begin.branch [
       | in-Ok w ↦ inl (ap (λ x. gives x (state_of c.begin.new.self)) w.result-is ∙ w.in-Ok.ensures.ok ∙ ap begin c.self.view_is)
-      | in-Err w ↦ inr (w.result-is, w.in-Err.ensures.err ∙ c.self.view_is)
+      | in-Err w ↦ inr (w.result-is, w.in-Err.ensures.err ∙ c.self.view_is, subst (λ (s : State). has_begun (begin s).reply ≡ true) c.self.view_is w.in-Err.ensures.want)
     ]
 
 pub returns-clause-same : goal.returns-clause-same
