@@ -1,4 +1,7 @@
 //! Sessions over memory: what is written, however the bytes are cut and wherever the streams fail.
+//!
+//! A test function is proved too, at a cost that grows with the square of its length. So rows stand
+//! in constants, helpers compare, and a test has few assertions.
 
 use crate::calls::Calls;
 use crate::session::{session, session_bounded};
@@ -7,7 +10,6 @@ use std::alloc::Global;
 use std::cell::Cell;
 use std::io::{self, ErrorKind, Read, Write};
 use std::process::Abort;
-use std::test::Fail;
 use xt_base::names::{CkptNo, Life, TransNo};
 use xt_base::steps::{Reply, Request, Step};
 use xt_text::line::Line;
@@ -156,217 +158,233 @@ fn first_lines(text: &[u8], count: usize) -> &[u8] {
     text
 }
 
-/// Asserts what a session writes, how it ends, and how often its object was called, for input in pieces of a size.
-fn says(rt: &impl Abort, alloc: Global, input: &[u8], want: &[u8], end: SessionEnd, calls: usize) {
-    for size in [1, 7, 4096, 8401] {
-        let mut out = Vec::new(alloc);
-        let mut table = Table::new();
-        let got = session(alloc, &mut Pieces::of(input, size), &mut out, &mut table);
-        assert_eq!(rt; got, end, "pieces of {size}");
-        assert_eq!(rt; out.as_slice(), want, "pieces of {size}");
-        assert_eq!(rt; table.calls, calls, "pieces of {size}");
-        assert_eq!(rt; table.ends, 1, "pieces of {size}");
+/// What a session wrote, how it ended, and how often its object was called and ended.
+#[derive(Drop)]
+struct Told {
+    out: Vec<u8>,
+    end: SessionEnd,
+    table: Table,
+}
+
+impl Told {
+    /// What a session over a reader does that may read so many bytes.
+    fn by(alloc: Global, reader: &mut Pieces, bound: u64) -> Self {
+        let (mut out, mut table) = (Vec::new(alloc), Table::new());
+        let end = session_bounded(alloc, reader, &mut out, &mut table, bound);
+        Told { out, end, table }
+    }
+
+    /// Whether it wrote just this, ended so, and ended its object once.
+    fn is(&self, want: &[u8], end: SessionEnd) -> bool {
+        self.end == end && self.out.as_slice() == want && self.table.ends == 1
     }
 }
 
-#[test]
-fn each_line_is_answered_by_one(rt: HostRuntime) {
-    let alloc = rt.alloc();
-    says(&rt, alloc, ROW_IN, ROW_OUT, SessionEnd::End, 2);
-    says(&rt, alloc, b"", b"", SessionEnd::End, 0);
-    says(&rt, alloc, b"\n", b"bad line\n", SessionEnd::End, 0);
-    says(&rt, alloc, b"0.1 force", b"done\n", SessionEnd::End, 1);
-    says(
-        &rt,
-        alloc,
-        b"0.1 force\n0.1 forc",
-        b"done\nbad line\n",
-        SessionEnd::End,
-        1,
-    );
-    says(
-        &rt,
-        alloc,
-        b"0.1 force\0\n\0\n",
-        b"bad line\nbad line\n",
-        SessionEnd::End,
-        0,
-    );
-    says(
-        &rt,
-        alloc,
-        b"0.1 force\r\n 0.1 force\n",
-        b"bad line\nbad line\n",
-        SessionEnd::End,
-        0,
-    );
-    says(
-        &rt,
-        alloc,
-        b"peek 0\npeek 16\nshow 0\n",
-        b"seen 1 live\nbad line\nbad line\n",
-        SessionEnd::End,
-        1,
-    );
-    says(
-        &rt,
-        alloc,
-        b"0.1 read t1 7\n0.1 read t1 7 = fail\n",
-        b"ok\nbad line\n",
-        SessionEnd::End,
-        1,
-    );
-    says(
-        &rt,
-        alloc,
-        b"0.1 log t1 7 0 aa*4\n0.1 log t1 7 0 aaaaaaaa\n",
-        b"ok\nbad line\n",
-        SessionEnd::End,
-        1,
-    );
-    says(
-        &rt,
-        alloc,
-        b"mount 0 65536 8\npost 0.1.ckpt.1\ntake 0 0.1.ckpt.1\nbegin 0 0.1.ckpt.1\nend 0 0.1.ckpt.1 1 ok\nflush 0 0.1.flush.1 ok ok\n",
-        b"bad line\nbad line\nbad line\nbad line\nbad line\nbad line\n",
-        SessionEnd::End,
-        0,
-    );
+/// More than any input here.
+const PLENTY: u64 = 1_000_000;
+
+/// Asserts what a session writes, how it ends, and how often its object was called, for input in pieces of a size.
+fn says(rt: &impl Abort, alloc: Global, input: &[u8], want: &[u8], end: SessionEnd, calls: usize) {
+    for size in [1, 7, 4096, 8401] {
+        let told = Told::by(alloc, &mut Pieces::of(input, size), PLENTY);
+        assert!(rt; told.is(want, end) && told.table.calls == calls, "pieces of {size}");
+    }
 }
 
+/// Input, what is written for it, and how often the object is called.
+const ROWS: &[(&[u8], &[u8], usize)] = &[
+    (ROW_IN, ROW_OUT, 2),
+    (b"", b"", 0),
+    (b"\n", b"bad line\n", 0),
+    (b"0.1 force", b"done\n", 1),
+    (b"0.1 force\n0.1 forc", b"done\nbad line\n", 1),
+    (b"0.1 force\0\n\0\n", b"bad line\nbad line\n", 0),
+    (b"0.1 force\r\n 0.1 force\n", b"bad line\nbad line\n", 0),
+    (
+        b"peek 0\npeek 16\nshow 0\n",
+        b"seen 1 live\nbad line\nbad line\n",
+        1,
+    ),
+    (
+        b"0.1 read t1 7\n0.1 read t1 7 = fail\n",
+        b"ok\nbad line\n",
+        1,
+    ),
+    (
+        b"0.1 log t1 7 0 aa*4\n0.1 log t1 7 0 aaaaaaaa\n",
+        b"ok\nbad line\n",
+        1,
+    ),
+    (
+        b"mount 0 65536 8\npost 0.1.ckpt.1\ntake 0 0.1.ckpt.1\nbegin 0 0.1.ckpt.1\nend 0 0.1.ckpt.1 1 ok\nflush 0 0.1.flush.1 ok ok\n",
+        b"bad line\nbad line\nbad line\nbad line\nbad line\nbad line\n",
+        0,
+    ),
+];
+
 #[test]
-fn a_line_too_long_ends_the_session(rt: HostRuntime) -> Result<(), Fail> {
-    let alloc = rt.alloc();
-    let mut input = vec![in alloc; b'a'; 8400]?;
-    says(&rt, alloc, &input, b"bad line\n", SessionEnd::End, 0);
-    input.extend_from_slice(b"\n0.1 force\n")?;
-    says(&rt, alloc, &input, b"bad line\ndone\n", SessionEnd::End, 1);
-    let mut long = vec![in alloc; b'a'; 8401]?;
-    says(&rt, alloc, &long, b"bad line\n", SessionEnd::TooLong, 0);
-    long.extend_from_slice(b"\n0.1 force\n")?;
-    says(&rt, alloc, &long, b"bad line\n", SessionEnd::TooLong, 0);
-    let mut late = Vec::new(alloc);
-    late.extend_from_slice(b"0.1 force\n")?;
-    late.extend_from_slice(&long)?;
-    says(
-        &rt,
-        alloc,
-        &late,
+fn each_line_is_answered_by_one(rt: HostRuntime) {
+    for (input, want, calls) in ROWS {
+        says(&rt, rt.alloc(), input, want, SessionEnd::End, *calls);
+    }
+}
+
+/// A session for which no bound is named.
+#[test]
+fn a_session_answers_to_the_end(rt: HostRuntime) {
+    let (mut reader, mut table) = (Pieces::of(ROW_IN, 4096), Table::new());
+    let mut out = Vec::new(rt.alloc());
+    let end = session(rt.alloc(), &mut reader, &mut out, &mut table);
+    assert!(rt; Told { out, end, table }.is(ROW_OUT, SessionEnd::End));
+}
+
+/// A text before so many letters `a` and one after them, what is written, how it ends, and the calls.
+const LONG: &[(&[u8], usize, &[u8], &[u8], SessionEnd, usize)] = &[
+    (b"", 8400, b"", b"bad line\n", SessionEnd::End, 0),
+    (
+        b"",
+        8400,
+        b"\n0.1 force\n",
+        b"bad line\ndone\n",
+        SessionEnd::End,
+        1,
+    ),
+    (b"", 8401, b"", b"bad line\n", SessionEnd::TooLong, 0),
+    (
+        b"",
+        8401,
+        b"\n0.1 force\n",
+        b"bad line\n",
+        SessionEnd::TooLong,
+        0,
+    ),
+    (
+        b"0.1 force\n",
+        8401,
+        b"\n0.1 force\n",
         b"done\nbad line\n",
         SessionEnd::TooLong,
         1,
-    );
-    Ok(())
+    ),
+];
+
+/// A text, so many letters `a`, and another text.
+fn with_letters(alloc: Global, before: &[u8], count: usize, after: &[u8]) -> Option<Vec<u8>> {
+    let mut text = Vec::new(alloc);
+    text.extend_from_slice(before).ok()?;
+    let letters = vec![in alloc; b'a'; count].ok()?;
+    text.extend_from_slice(&letters).ok()?;
+    text.extend_from_slice(after).ok()?;
+    Some(text)
+}
+
+#[test]
+fn a_line_too_long_ends_the_session(rt: HostRuntime) {
+    for (before, count, after, want, end, calls) in LONG {
+        let Some(input) = with_letters(rt.alloc(), before, *count, after) else {
+            return assert!(rt; false, "the input");
+        };
+        says(&rt, rt.alloc(), &input, want, *end, *calls);
+    }
+}
+
+/// Whether a session over a reader that fails at a turn ends so, with all lines answered that were read.
+fn reader_fails(alloc: Global, turn: usize, error: ErrorKind, end: SessionEnd) -> bool {
+    let told = Told::by(alloc, &mut Pieces::failing(ROW_IN, 1, turn, error), PLENTY);
+    let read = match end {
+        SessionEnd::End => ROW_IN,
+        _ => &ROW_IN[..turn.min(ROW_IN.len())],
+    };
+    told.is(first_lines(ROW_OUT, ended_lines(read)), end)
 }
 
 #[test]
 fn a_reader_that_fails_leaves_whole_lines(rt: HostRuntime) {
-    let alloc = rt.alloc();
+    let (reset, retry) = (ErrorKind::ConnectionReset, ErrorKind::Interrupted);
     for turn in 0..=ROW_IN.len() {
-        for (error, end) in [
-            (ErrorKind::ConnectionReset, SessionEnd::ReadFault),
-            (ErrorKind::Interrupted, SessionEnd::End),
-        ] {
-            let (mut out, mut table) = (Vec::new(alloc), Table::new());
-            let mut reader = Pieces::failing(ROW_IN, 1, turn, error);
-            let got = session(alloc, &mut reader, &mut out, &mut table);
-            let lines = match end {
-                SessionEnd::End => ended_lines(ROW_IN),
-                _ => ended_lines(&ROW_IN[..turn.min(ROW_IN.len())]),
-            };
-            assert_eq!(rt; got, end, "turn {turn}");
-            assert_eq!(rt; out.as_slice(), first_lines(ROW_OUT, lines), "turn {turn}");
-            assert_eq!(rt; table.ends, 1, "turn {turn}");
-        }
+        assert!(rt; reader_fails(rt.alloc(), turn, reset, SessionEnd::ReadFault), "turn {turn}");
+        assert!(rt; reader_fails(rt.alloc(), turn, retry, SessionEnd::End), "turn {turn}");
     }
+}
+
+/// How a session ends over a writer that fails after so many bytes, how many it takes, and how often the object is called.
+fn end_at(room: usize, error: Option<ErrorKind>) -> (SessionEnd, usize, usize) {
+    if error == Some(ErrorKind::Interrupted) {
+        (SessionEnd::End, ROW_OUT.len(), 2)
+    } else if room < 30 {
+        (SessionEnd::WriteFault, room, 1)
+    } else {
+        (SessionEnd::WriteFault, room, 2)
+    }
+}
+
+/// Whether a session over a writer that fails ends as it is to, and has written the beginning of what was to be.
+fn writer_fails(alloc: Global, size: usize, room: usize, error: Option<ErrorKind>) -> bool {
+    let taken = Vec::new(alloc);
+    let (mut reader, mut table) = (Pieces::of(ROW_IN, 4096), Table::new());
+    let mut writer = Narrow {
+        taken,
+        size,
+        room,
+        error,
+    };
+    let end = session(alloc, &mut reader, &mut writer, &mut table);
+    let went = writer.taken.len();
+    (end, went, table.calls) == end_at(room, error)
+        && ROW_OUT.starts_with(&writer.taken)
+        && table.ends == 1
+}
+
+/// Whether it is so for pieces of each size.
+fn writers_fail(alloc: Global, room: usize, error: Option<ErrorKind>) -> bool {
+    writer_fails(alloc, 1, room, error)
+        && writer_fails(alloc, 3, room, error)
+        && writer_fails(alloc, 100, room, error)
 }
 
 #[test]
 fn a_writer_that_fails_ends_the_session(rt: HostRuntime) {
-    let alloc = rt.alloc();
+    let (pipe, retry) = (ErrorKind::BrokenPipe, ErrorKind::Interrupted);
     for room in 0..ROW_OUT.len() {
-        for error in [
-            Some(ErrorKind::BrokenPipe),
-            None,
-            Some(ErrorKind::Interrupted),
-        ] {
-            for size in [1, 3, 100] {
-                let mut table = Table::new();
-                let mut writer = Narrow {
-                    taken: Vec::new(alloc),
-                    size,
-                    room,
-                    error,
-                };
-                let got = session(
-                    alloc,
-                    &mut Pieces::of(ROW_IN, 4096),
-                    &mut writer,
-                    &mut table,
-                );
-                let (end, went, calls) = if error == Some(ErrorKind::Interrupted) {
-                    (SessionEnd::End, ROW_OUT.len(), 2)
-                } else if room < 30 {
-                    (SessionEnd::WriteFault, room, 1)
-                } else {
-                    (SessionEnd::WriteFault, room, 2)
-                };
-                assert_eq!(rt; got, end, "room {room}");
-                assert_eq!(rt; writer.taken.as_slice(), &ROW_OUT[..went], "room {room}");
-                assert_eq!(rt; table.calls, calls, "room {room}");
-                assert_eq!(rt; table.ends, 1, "room {room}");
-            }
-        }
+        assert!(rt; writers_fail(rt.alloc(), room, Some(pipe)), "room {room}");
+        assert!(rt; writers_fail(rt.alloc(), room, None), "room {room}");
+        assert!(rt; writers_fail(rt.alloc(), room, Some(retry)), "room {room}");
     }
+}
+
+/// Whether input that is cut is answered to its end: its whole lines as they are, and a piece of a line by one.
+fn cut_is_answered(alloc: Global, cut: &[u8]) -> bool {
+    let told = Told::by(alloc, &mut Pieces::of(cut, 7), PLENTY);
+    let whole = ended_lines(cut);
+    let last = usize::from(!cut.is_empty() && !cut.ends_with(b"\n"));
+    told.end == SessionEnd::End
+        && told.out.starts_with(first_lines(b"t1\nok\nok\n", whole))
+        && ended_lines(&told.out) == whole.saturating_add(last)
+        && told.table.ends == 1
 }
 
 #[test]
 fn input_that_is_cut_is_answered_to_its_end(rt: HostRuntime) {
-    let alloc = rt.alloc();
     let input = b"0.1 alloc 176 1 plain\n0.1 read t1 7\n0.1 log t1 7 0 11\n".as_slice();
     for len in 0..=input.len() {
-        let (mut out, mut table) = (Vec::new(alloc), Table::new());
-        let cut = &input[..len];
-        let got = session(alloc, &mut Pieces::of(cut, 7), &mut out, &mut table);
-        let whole = ended_lines(cut);
-        let last = usize::from(!cut.is_empty() && !cut.ends_with(b"\n"));
-        assert_eq!(rt; got, SessionEnd::End, "cut at {len}");
-        assert!(rt;
-            out.starts_with(first_lines(b"t1\nok\nok\n", whole)),
-            "cut at {len}"
-        );
-        assert_eq!(rt;
-            ended_lines(&out),
-            whole.saturating_add(last),
-            "cut at {len}"
-        );
-        assert_eq!(rt; table.ends, 1, "cut at {len}");
+        assert!(rt; cut_is_answered(rt.alloc(), &input[..len]), "cut at {len}");
     }
+}
+
+/// Whether a session that may read so many bytes answers the lines that end in them, and reads no more.
+fn is_bounded(alloc: Global, bound: usize) -> bool {
+    let told = Told::by(alloc, &mut Pieces::of(ROW_IN, 7), bound as u64);
+    if bound > ROW_IN.len() {
+        return told.is(ROW_OUT, SessionEnd::End);
+    }
+    let lines = ended_lines(&ROW_IN[..bound.min(ROW_IN.len())]);
+    told.is(first_lines(ROW_OUT, lines), SessionEnd::ReadFault)
 }
 
 #[test]
 fn a_session_reads_no_more_than_its_bound(rt: HostRuntime) {
-    let alloc = rt.alloc();
     for bound in 0..=ROW_IN.len() + 2 {
-        let (mut out, mut table) = (Vec::new(alloc), Table::new());
-        let mut reader = Pieces::of(ROW_IN, 7);
-        let limit = bound as u64;
-        let got = session_bounded(alloc, &mut reader, &mut out, &mut table, limit);
-        let (end, lines) = if bound > ROW_IN.len() {
-            (SessionEnd::End, ended_lines(ROW_IN))
-        } else {
-            (
-                SessionEnd::ReadFault,
-                ended_lines(&ROW_IN[..bound.min(ROW_IN.len())]),
-            )
-        };
-        assert_eq!(rt; got, end, "bound {bound}");
-        assert_eq!(rt;
-            out.as_slice(),
-            first_lines(ROW_OUT, lines),
-            "bound {bound}"
-        );
-        assert_eq!(rt; table.ends, 1, "bound {bound}");
+        assert!(rt; is_bounded(rt.alloc(), bound), "bound {bound}");
     }
 }
 
@@ -386,9 +404,7 @@ fn a_reader_that_gives_nothing_is_given_up(rt: HostRuntime) {
     let alloc = rt.alloc();
     let (mut out, mut table, mut reader) = (Vec::new(alloc), Table::new(), Restless(0));
     let got = session_bounded(alloc, &mut reader, &mut out, &mut table, 1000);
-    assert_eq!(rt; got, SessionEnd::ReadFault);
-    assert_eq!(rt; reader.0, 1000);
-    assert_eq!(rt; table.ends, 1);
+    assert!(rt; got == SessionEnd::ReadFault && reader.0 == 1000 && table.ends == 1);
 }
 
 /// One who gives the next line once the reply to the last was seen.
@@ -439,9 +455,7 @@ fn a_reply_is_written_before_the_next_line_is_read(rt: HostRuntime) {
         waited: false,
     };
     let got = session(rt.alloc(), &mut reader, &mut Hearing(&seen), &mut table);
-    assert_eq!(rt; got, SessionEnd::End);
-    assert!(rt; !reader.waited);
-    assert_eq!(rt; table.calls, 2000);
+    assert!(rt; got == SessionEnd::End && !reader.waited && table.calls == 2000);
 }
 
 /// Keeps what is written in a place of its own.
@@ -465,27 +479,28 @@ impl Write for Slate {
     }
 }
 
+/// Whether a session over a line that asks for memory, between two that don't, did nothing for want of
+/// buffers, or answered each line, the second one perhaps by ENOMEM. It has this end, and the object was called so often.
+fn is_told(end: SessionEnd, wrote: &[u8], turns: usize, calls: usize) -> bool {
+    if end == SessionEnd::Memory {
+        wrote.is_empty() && turns == 0 && calls == 0
+    } else if wrote == b"done\nENOMEM\ndone\n".as_slice() {
+        calls == 2
+    } else {
+        wrote == b"done\nok\ndone\n".as_slice() && calls == 3
+    }
+}
+
 /// Whatever is refused memory: a session without buffers does nothing, and a line that can't be parsed is answered so.
 #[test]
 fn want_of_memory_is_told(rt: HostRuntime) {
-    let alloc = rt.alloc();
     let input = b"0.1 force\n0.1 log t1 7 0 aa*4\n0.1 force\n".as_slice();
     let (mut reader, mut table) = (Pieces::of(input, 4096), Table::new());
     let mut writer = Slate {
         bytes: [0; 64],
         len: 0,
     };
-    let got = session(alloc, &mut reader, &mut writer, &mut table);
+    let got = session(rt.alloc(), &mut reader, &mut writer, &mut table);
     let wrote = &writer.bytes[..writer.len.min(64)];
-    assert_eq!(rt; table.ends, 1);
-    if got == SessionEnd::Memory {
-        assert!(rt; wrote.is_empty());
-        assert_eq!(rt; reader.turns, 0);
-        assert_eq!(rt; table.calls, 0);
-    } else if wrote == b"done\nENOMEM\ndone\n".as_slice() {
-        assert_eq!(rt; table.calls, 2);
-    } else {
-        assert_eq!(rt; wrote, b"done\nok\ndone\n".as_slice());
-        assert_eq!(rt; table.calls, 3);
-    }
+    assert!(rt; is_told(got, wrote, reader.turns, table.calls) && table.ends == 1);
 }
