@@ -1,4 +1,7 @@
 //! Worked texts: read back, cut short after each byte, and with a byte changed.
+//!
+//! A test function is proved too, at a cost that grows with the square of its length. So rows stand
+//! in constants, helpers compare, and a test has few assertions.
 
 ghost use Rattle.std.specs.Prelude.{◌≡◌, ◌<◌, IfOk, IfSome};
 ghost use Rattle.xt_ckpt.specs.Items.{HasForm};
@@ -8,6 +11,7 @@ mod texts;
 use crate::item::Item;
 use crate::reading::{Checkpoint, CkptFault, ReadFault, read_checkpoint};
 use crate::writing::write_checkpoint;
+use bytes::Bytes;
 use std::alloc::Global;
 use std::test::*;
 use texts::{OF_4096, OF_8192};
@@ -93,32 +97,53 @@ fn first_text(alloc: Global, input: &[u8]) -> Result<(Checkpoint, usize), Fail> 
     Ok(found.ok_or("a text")?)
 }
 
+/// Texts of one item, their lengths, and its chunks and its bytes.
+const OF_ONE: &[(&str, usize, u32, &str)] = &[
+    (OF_176, 176, 0x2, "00*2.0102.00*124"),
+    (OF_304, 304, 0x9, "11.00*143.22.00*111"),
+    (OF_432, 432, 0x8000_0003, "00*127.0102.00*254.ff"),
+    (OF_48, 48, 0, ""),
+    (OF_4144, 4144, 0xffff_ffff, "aa*4096"),
+];
+
+/// Whether a checkpoint is number 1 and has one item, of block 7, with these chunks and bytes.
+fn is_one(checkpoint: &Checkpoint, map: u32, content: &[u8]) -> bool {
+    match checkpoint.items.as_slice() {
+        [item] => {
+            checkpoint.no == CkptNo(1)
+                && item.block == Block(7)
+                && item.chunks.word() == map
+                && item.content.as_slice() == content
+        }
+        _ => false,
+    }
+}
+
 #[test]
 fn texts_of_one_item(rt: HostRuntime) -> Result<(), Fail> {
-    let wanted = [
-        (OF_176, 176, 0x2, "00*2.0102.00*124"),
-        (OF_304, 304, 0x9, "11.00*143.22.00*111"),
-        (OF_432, 432, 0x8000_0003, "00*127.0102.00*254.ff"),
-        (OF_48, 48, 0, ""),
-        (OF_4144, 4144, 0xffff_ffff, "aa*4096"),
-    ];
-    for (text, len, map, content) in wanted {
+    for (text, len, map, content) in OF_ONE {
         let mut input = bytes_of(rt.alloc(), text)?;
         input.push(0x58)?;
         let (checkpoint, read) = first_text(rt.alloc(), &input)?;
-        assert_eq!(rt; read, len);
-        assert_eq!(rt; checkpoint.no, CkptNo(1));
-        assert_eq!(rt; checkpoint.items.len(), 1);
-        for item in &checkpoint.items {
-            assert_eq!(rt; item.block, Block(7));
-            assert_eq!(rt; item.chunks.word(), map);
-            assert_eq!(rt;
-                item.content.as_slice(),
-                bytes_of(rt.alloc(), content)?.as_slice()
-            );
-        }
+        let content = bytes_of(rt.alloc(), content)?;
+        assert!(rt;
+            read == *len && is_one(&checkpoint, *map, &content),
+            "{text}"
+        );
     }
     Ok(())
+}
+
+/// Whether a checkpoint has 30 items, of blocks 0 to 29, of which so many are cancels.
+fn are_thirty(checkpoint: &Checkpoint, cancels: usize) -> bool {
+    let mut found = 0usize;
+    for (at, item) in checkpoint.items.iter().enumerate() {
+        if item.block != Block(at as u64) {
+            return false;
+        }
+        found = found.saturating_add(usize::from(item.chunks.is_empty()));
+    }
+    checkpoint.items.len() == 30 && found == cancels
 }
 
 #[test]
@@ -126,31 +151,29 @@ fn texts_of_thirty_items(rt: HostRuntime) -> Result<(), Fail> {
     for (text, len, cancels) in [(OF_4096, 4096, 2), (OF_8192, 8192, 0)] {
         let input = bytes_of(rt.alloc(), text)?;
         let (checkpoint, read) = first_text(rt.alloc(), &input)?;
-        assert_eq!(rt; read, len);
-        assert_eq!(rt; checkpoint.items.len(), 30);
-        for (at, item) in checkpoint.items.iter().enumerate() {
-            assert_eq!(rt; item.block, Block(at as u64));
-        }
-        let found = checkpoint
-            .items
-            .iter()
-            .filter(|item| item.chunks.is_empty());
-        assert_eq!(rt; found.count(), cancels);
+        assert!(rt; read == len && are_thirty(&checkpoint, cancels));
     }
     Ok(())
 }
 
 /// Every front of a text is unfinished: each field that is all there obeys its rule.
+fn is_unfinished_at_each(alloc: Global, input: &[u8]) -> Result<bool, Fail> {
+    for len in 0..input.len() {
+        if read_outcome(alloc, &input[..len])? != Outcome::Unfinished {
+            return Ok(false);
+        }
+    }
+    Ok(true)
+}
+
 #[test]
 fn cut_after_each_byte(rt: HostRuntime) -> Result<(), Fail> {
-    for text in [OF_176, OF_304, OF_432, OF_48, OF_4144, OF_4096, OF_8192] {
+    const TEXTS: &[&str] = &[OF_176, OF_304, OF_432, OF_48, OF_4144, OF_4096, OF_8192];
+    for text in TEXTS {
         let input = bytes_of(rt.alloc(), text)?;
-        for len in 0..input.len() {
-            let outcome = read_outcome(rt.alloc(), &input[..len])?;
-            assert_eq!(rt; outcome, Outcome::Unfinished, "cut at {len}");
-        }
         let outcome = read_outcome(rt.alloc(), &input)?;
-        assert_eq!(rt; outcome, Outcome::Text(input.len()));
+        assert!(rt; outcome == Outcome::Text(input.len()), "{text}");
+        assert!(rt; is_unfinished_at_each(rt.alloc(), &input)?, "{text}");
     }
     Ok(())
 }
@@ -159,7 +182,7 @@ fn cut_after_each_byte(rt: HostRuntime) -> Result<(), Fail> {
 /// change in each of them alone, and what the rules say of it then.
 type Change = (&'static str, usize, usize, u8, Outcome);
 
-const CHANGES: [Change; 46] = [
+const CHANGES: &[Change] = &[
     // the first word is another
     (OF_176, 0, 4, 0xff, Outcome::Fault(0)),
     // another number, which differs from the one at the end
@@ -233,54 +256,64 @@ const CHANGES: [Change; 46] = [
     (OF_8192, 8176, 8180, 0x01, Outcome::Fault(8176)),
 ];
 
+/// What is read of a text in which one byte is changed by these bits.
+fn changed(alloc: Global, input: &mut [u8], at: usize, bits: u8) -> Result<Outcome, Fail> {
+    if at >= input.len() {
+        return Err("a byte of the text".into());
+    }
+    input[at] ^= bits;
+    let outcome = read_outcome(alloc, input)?;
+    input[at] ^= bits;
+    Ok(outcome)
+}
+
 #[test]
 fn one_byte_changed(rt: HostRuntime) -> Result<(), Fail> {
     for (text, first, end, bits, wanted) in CHANGES {
         let mut input = bytes_of(rt.alloc(), text)?;
-        for at in first..end {
-            assert!(rt; at < input.len());
-            input[at] ^= bits;
-            let outcome = read_outcome(rt.alloc(), &input)?;
-            assert_eq!(rt; outcome, wanted, "byte {at} changed by {bits}");
-            input[at] ^= bits;
+        for at in *first..*end {
+            let outcome = changed(rt.alloc(), &mut input, at, *bits)?;
+            assert!(rt; outcome == *wanted, "byte {at} changed by {bits}");
         }
     }
     Ok(())
 }
 
+/// A text, what is behind it, where that begins, and what it is read as.
+const LOGS: &[(&str, &str, usize, Outcome)] = &[
+    ("", "", 0, Outcome::Unfinished),
+    (OF_48, "", 48, Outcome::Unfinished),
+    (OF_4144, "5843503100", 4144, Outcome::Unfinished),
+    (OF_4144, "ffffffff", 4144, Outcome::Fault(0)),
+    (OF_176, "", 176, Outcome::Unfinished),
+    (OF_176, "ffffff", 176, Outcome::Unfinished),
+    // a cancel of block 7, and then block 7 again
+    (
+        OF_176,
+        "58435031.00*7.0200000002.00*7.07.00*7.01.00*7.07",
+        176,
+        Outcome::Fault(32),
+    ),
+    // flag 0 where there is no chunk
+    (
+        "",
+        "58435031.00*7.0100000001.00*7.07.00*8",
+        0,
+        Outcome::Fault(28),
+    ),
+];
+
 /// Logs of several texts: how many are whole, and what is behind them.
 #[test]
 fn logs(rt: HostRuntime) -> Result<(), Fail> {
-    let wanted = [
-        ("", "", 0, Outcome::Unfinished),
-        (OF_48, "", 48, Outcome::Unfinished),
-        (OF_4144, "5843503100", 4144, Outcome::Unfinished),
-        (OF_4144, "ffffffff", 4144, Outcome::Fault(0)),
-        (OF_176, "", 176, Outcome::Unfinished),
-        (OF_176, "ffffff", 176, Outcome::Unfinished),
-        // a cancel of block 7, and then block 7 again
-        (
-            OF_176,
-            "58435031.00*7.0200000002.00*7.07.00*7.01.00*7.07",
-            176,
-            Outcome::Fault(32),
-        ),
-        // flag 0 where there is no chunk
-        (
-            "",
-            "58435031.00*7.0100000001.00*7.07.00*8",
-            0,
-            Outcome::Fault(28),
-        ),
-    ];
-    for (text, behind, len, outcome) in wanted {
+    for (text, behind, len, outcome) in LOGS {
         let mut log = bytes_of(rt.alloc(), text)?;
         log.extend_from_slice(&bytes_of(rt.alloc(), behind)?)?;
-        if len > 0 {
-            assert_eq!(rt; read_outcome(rt.alloc(), &log)?, Outcome::Text(len));
-        }
-        assert!(rt; len <= log.len());
-        assert_eq!(rt; read_outcome(rt.alloc(), &log[len..])?, outcome);
+        let first = read_outcome(rt.alloc(), &log)?;
+        let rest = log.get(*len..).ok_or("bytes behind a text")?;
+        let then = read_outcome(rt.alloc(), rest)?;
+        assert!(rt; *len == 0 || first == Outcome::Text(*len));
+        assert!(rt; then == *outcome, "{text} {behind}");
     }
     Ok(())
 }
@@ -299,30 +332,30 @@ fn item_of(alloc: Global, block: u64, map: u32, byte: u8) -> Result<Item, Fail>
     })
 }
 
-#[test]
-fn written_and_read_again(rt: HostRuntime) -> Result<(), Fail> {
-    let alloc = rt.alloc();
+/// The pieces of a checkpoint of block 7 alone.
+fn pieces_of(alloc: Global, map: u32, byte: u8) -> Result<Vec<Bytes>, Fail> {
     let mut items = Vec::new(alloc);
-    items.push(item_of(alloc, 7, 0xffff_ffff, 0xaa)?)?;
-    let pieces = write_checkpoint(alloc, CkptNo(1), &items)?;
-    assert_eq!(rt; pieces.len(), 2);
-    let mut text = Vec::new(alloc);
-    for piece in &pieces {
-        assert!(rt; piece.len() == 4096 || piece.len() == 48);
-        text.extend_from_slice(piece.as_slice())?;
-    }
-    assert_eq!(rt; text.as_slice(), bytes_of(alloc, OF_4144)?.as_slice());
+    items.push(item_of(alloc, 7, map, byte)?)?;
+    Ok(write_checkpoint(alloc, CkptNo(1), &items)?)
+}
+
+#[test]
+fn whole_block_written(rt: HostRuntime) -> Result<(), Fail> {
+    let pieces = pieces_of(rt.alloc(), 0xffff_ffff, 0xaa)?;
+    let text = bytes_of(rt.alloc(), OF_4144)?;
+    let is_cut = match (pieces.as_slice(), text.split_at_checked(4096)) {
+        ([one, two], Some((front, back))) => one.as_slice() == front && two.as_slice() == back,
+        _ => false,
+    };
+    assert!(rt; is_cut);
     Ok(())
 }
 
 #[test]
 fn cancel_written(rt: HostRuntime) -> Result<(), Fail> {
-    let alloc = rt.alloc();
-    let mut items = Vec::new(alloc);
-    items.push(item_of(alloc, 7, 0, 0)?)?;
-    let pieces = write_checkpoint(alloc, CkptNo(1), &items)?;
-    assert_eq!(rt; pieces.len(), 1);
-    assert_eq!(rt; pieces[0].as_slice(), bytes_of(alloc, OF_48)?.as_slice());
+    let pieces = pieces_of(rt.alloc(), 0, 0)?;
+    let text = bytes_of(rt.alloc(), OF_48)?;
+    assert!(rt; matches!(pieces.as_slice(), [piece] if piece.as_slice() == text.as_slice()));
     Ok(())
 }
 
@@ -330,7 +363,7 @@ fn cancel_written(rt: HostRuntime) -> Result<(), Fail> {
 /// each allocation failing in turn.
 #[test]
 fn growth_refused(rt: HostRuntime) {
-    let places = [
+    const PLACES: &[(usize, u8)] = &[
         (0, 0x58),
         (1, 0x43),
         (2, 0x50),
@@ -348,13 +381,14 @@ fn growth_refused(rt: HostRuntime) {
         (175, 1),
     ];
     let mut input = [0u8; 176];
-    for (at, byte) in places {
-        assert!(rt; at < 176);
-        input[at] = byte;
+    for (at, byte) in PLACES {
+        assert!(rt; *at < 176);
+        input[*at] = *byte;
     }
-    match read_checkpoint(rt.alloc(), &input) {
-        Ok(Some((_, len))) => assert_eq!(rt; len, 176),
-        Ok(None) => panic!(rt; "a whole text is not unfinished"),
-        Err(fault) => assert_eq!(rt; fault, ReadFault::Memory),
-    }
+    let is_so = match read_checkpoint(rt.alloc(), &input) {
+        Ok(Some((_, len))) => len == 176,
+        Ok(None) => false,
+        Err(fault) => fault == ReadFault::Memory,
+    };
+    assert!(rt; is_so);
 }
