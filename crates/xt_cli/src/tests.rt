@@ -15,23 +15,18 @@ mod orders;
 mod places;
 mod rolls;
 mod rows;
+mod scripts;
 mod shut;
 mod slots;
 
 use crate::script::run_script;
-use asked::*;
-use buffers::*;
 use drive::{Told, drive, home_lines, lines_of, log_lines};
-use home::*;
-use idle::*;
-use longest::*;
+use home::{FAILED_WRITE_IN, FAILED_WRITE_OUT, FLOWN_AGAIN_IN, FLOWN_AGAIN_OUT};
+use idle::{IDLE_IN, IDLE_OUT};
 use names::*;
-use orders::*;
-use places::*;
-use rolls::*;
-use rows::*;
-use shut::*;
-use slots::*;
+use rows::{ROW01_IN, ROW01_OUT, ROW21B_IN};
+use scripts::*;
+use shut::{INVALIDATED_IN, INVALIDATED_OUT};
 use std::alloc::{AllocError, Global};
 use std::io::{self, Read, Write};
 use std::process::Abort;
@@ -43,14 +38,6 @@ use xt_dev::fail_at::FailAt;
 use xt_dev::home::HomeDevice;
 use xt_dev::mem_home::MemHome;
 use xt_dev::mem_log::MemLog;
-
-/// Steps of two slots, among each other.
-const TWO_SLOTS: &str = "\
-    mount 0 65536 1024\n\
-    mount 1 65536 1024\n\
-    0.1 alloc 5000 1 plain\n\
-    1.1 alloc 5000 1 plain\n\
-    0.1 get t1 7\n";
 
 /// A disk that is full.
 #[derive(Drop)]
@@ -80,325 +67,6 @@ impl Write for Stuck {
     }
 }
 
-/// A shutdown shows at the next `show`, and an empty slot shows nothing.
-const SHUTDOWN_SHOWN_IN: &str = "\
-    peek 0\nshow 0\npeek 0\nmount 0 65536 1024\npeek 0\nshow 0\npeek 0\n0.1 shutdown\npeek 0\nshow 0\n\
-    peek 0\n0.1 push\n0.1 forceto c1\n0.1 unmount\npeek 0\n";
-
-/// What it prints.
-const SHUTDOWN_SHOWN_OUT: &str = "\
-    0 seen 0 live\n0 ok\n0 seen 0 live\n0 life 1\n0 seen 0 live\n0 ok\n0 seen 1 live\n0 ok\n0 seen 1 live\n0 ok\n\
-    0 seen 1 FORCE_UMOUNT\n0 EIO\n0 EIO\n0 ok\n0 seen 1 FORCE_UMOUNT\n";
-
-/// A checkpoint that is forced by its number, before and after its begin.
-const FORCE_TO_IN: &str = "\
-    mount 0 65536 1024\n0.1 forceto c1\n0.1 alloc 5000 1 plain\n0.1 get t1 7\n0.1 log t1 7 0 aa*4096\n0.1 commit t1\n\
-    0.1 forceto c0\n0.1 forceto c2\n0.1 forceto c1\n0.1 unmount\npost 0.1.ckpt.1\ntake 0 0.1.ckpt.1\nbegin 0 0.1.ckpt.1\n\
-    0.1 forceto c1\n0.1 forceto c2\n";
-
-/// What it prints.
-const FORCE_TO_OUT: &str = "\
-    0 life 1\n0 done\n0 t1\n0 ok\n0 ok\n0 c1\n0 EINVAL\n0 EINVAL\n0 wait c1\n0 EBUSY\n0 ok\n0 ok\n0 begun c1 2\n\
-    0 wait c1\n0 done\n";
-
-/// A worked script: what it shows, its lines, what it prints, and its status.
-type Script = (&'static str, &'static str, &'static str, u8);
-
-/// Scripts of one slot, by subject.
-const SCRIPTS: &[Script] = &[
-    ("one force one checkpoint", ROW01_IN, ROW01_OUT, 0),
-    (
-        "a failed offer fails the force",
-        ROW13_R1_IN,
-        ROW13_R1_OUT,
-        0,
-    ),
-    ("chunks are marked and joined", ROW02_IN, ROW02_OUT, 0),
-    ("chunks are marked and joined", ROW03_IN, ROW03_OUT, 0),
-    ("chunks are marked and joined", ROW04_IN, ROW04_OUT, 0),
-    (
-        "chunks are marked and joined",
-        WHOLE_PIECES_IN,
-        WHOLE_PIECES_OUT,
-        0,
-    ),
-    ("blocks are locked and given back", ROW05_IN, ROW05_OUT, 0),
-    ("blocks are locked and given back", ROW06_IN, ROW06_OUT, 0),
-    ("blocks are locked and given back", ROW07_IN, ROW07_OUT, 0),
-    (
-        "a clean cancel gives back blocks and space",
-        ROW09_IN,
-        ROW09_OUT,
-        0,
-    ),
-    (
-        "a clean cancel gives back blocks and space",
-        ROW09_VIEWED_IN,
-        ROW09_VIEWED_OUT,
-        0,
-    ),
-    ("a dirty cancel shuts the mount", ROW10_IN, ROW10_OUT, 0),
-    (
-        "a failed read shuts the mount of a dirty leg",
-        ROW14_IN,
-        ROW14_OUT,
-        0,
-    ),
-    (
-        "the board shows why a mount was shut",
-        CANCEL_SHOWN_IN,
-        CANCEL_SHOWN_OUT,
-        0,
-    ),
-    (
-        "the board shows why a mount was shut",
-        PIECE_SHOWN_IN,
-        PIECE_SHOWN_OUT,
-        0,
-    ),
-    (
-        "the board shows why a mount was shut",
-        READ_SHOWN_IN,
-        READ_SHOWN_OUT,
-        0,
-    ),
-    (
-        "the board shows why a mount was shut",
-        CLEAN_READ_SHOWN_IN,
-        CLEAN_READ_SHOWN_OUT,
-        0,
-    ),
-    (
-        "the board shows why a mount was shut",
-        FIRST_PIECE_IN,
-        FIRST_PIECE_OUT,
-        0,
-    ),
-    (
-        "the board shows why a mount was shut",
-        FIRST_SYNC_IN,
-        FIRST_SYNC_OUT,
-        0,
-    ),
-    (
-        "a block given up for good is locked until its checkpoint lands",
-        INVALIDATED_IN,
-        INVALIDATED_OUT,
-        0,
-    ),
-    (
-        "a block given up for good is locked until its checkpoint lands",
-        ONE_PIECE_IN,
-        ONE_PIECE_OUT,
-        0,
-    ),
-    ("lives and numbers are counted", LIVES_IN, LIVES_OUT, 0),
-    (
-        "lives and numbers are counted",
-        NO_NUMBER_IN,
-        NO_NUMBER_OUT,
-        0,
-    ),
-    (
-        "a begin clears what was asked",
-        BEGIN_CLEARS_IN,
-        BEGIN_CLEARS_OUT,
-        3,
-    ),
-    ("at most 64 blocks are busy", BUSY_IN, BUSY_OUT, 0),
-    ("a chunk is logged again", RELOGGED_IN, RELOGGED_OUT, 0),
-    ("a commit of an eighth is pushed", EIGHTH_IN, EIGHTH_OUT, 0),
-    (
-        "a commit of less than an eighth is not",
-        EIGHTH_LESS_IN,
-        EIGHTH_LESS_OUT,
-        3,
-    ),
-    ("log space is asked and given back", ROLLS_IN, ROLLS_OUT, 0),
-    (
-        "log space is asked and given back",
-        REFUSED_ALLOCS_IN,
-        REFUSED_ALLOCS_OUT,
-        0,
-    ),
-    (
-        "blocks are written home",
-        FLOWN_AGAIN_IN,
-        FLOWN_AGAIN_OUT,
-        0,
-    ),
-    ("blocks are written home", PINNED_IN, PINNED_OUT, 0),
-    (
-        "blocks are written home",
-        FAILED_WRITE_IN,
-        FAILED_WRITE_OUT,
-        0,
-    ),
-    (
-        "a failed flush leaves its blocks",
-        WRITE_SHOWN_IN,
-        WRITE_SHOWN_OUT,
-        0,
-    ),
-    (
-        "a failed flush leaves its blocks",
-        SYNC_SHOWN_IN,
-        SYNC_SHOWN_OUT,
-        0,
-    ),
-    (
-        "a failed flush leaves its blocks",
-        WRITE_FAILS_IN,
-        WRITE_FAILS_OUT,
-        3,
-    ),
-    (
-        "a failed flush leaves its blocks",
-        SYNC_FAILS_IN,
-        SYNC_FAILS_OUT,
-        3,
-    ),
-    (
-        "a failed second checkpoint shuts the mount",
-        SECOND_PIECE_IN,
-        SECOND_PIECE_OUT,
-        0,
-    ),
-    (
-        "a failed second checkpoint shuts the mount",
-        SECOND_SYNC_IN,
-        SECOND_SYNC_OUT,
-        0,
-    ),
-    (
-        "what is not asked is not owed",
-        MANY_OPEN_IN,
-        MANY_OPEN_OUT,
-        3,
-    ),
-    (
-        "what is not asked is not owed",
-        PUSH_ENDS_IN,
-        PUSH_ENDS_OUT,
-        3,
-    ),
-    (
-        "what is not asked is not owed",
-        EMPTY_LIST_IN,
-        EMPTY_LIST_OUT,
-        3,
-    ),
-    (
-        "what is not asked is not owed",
-        SHUT_OWES_IN,
-        SHUT_OWES_OUT,
-        3,
-    ),
-    (
-        "the first refusal is answered",
-        ALLOC_ORDER_IN,
-        ALLOC_ORDER_OUT,
-        0,
-    ),
-    (
-        "the first refusal is answered",
-        FORCE_TO_ORDER_IN,
-        FORCE_TO_ORDER_OUT,
-        0,
-    ),
-    (
-        "the first refusal is answered",
-        LOG_ORDER_IN,
-        LOG_ORDER_OUT,
-        0,
-    ),
-    (
-        "the first refusal is answered",
-        MOUNT_ORDER_IN,
-        MOUNT_ORDER_OUT,
-        0,
-    ),
-    (
-        "the first refusal is answered",
-        READ_ORDER_IN,
-        READ_ORDER_OUT,
-        0,
-    ),
-    (
-        "a full mount asks for no block",
-        BUSY_READ_IN,
-        BUSY_READ_OUT,
-        0,
-    ),
-    (
-        "a flush of a shut mount finds nothing",
-        FLUSH_SHUT_IN,
-        FLUSH_SHUT_OUT,
-        0,
-    ),
-    (
-        "a flush of a shut mount finds nothing",
-        FLUSH_ANSWERED_IN,
-        FLUSH_ANSWERED_OUT,
-        3,
-    ),
-    (
-        "the oldest block is written first and frees the log",
-        KEPT_PLACE_IN,
-        KEPT_PLACE_OUT,
-        0,
-    ),
-    (
-        "the oldest block is written first and frees the log",
-        TAIL_IN,
-        TAIL_OUT,
-        0,
-    ),
-    (
-        "the longest checkpoint lands and goes home",
-        LONGEST_IN,
-        LONGEST_OUT,
-        0,
-    ),
-    ("an empty script says nothing", "", "", 0),
-    (
-        "the last newline may be wanting",
-        "mount 0 65536 1024",
-        "0 life 1\n",
-        0,
-    ),
-    (
-        "a broken order is printed after what came before",
-        "mount 0 65536 1024\ntake 0 0.1.ckpt.1\n0.1 force\n",
-        "0 life 1\ndisorder 2\n",
-        3,
-    ),
-    (
-        "a broken order is printed after what came before",
-        "post 0.1.ckpt.1\n",
-        "disorder 1\n",
-        3,
-    ),
-    (
-        "slots are mounted side by side",
-        TWO_SLOTS,
-        "0 life 1\n1 life 1\n0 t1\n1 t1\n0 ok\n",
-        0,
-    ),
-    (
-        "a shutdown is shown and an empty slot is not",
-        SHUTDOWN_SHOWN_IN,
-        SHUTDOWN_SHOWN_OUT,
-        0,
-    ),
-    (
-        "a force to a checkpoint waits for just that one",
-        FORCE_TO_IN,
-        FORCE_TO_OUT,
-        0,
-    ),
-];
-
 /// Whether the steps of a script, or those of one slot, print just this, and the status is this.
 fn is_said(alloc: Global, input: &str, only: Option<Slot>, want: &str, status: u8) -> bool {
     let (mut out, mut err) = (Vec::new(alloc), Vec::new(alloc));
@@ -411,82 +79,70 @@ fn says(rt: &impl Abort, alloc: Global, input: &str, want: &str, status: u8) {
     assert!(rt; is_said(alloc, input, None, want, status));
 }
 
-#[test]
-fn worked_scripts_say_what_they_are_to(rt: HostRuntime) {
-    for (i, (name, input, want, status)) in SCRIPTS.iter().enumerate() {
-        let is_so = is_said(rt.alloc(), input, None, want, *status);
-        assert!(rt; is_so, "{name}, row {i}");
+/// Asserts what each script prints, and its status.
+fn all_say(rt: &impl Abort, alloc: Global, scripts: &[Script]) {
+    for (i, (name, input, want, status)) in scripts.iter().enumerate() {
+        assert!(rt;
+            is_said(alloc, input, None, want, *status),
+            "{name}, row {i}"
+        );
     }
 }
 
-/// Scripts of two slots: what each shows, its lines, what it prints, its status, and what the steps of each of its slots print by themselves.
-const STRUCK: &[(Script, (u8, &str), (u8, &str))] = &[
-    (
-        (
-            "two slots in turn say what each says alone",
-            ROW11_IN,
-            ROW11_OUT,
-            0,
-        ),
-        (0, ROW11_0),
-        (1, ROW11_1),
-    ),
-    (
-        (
-            "a take that is not the front breaks order",
-            ROW12_IN,
-            ROW12_OUT,
-            3,
-        ),
-        (0, ROW12_0),
-        (1, ROW12_1),
-    ),
-    (
-        (
-            "a failing disk shuts its own slot alone",
-            ROW13_IN,
-            ROW13_OUT,
-            0,
-        ),
-        (0, ROW13_0),
-        (1, ROW13_1),
-    ),
-    (
-        (
-            "a full slot leaves room in another",
-            ROW16A_IN,
-            ROW16A_OUT,
-            0,
-        ),
-        (0, ROW16A_0),
-        (1, ROW16A_1),
-    ),
-    (
-        ("thirty-two names", NAMES_IN, NAMES_OUT, 0),
-        (0, NAMES_0),
-        (15, NAMES_15),
-    ),
-    (
-        (
-            "steps of other slots are left out",
-            TWO_SLOTS,
-            "0 life 1\n1 life 1\n0 t1\n1 t1\n0 ok\n",
-            0,
-        ),
-        (0, "0 life 1\n0 t1\n0 ok\n"),
-        (1, "1 life 1\n1 t1\n"),
-    ),
-    (
-        (
-            "no step is of another slot",
-            TWO_SLOTS,
-            "0 life 1\n1 life 1\n0 t1\n1 t1\n0 ok\n",
-            0,
-        ),
-        (2, ""),
-        (15, ""),
-    ),
-];
+#[test]
+fn buffers_are_locked_logged_and_given_back(rt: HostRuntime) {
+    all_say(&rt, rt.alloc(), BUFFERS);
+}
+
+#[test]
+fn a_clean_cancel_gives_back_and_a_dirty_one_shuts(rt: HostRuntime) {
+    all_say(&rt, rt.alloc(), CANCELS);
+}
+
+#[test]
+fn the_board_shows_why_a_mount_was_shut(rt: HostRuntime) {
+    all_say(&rt, rt.alloc(), SHOWN);
+}
+
+#[test]
+fn blocks_are_given_up_and_lives_are_counted(rt: HostRuntime) {
+    all_say(&rt, rt.alloc(), GIVEN_UP);
+}
+
+#[test]
+fn log_space_is_asked_and_given_back(rt: HostRuntime) {
+    all_say(&rt, rt.alloc(), LOG_SPACE);
+}
+
+#[test]
+fn blocks_are_written_home(rt: HostRuntime) {
+    all_say(&rt, rt.alloc(), HOME);
+}
+
+#[test]
+fn a_failed_flush_or_checkpoint_leaves_its_blocks(rt: HostRuntime) {
+    all_say(&rt, rt.alloc(), FAILED);
+}
+
+#[test]
+fn what_is_not_asked_is_not_owed_and_the_first_refusal_is_answered(rt: HostRuntime) {
+    all_say(&rt, rt.alloc(), OWED);
+}
+
+#[test]
+fn a_full_mount_asks_for_no_block_and_a_shut_one_flushes_none(rt: HostRuntime) {
+    all_say(&rt, rt.alloc(), FULL);
+}
+
+#[test]
+fn the_longest_checkpoint_lands_and_goes_home(rt: HostRuntime) {
+    all_say(&rt, rt.alloc(), LONGEST);
+}
+
+#[test]
+fn short_scripts_and_broken_orders_are_told(rt: HostRuntime) {
+    all_say(&rt, rt.alloc(), SHORT);
+}
 
 /// Whether the steps of one slot print just this by themselves.
 fn is_said_alone(alloc: Global, input: &str, index: u8, want: &str) -> bool {
@@ -496,36 +152,33 @@ fn is_said_alone(alloc: Global, input: &str, index: u8, want: &str) -> bool {
     is_said(alloc, input, Some(slot), want, 0)
 }
 
-#[test]
-fn slots_say_by_themselves_what_they_say_together(rt: HostRuntime) {
-    let alloc = rt.alloc();
-    for ((name, input, want, status), first, second) in STRUCK {
-        let is_all = is_said(alloc, input, None, want, *status);
-        let is_first = is_said_alone(alloc, input, first.0, first.1);
-        let is_second = is_said_alone(alloc, input, second.0, second.1);
-        assert!(rt; is_all && is_first && is_second, "{name}");
+/// Asserts what each script prints, and what the steps of each of its slots print by themselves.
+fn all_say_alone(rt: &impl Abort, alloc: Global, scripts: &[Struck]) {
+    for ((name, input, want, status), first, second) in scripts {
+        let is_so = is_said(alloc, input, None, want, *status)
+            && is_said_alone(alloc, input, first.0, first.1)
+            && is_said_alone(alloc, input, second.0, second.1);
+        assert!(rt; is_so, "{name}");
     }
 }
 
-/// What comes after the idle list has been filled, what it prints, and its status.
-const IDLE: &[(&str, &str, u8)] = &[
-    (
-        "0.1 read t1 0 = 00*4096\n0.1 read t1 1\n0.1 view t1 1\n",
-        "0 ok\n0 ok\n0 data 01*4096\n",
-        0,
-    ),
-    (
-        "0.1 read t1 0 = 00*4096\n0.1 relse t1 0\n0.1 read t1 1 = 99*4096\n0.1 view t1 1\n",
-        "0 ok\n0 free\n0 ok\n0 data 99*4096\n",
-        0,
-    ),
-    ("0.1 read t1 0\n", "disorder 133\n", 3),
-    (
-        "0.1 read t1 0 = 00*4096\n0.1 read t1 1 = 01*4096\n",
-        "0 ok\ndisorder 134\n",
-        3,
-    ),
-];
+#[test]
+fn slots_say_by_themselves_what_they_say_together(rt: HostRuntime) {
+    all_say_alone(&rt, rt.alloc(), TWO);
+}
+
+#[test]
+fn a_slot_is_told_nothing_of_another(rt: HostRuntime) {
+    all_say_alone(&rt, rt.alloc(), BESIDE);
+}
+
+#[test]
+fn thirty_two_names(rt: HostRuntime) {
+    let alloc = rt.alloc();
+    says(&rt, alloc, NAMES_IN, NAMES_OUT, 0);
+    assert!(rt; is_said_alone(alloc, NAMES_IN, 0, NAMES_0));
+    assert!(rt; is_said_alone(alloc, NAMES_IN, 15, NAMES_15));
+}
 
 /// Two texts as one.
 fn joined(alloc: Global, first: &str, second: &str) -> Result<String, AllocError> {
