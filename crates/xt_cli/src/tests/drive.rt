@@ -184,10 +184,10 @@ fn writes_of<'a>(
     ensures count { IfOk result (λ writes. length writes.items ≡ length blocks.now) }
     ensures whole { IfOk result (λ writes. All (λ w. length w.1.now ≡ 4096) writes.items) }
 {
-    let mut writes = Vec::new(alloc);
+    let mut writes = Vec::with_capacity(alloc, blocks.len())?;
     for block in blocks {
         match mount.committed(*block) {
-            Some(content) => writes.push((*block, content))?,
+            Some(content) => writes.push_reserved((*block, content)),
             None => unreachable!(),
         }
     }
