@@ -7,7 +7,7 @@ ghost use Rattle.xt_base.specs.Maps.{is_in};
 ghost use Rattle.xt_base.specs.Order.{is_answer, is_there};
 
 use crate::lines::parse_script;
-use std::alloc::{AllocError, Global};
+use std::alloc::Global;
 use std::test::Fail;
 use xt_base::content::Content;
 use xt_base::names::{Block, JobName, Life, Slot};
@@ -179,15 +179,15 @@ fn writes_of<'a>(
     alloc: Global,
     mount: &'a Mount,
     blocks: &[Block],
-) -> Result<Vec<(Block, &'a [u8])>, AllocError>
+) -> Result<Vec<(Block, &'a [u8])>, Fail>
     requires { All (λ b. is_in b mount.now.frames.committed ≡ true) blocks.now }
     ensures count { IfOk result (λ writes. length writes.items ≡ length blocks.now) }
     ensures whole { IfOk result (λ writes. All (λ w. length w.1.now ≡ 4096) writes.items) }
 {
-    let mut writes = Vec::with_capacity(alloc, blocks.len())?;
+    let mut writes = Vec::new(alloc);
     for block in blocks {
         match mount.committed(*block) {
-            Some(content) => writes.push_reserved((*block, content)),
+            Some(content) => writes.push((*block, content))?,
             None => unreachable!(),
         }
     }
