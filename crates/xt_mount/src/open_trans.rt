@@ -4,7 +4,7 @@ ghost use Rattle.std.specs.Prelude.{◌≡◌, ◌+◌, ◌<◌, ◌≤◌, [], 
 ghost use Rattle.xt_base.specs.Calls.{edited, invalidated, without_hold};
 ghost use Rattle.xt_base.specs.Maps.{has, is_in, with_member};
 ghost use Rattle.xt_base.specs.Space.{change_cost, charge};
-ghost use Rattle.xt_mount.specs.Journals.{opened_with};
+ghost use Rattle.xt_mount.specs.Accounts.{opened_with};
 ghost use Rattle.xt_resv.specs.Ledgers.{charged_with, is_fitting};
 ghost use Rattle.xt_resv.specs.Mounts.{grant_of};
 

@@ -12,5 +12,5 @@ chunk_bytes_at-content-requires c =
 pub loop-e-preserved : goal.loop-e-preserved
 loop-e-preserved c =
     let lt : c.loop-e.e-index < length c.cil-e-items.result.now = omega arith in
-    item_more c.args.self.now.journal.form.size c.args.self.now.frames.committed c.cil-e-items.result.now c.loop-e.e-index c.e-item.result _ c.loop-e.items.items c.push.new.self.items lt c.e-item.is c.in_ok-push.ensures.items
+    item_more c.args.self.now.accounts.form.size c.args.self.now.frames.committed c.cil-e-items.result.now c.loop-e.e-index c.e-item.result _ c.loop-e.items.items c.push.new.self.items lt c.e-item.is c.in_ok-push.ensures.items
     (ap (item_text c.e-item.result.0 c.e-item.result.1) c.in_ok-content.ensures.bytes) refl c.in_ok-content.ensures.form c.loop-e.invariant
