@@ -35,7 +35,7 @@ impl Machine {
         if !self.is_own(trans, block) {
             return Some(Errno::Invalid);
         }
-        if !opened.fits_invalidated(self.accounts.form(), block.0) {
+        if !opened.fits_invalidated(self.accounts.form(), block) {
             return Some(Errno::NoSpace);
         }
         None

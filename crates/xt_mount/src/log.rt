@@ -54,7 +54,7 @@ impl Machine {
             return Some(Errno::Invalid);
         }
         let marked = Chunks::mark(first, len as u32);
-        if !opened.fits_logged(self.accounts.form(), block.0, marked) {
+        if !opened.fits_logged(self.accounts.form(), block, marked) {
             return Some(Errno::NoSpace);
         }
         None

@@ -1,4 +1,4 @@
-use Rattle.std.proofs.Common.{◌≡◌, ap, subst, sym, unwrap_or}
+use Rattle.std.proofs.Common.{◌≡◌, ap, subst, sym, unwrap_or, ◌∙◌}
 use Rattle.std.specs.Prelude.{IfOk}
 use Rattle.xt_base.specs.Text.{chunk_bytes, content_at, zeros}
 use Rattle.xt_mount.proofs.CkptLemmas.{no_chunks}
@@ -10,4 +10,4 @@ returns-in-Some-clause-bytes c =
 
 pub returns-in-None-clause-bytes : goal.returns-in-None-clause-bytes
 returns-in-None-clause-bytes c =
-    ap (chunk_bytes (content_at c.args.self.now.accounts.form.size c.args.block c.args.self.now.frames.committed)) (sym (no_chunks c.args.self.now.frames.committed c.args.block c.args.chunks c.requires c.in-None.ensures))
+    c.new.ensures.items ∙ ap (chunk_bytes (content_at c.args.self.now.accounts.form.size c.args.block c.args.self.now.frames.committed)) (sym (no_chunks c.args.self.now.frames.committed c.args.block c.args.chunks c.requires c.in-None.ensures))
