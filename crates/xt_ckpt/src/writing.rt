@@ -27,7 +27,7 @@ fn item_len(item: &Item) -> usize
 
 /// The length of the text of a checkpoint in bytes, which is its cost: 32, and for each
 /// item 16 and 128 for each chunk. At most 263,200.
-pub fn checkpoint_len(items: &[Item]) -> usize
+fn checkpoint_len(items: &[Item]) -> usize
     requires { length items.now ≤ BUSY_BLOCKS }
     ensures value { result ≡ checkpoint_len items.now }
     ensures range { result ≤ ENDS + BUSY_BLOCKS * (ITEM_COST + CHUNK_COST * CHUNKS) }

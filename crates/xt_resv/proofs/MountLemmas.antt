@@ -5,6 +5,7 @@ use Rattle.std.proofs.lemmas.List.Sums.{sum_by-cons, sum_by_push}
 use Rattle.std.proofs.lemmas.Bool.{cases_Bool}
 use Rattle.std.proofs.lemmas.Bool.Decides.{nat_tests}
 use Rattle.xt_base.proofs.CostLemmas.{charge-cons}
+use Rattle.xt_base.proofs.DeviceLemmas.{kept_since}
 use Rattle.xt_base.proofs.RisingLemmas.{each_map, filter_drop, filter_pass, put_last}
 use Rattle.xt_base.proofs.SoundParts.{cost_added, granted_less, granted_rolled}
 use Rattle.xt_base.specs.Calls.{allocated, closed, new_trans, legs_after, with_legs, is_no_room as finds_no_room}
@@ -109,37 +110,9 @@ pub grant_rolled : (trans : Transaction) → grant_of (record trans { legs = leg
 grant_rolled trans = refl
 
 -- ---- landed checkpoints
--- a number is no less than the lesser of two where it is no less than one of them
-le_lesser : (n m k : ℕ) → (nat_le n k || nat_le m k) ≡ nat_le (if nat_le n m then n else m) k
-le_lesser n m k = grind (arith, nat_tests)
-
--- what nothing asks for
-or_none : (b : Bool) → (b || false) ≡ b
-or_none true = refl
-or_none false = refl
-
--- with one block more on the active list
-needed_more : (n k : ℕ) (o : Option ℕ) → (nat_le n k || is_counted o k) ≡ is_counted (Some (lesser n o)) k
-needed_more n k None = or_none (nat_le n k)
-needed_more n k (Some m) = le_lesser n m k
-
--- a checkpoint counts where it is no older than the least number of the active list
-pub needed_is : (ail : List (ℕ × ℕ)) (k : ℕ) → is_needed ail k ≡ is_counted (least_number ail) k
-needed_is [] k = refl
-needed_is (e ∷ es) k = ap (λ b. nat_le e.1 k || b) (needed_is es k) ∙ needed_more e.1 k (least_number es)
-
--- filters by tests that agree
-filter_is : (p q : ℕ × ℕ → Bool) (xs : List (ℕ × ℕ)) → ((x : ℕ × ℕ) → p x ≡ q x) → filter p xs ≡ filter q xs
-filter_is p q [] same = refl
-filter_is p q (x ∷ xs) same =
-    elim (cases_Bool (q x)) [
-      | inl passes ↦ filter_pass p x xs (same x ∙ passes) ∙ ap (λ ys. x ∷ ys) (filter_is p q xs same) ∙ sym (filter_pass q x xs passes)
-      | inr other ↦ filter_drop p x xs (same x ∙ other) ∙ filter_is p q xs same ∙ sym (filter_drop q x xs other)
-    ]
-
 -- the landed checkpoints that still count
 pub still_is : (ail landed : List (ℕ × ℕ)) → still_needed ail landed ≡ still_counted (least_number ail) landed
-still_is ail landed = filter_is (λ e. is_needed ail e.0) (λ e. is_counted (least_number ail) e.0) landed (λ e. needed_is ail e.0)
+still_is ail landed = kept_since ail landed
 
 -- ---- checkpoints
 -- a checkpoint is begun

@@ -26,7 +26,7 @@ use xt_base::sizes::{BUSY_BLOCKS, CHUNK_COST, CHUNKS, ITEM_COST, MOST_ENDS, ROOM
 /// What a leg did to one block, after `xfs_buf_log_item`: its marks, the bytes, if it was changed, the chunks marked, and
 /// the chunks charged.
 #[derive(Debug, Drop)]
-pub struct BufItem {
+struct BufItem {
     marks: ItemMarks,
     edit: Option<Content>,
     chunks: Chunks,
@@ -113,7 +113,7 @@ impl TransRec {
     }
 
     /// The leg's bytes of a block.
-    pub fn edit(&self, block: u64) -> Option<&Content>
+    fn edit(&self, block: u64) -> Option<&Content>
         ensures { option_copied result ≡ (change_of block self.now).edit }
     {
         match self.changed(block) {
