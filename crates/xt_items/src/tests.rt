@@ -155,6 +155,7 @@ fn a_flush_takes_the_first_eight(rt: HostRuntime) {
     ];
     assert_eq!(rt; plan.blocks(), first.as_slice());
     assert_eq!(rt; plan.count(), 8);
+    assert_eq!(rt; (plan.count, plan.blocks[7]), (8, Block(2)));
     let is_begun = commit(&mut items, &[7]) && begin(rt.alloc(), &mut items);
     if !is_begun || !commit(&mut items, &[5, 20]) {
         return;

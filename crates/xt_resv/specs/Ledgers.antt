@@ -1,5 +1,5 @@
 -- The ledger of a mount's log space, and what a transaction was granted.
-use Rattle.std.specs.Prelude.{Bool, Err, List, None, Ok, Option, Result, Some, [], false, filter, if◌then◌else◌, nat_le, nat_lt, not, sum_by, ℕ, ◌&&◌, ◌*◌, ◌+◌, ◌-◌, ◌==◌, ◌||◌, ◌∷◌, ◌≡◌, ◌≤◌}
+use Rattle.std.specs.Prelude.{Bool, Err, List, None, Ok, Option, Result, Some, [], false, if◌then◌else◌, nat_le, nat_lt, not, sum_by, ℕ, ◌&&◌, ◌*◌, ◌+◌, ◌-◌, ◌==◌, ◌||◌, ◌∷◌, ◌≡◌, ◌≤◌}
 use Rattle.xt_base.specs.Calls.{legs_after}
 use Rattle.xt_base.specs.Laws.{is_since, landed_since}
 use Rattle.xt_base.specs.Sound.{IsRising}
