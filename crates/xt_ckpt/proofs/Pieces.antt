@@ -21,11 +21,6 @@ cut_more done rest all h e =
     rw (take_min 4096 rest, drop_min 4096 rest, append_assoc done (take 4096 rest ∷ []) (pieces (drop 4096 rest)))
     (ap (λ ps. done ++ ps) (sym (pieces-more rest h)) ∙ e)
 
--- nothing is left to cut
-pub cut_all : (done : List (List ℕ)) (rest : List ℕ) (all : List (List ℕ)) → length rest ≡ 0 → done ++ pieces rest ≡ all → done ≡ all
-cut_all done rest all h e =
-    sym (append-nil done) ∙ ap (λ xs. done ++ pieces xs) (sym (nil_from_length rest h)) ∙ e
-
 -- how many pieces there are
 length-first_pieces : (n : ℕ) (text : List ℕ) → length (first_pieces n text) ≡ n
 length-first_pieces zero text = refl

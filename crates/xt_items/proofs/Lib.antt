@@ -1,3 +1,2 @@
 pub mod PlanLemmas
 pub mod CleanLemmas
-pub mod MountLemmas

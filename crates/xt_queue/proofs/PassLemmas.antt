@@ -6,7 +6,3 @@ use Rattle.xt_queue.specs.Passes.{fresh_post, fresh_posts, fresh_work, fresh_wor
 -- the passes of one slot more
 pub fresh_posts_next : (queue : TableId) (n : ℕ) → fresh_posts queue (n + 1) ≡ fresh_posts queue n ++ fresh_post queue n ∷ []
 fresh_posts_next queue n = rw (add-one n) refl
-
--- the passes of one worker more
-pub fresh_works_next : (queue : TableId) (n : ℕ) → fresh_works queue (n + 1) ≡ fresh_works queue n ++ fresh_work queue n ∷ []
-fresh_works_next queue n = rw (add-one n) refl

@@ -27,20 +27,6 @@ flight_is ends (Some f) = refl
 pub used_is : (s : State) → used (ledger_of s) ≡ used_of s
 used_is s = ap (λ n. granted s.transactions + cost s.form.ends s.items.cil + n + sum_by (λ e. e.1) s.items.landed) (flight_is s.form.ends s.items.flight)
 
--- what is granted with a new transaction
-granted_new : (s : State) → IsSound s → (trans : Transaction) → granted (put (s.last_trans + 1) trans s.transactions) ≡ granted s.transactions + trans.unit * trans.legs
-granted_new s h trans =
-    let below = each_map (λ e. e.0 ≤ s.last_trans) (λ e. e.0 < s.last_trans + 1) s.transactions (λ e le. omega arith) h.numbers in
-    ap granted (put_last (s.last_trans + 1) trans s.transactions below) ∙ sum_by_push (λ e. e.1.unit * e.1.legs) s.transactions (s.last_trans + 1, trans)
-
--- a transaction begins
-pub ledger_allocated : (unit count : ℕ) (perm : Bool) (s : State) → IsSound s → ledger_of (allocated unit count perm s).state ≡ record (ledger_of s) { granted = granted s.transactions + unit * count }
-ledger_allocated unit count perm s h = ap (λ n. record (ledger_of s) { granted = n }) (granted_new s h (new_trans unit count perm))
-
--- with its grant
-pub grant_allocated : (unit count : ℕ) (perm : Bool) → grant_of (new_trans unit count perm) ≡ new_grant unit count perm
-grant_allocated unit count perm = refl
-
 -- ---- a leg
 -- a number from 1 on is not 0
 not_zero : (n : ℕ) → 1 ≤ n → (n == 0) ≡ false
@@ -79,10 +65,6 @@ module _ (s : State) (h : IsSound s) (t : ℕ) (trans : Transaction) (is : at t 
   granted_closed : granted (without t s.transactions) ≡ granted s.transactions - trans.unit * trans.legs
   granted_closed = omega (arith, less)
 
-  -- the transaction is given up and closed
-  pub ledger_closed : ledger_of (closed t s) ≡ ungranted (grant_of trans) (cost s.form.ends s.items.cil) (ledger_of s)
-  ledger_closed = ap (λ n. record (ledger_of s) { granted = n }) granted_closed
-
   -- the leg is committed and its transaction closed
   pub ledger_ended : ledger_of (closed t (ended t trans.leg s)) ≡ ungranted (grant_of trans) cost_after (ledger_of s)
   ledger_ended = ap (λ n. record (ledger_of s) { granted = n; cil = cost_after }) granted_closed
@@ -92,43 +74,9 @@ module _ (s : State) (h : IsSound s) (t : ℕ) (trans : Transaction) (is : at t 
   no_room_is =
       ap (λ n. (trans.legs == 1) && nat_lt s.log_bytes (n + trans.unit)) (sym (used_is (closed t (ended t trans.leg s))) ∙ ap used ledger_ended)
 
-  -- what is granted with so many legs left
-  granted_legs : (legs : ℕ) → granted (set_at t (record trans { legs = legs; leg = clean_leg }) s.transactions) ≡ granted s.transactions - trans.unit * trans.legs + trans.unit * legs
-  granted_legs legs = omega (arith, less, granted_rolled s.form.ends s.log_bytes s.owners s.transactions s.items h.parts t trans is legs)
-
-  -- the leg is committed and the next one begins
-  pub ledger_rolled : ledger_of (with_legs t (legs_after trans.legs) trans (ended t trans.leg s)) ≡ regranted (grant_of trans) cost_after (ledger_of s)
-  ledger_rolled = ap (λ n. record (ledger_of s) { granted = n; cil = cost_after }) (granted_legs (legs_after trans.legs))
-
-  -- a roll is given up
-  pub ledger_lost : ledger_of (with_legs t 0 trans s) ≡ ungranted (grant_of trans) (cost s.form.ends s.items.cil) (ledger_of s)
-  ledger_lost = ap (λ n. record (ledger_of s) { granted = n }) (omega (arith, granted_legs 0))
-
--- the grant of the next leg
-pub grant_rolled : (trans : Transaction) → grant_of (record trans { legs = legs_after trans.legs; leg = clean_leg }) ≡ next_grant (grant_of trans)
-grant_rolled trans = refl
-
 -- ---- landed checkpoints
 -- the landed checkpoints that still count
 pub still_is : (ail landed : List (ℕ × ℕ)) → still_needed ail landed ≡ still_counted (least_number ail) landed
 still_is ail landed = kept_since ail landed
 
 -- ---- checkpoints
--- a checkpoint is begun
-pub ledger_flown : (ps : List (List ℕ)) (s : State) → ledger_of (flown ps s) ≡ record (ledger_of s) { cil = 0; flight = Some (cost s.form.ends s.items.cil) }
-ledger_flown ps s = refl
-
--- a checkpoint has landed
-pub ledger_landed : (f : Flight) (s : State) → s.items.flight ≡ Some f
-    → ledger_of (record s { items = landed_items s.form.ends f s.items })
-    ≡ record (ledger_of s) { flight = None; landed = still_counted (least_number (activated f.number f.items s.items.ail)) (put f.number (flight_cost (flight_of s.form.ends s.items.flight)) s.items.landed) }
-ledger_landed f s flying =
-    let ail = activated f.number f.items s.items.ail in
-    let landed : List (ℕ × ℕ) → Ledger = λ xs. record (ledger_of s) { flight = None; landed = xs } in
-    ap landed (still_is ail (put f.number (cost s.form.ends f.items) s.items.landed))
-    ∙ ap (λ (o : Option Flight). landed (still_counted (least_number ail) (put f.number (flight_cost (flight_of s.form.ends o)) s.items.landed))) (sym flying)
-
--- blocks were written home
-pub ledger_cleaned : (blocks : List ℕ) (s : State)
-    → ledger_of (record s { items = cleaned blocks s.items }) ≡ record (ledger_of s) { landed = still_counted (least_number (cleaned blocks s.items).ail) s.items.landed }
-ledger_cleaned blocks s = ap (λ xs. record (ledger_of s) { landed = xs }) (still_is (cleaned blocks s.items).ail s.items.landed)
