@@ -1,7 +1,7 @@
 -- A text that is cut every 4,096 bytes.
 use Rattle.std.proofs.Common.{◌≡◌, ◌∙◌, ℕ, zero, suc, ◌+◌, ◌-◌, ◌*◌, ◌/◌, ◌<◌, ◌≤◌, List, [], ◌∷◌, ◌++◌, length, get_or, take, drop, min, sym, ap, refl, arith, append_assoc}
 use Rattle.std.specs.List.{concat}
-use Rattle.std.proofs.lemmas.List.{drop-drop, length-take, length-drop, nil_from_length, append-nil, take-append-drop, take_min, drop_min}
+use Rattle.std.proofs.lemmas.List.{drop-drop, length-take, length-drop, nil_from_length, take-append-drop, take_min, drop_min}
 use Rattle.xt_base.specs.Text.{first_pieces, piece_count, pieces}
 
 -- what is not empty has one piece more than what is behind its first

@@ -84,7 +84,10 @@ fn a_checkpoint_lands(rt: HostRuntime) {
     items.mark(7, Chunks::mark(250, 12));
     items.cancel(9);
     assert_eq!(rt; items.marks(7).map(|marks| marks.count()), Some(3));
-    assert_eq!(rt; items.marks(7).map(|marks| marks.has(2) && !marks.has(3)), Some(true));
+    assert_eq!(rt;
+        items.marks(7).map(|marks| marks.has(2) && !marks.has(3)),
+        Some(true)
+    );
     assert_eq!(rt; items.marks(9).map(|marks| marks.count()), Some(0));
     assert!(rt; items.marks(8).is_none() && items.is_committed(9) && !items.is_committed(8));
     let is_begun = begin(rt.alloc(), &mut items);

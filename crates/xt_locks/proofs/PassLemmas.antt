@@ -1,8 +1,7 @@
 -- The entries of a transaction's blocks, passed on one by one.
 use Rattle.std.proofs.Common.{◌≡◌, ◌∙◌, ◌+◌, ◌<◌, ◌≤◌, ◌++◌, ◌∷◌, Bool, List, None, Option, Some, [], add-one, ap, append_assoc, arith, drop, false, length, not, refl, subst, suc, sym, take, true, zero, ℕ}
 use Rattle.std.specs.List.{cons_option}
-use Rattle.std.specs.Prelude.{IfSome, filter_map, if◌then◌else◌, is_some, option_map, slice_get}
-use Rattle.std.proofs.lemmas.Option.{slice_get_within}
+use Rattle.std.specs.Prelude.{IfSome, filter_map, if◌then◌else◌, option_map, slice_get}
 use Rattle.xt_base.specs.Legs.{owned_by}
 use Rattle.xt_base.specs.declared.steps.Owner.{Owner}
 use Rattle.xt_locks.specs.Locking.{IsPassedAt, Owners, passed}

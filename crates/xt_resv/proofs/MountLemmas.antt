@@ -1,20 +1,18 @@
 -- The ledger of a mount beside the mount's definitions: the numbers of each step, and the conditions of each call.
-use Rattle.std.proofs.Common.{◌≡◌, ◌∙◌, ◌+◌, ◌-◌, ◌*◌, ◌≤◌, ◌<◌, ℕ, List, [], ◌∷◌, Option, Some, None, Bool, false, sym, ap, refl, arith}
+use Rattle.std.proofs.Common.{◌≡◌, ◌∙◌, ◌+◌, ◌-◌, ◌*◌, ◌≤◌, ℕ, List, [], ◌∷◌, Option, Some, None, Bool, false, sym, ap, refl, arith}
 use Rattle.std.specs.Prelude.{◌&&◌, ◌==◌, if◌then◌else◌, nat_lt, sum_by}
-use Rattle.std.proofs.lemmas.List.Sums.{sum_by-cons, sum_by_push}
+use Rattle.std.proofs.lemmas.List.Sums.{sum_by-cons}
 use Rattle.std.proofs.lemmas.Bool.Decides.{nat_tests}
 use Rattle.xt_base.proofs.CostLemmas.{charge-cons}
 use Rattle.xt_base.proofs.DeviceLemmas.{kept_since}
-use Rattle.xt_base.proofs.RisingLemmas.{each_map, put_last}
-use Rattle.xt_base.proofs.SoundParts.{cost_added, granted_less, granted_rolled}
-use Rattle.xt_base.specs.Calls.{allocated, closed, new_trans, legs_after, with_legs, is_no_room as finds_no_room}
-use Rattle.xt_base.specs.Jobs.{activated, cleaned, flown, landed_items}
-use Rattle.xt_base.specs.Legs.{clean_leg, ended, with_marks}
-use Rattle.xt_base.specs.Maps.{at, put, set_at, without}
+use Rattle.xt_base.proofs.SoundParts.{cost_added, granted_less}
+use Rattle.xt_base.specs.Calls.{closed, is_no_room as finds_no_room}
+use Rattle.xt_base.specs.Legs.{ended, with_marks}
+use Rattle.xt_base.specs.Maps.{at, without}
 use Rattle.xt_base.specs.Sound.{IsSound}
 use Rattle.xt_base.specs.Space.{change_cost, charge, cost, flight_items, granted, least_number, still_needed, used as used_of}
 use Rattle.xt_base.specs.State.{Change, Flight, State, Transaction}
-use Rattle.xt_resv.specs.Ledgers.{Ledger, flight_cost, is_no_room, new_grant, next_grant, regranted, still_counted, ungranted, used, whole_charge}
+use Rattle.xt_resv.specs.Ledgers.{flight_cost, is_no_room, still_counted, ungranted, used, whole_charge}
 use Rattle.xt_resv.specs.Mounts.{flight_of, grant_of, ledger_of}
 
 -- ---- the space in use

@@ -3,7 +3,6 @@ use Rattle.std.proofs.Common.{◌≡◌, ◌∙◌, ◌+◌, ◌<◌, ◌≤◌,
 use Rattle.std.proofs.lemmas.Bool.{eq-eqb, false≢true, ne_eqb, or_parts}
 use Rattle.std.specs.List.{cons_option}
 use Rattle.std.specs.Prelude.{if◌then◌else◌, is_none, is_some, not, option_map, unwrap_or, ◌&&◌, ◌==◌, ◌||◌}
-use Rattle.xt_base.proofs.MapLemmas.{at_first, without_first}
 use Rattle.xt_base.proofs.RisingLemmas.{each_at, each_put, each_without, filter_pass, rises_put, rises_without}
 use Rattle.xt_base.proofs.ViewLemmas.{at_view, has_keys, keys_put, keys_put_none, keys_put_same, keys_without, put_without, view_put, view_put_none, view_put_same, view_without, without_none}
 use Rattle.xt_base.specs.Calls.{edited, invalidated, without_hold}
