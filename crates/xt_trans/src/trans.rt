@@ -113,7 +113,7 @@ impl TransRec {
     }
 
     /// The leg's bytes of a block.
-    fn edit(&self, block: u64) -> Option<&Content>
+    pub fn edit(&self, block: u64) -> Option<&Content>
         ensures { option_copied result ≡ (change_of block self.now).edit }
     {
         match self.changed(block) {
