@@ -252,6 +252,7 @@ fn hex_digit(value: u8) -> u8
 }
 
 /// Puts a byte as two digits.
+#[inline(always)]
 fn put_hex(out: &mut Text, byte: u8)
     ensures { out.new ≡ put out.old (hex byte) }
 {
@@ -259,6 +260,7 @@ fn put_hex(out: &mut Text, byte: u8)
 }
 
 /// Puts a run's text.
+#[inline(always)]
 #[tactic(auto, using(crate::proofs::BufferLemmas::put_put, crate::proofs::BufferLemmas::put_none, crate::proofs::RunLemmas::hex_more))]
 fn put_run(out: &mut Text, run: Run)
     ensures { out.new ≡ put out.old (run_text run) }
