@@ -319,13 +319,9 @@ impl Calls for CoreCalls {
     ghost ends = { λ old new. Unit {0} };
 
     fn call(&mut self, line: Line) -> Reply {
+        let slot = line.0.slot();
         match line.0 {
-            Step::Call {
-                slot,
-                life,
-                request,
-                ..
-            } => self.serve(slot, life, request),
+            Step::Call { life, request, .. } => self.serve(slot, life, request),
             other => self.take(other),
         }
     }
