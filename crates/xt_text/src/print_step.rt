@@ -217,8 +217,8 @@ fn put_step(step: &Step, out: &mut Text)
     }
 }
 
-/// Puts the line of a step, without a newline, behind what the buffer holds. A step that has a line of its own, as each
-/// step has that a line was parsed as, is parsed from it again.
+/// Puts the line of a step, without a newline, behind what the buffer holds. A step that has a line of its own, as every
+/// parsed step has, is parsed from it again.
 #[tactic(auto, using(crate::proofs::ParseLemmas::parsed_again))]
 pub fn print_step(step: &Step, out: &mut Text)
     ensures text { out.new ≡ put out.old (line_of step.now) }

@@ -269,6 +269,15 @@ impl CoreCalls {
         }
     }
 
+    /// Answers a step that a session reads.
+    fn answer(&mut self, step: Step) -> Reply {
+        let slot = step.slot();
+        match step {
+            Step::Call { life, request, .. } => self.serve(slot, life, request),
+            other => self.take(other),
+        }
+    }
+
     /// Makes a request at the end of a session, again while it finds no memory, and keeps its line.
     fn give_back(&mut self, slot: Slot, life: Life, request: &Request) -> Result<(), AllocError> {
         for _ in 0..TRIES {
@@ -319,15 +328,8 @@ impl Calls for CoreCalls {
     ghost ends = { λ old new. Unit {0} };
 
     fn call(&mut self, line: Line) -> Reply {
-        match line.0 {
-            Step::Call {
-                slot,
-                life,
-                request,
-                ..
-            } => self.serve(slot, life, request),
-            other => self.take(other),
-        }
+        let Line(step) = line;
+        self.answer(step)
     }
 
     fn end(&mut self) {
