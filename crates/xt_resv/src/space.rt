@@ -213,7 +213,8 @@ impl LogSpace {
         requires chunks { newly.chunks ≤ CHUNKS }
         ensures { result ≡ is_fitting form.ends newly ticket.now }
     {
-        whole_charge(form, ticket.charged_with(newly)) <= u64::from(ticket.unit)
+        let unit = u64::from(ticket.unit);
+        whole_charge(form, ticket.charged_with(newly)) <= unit
     }
 
     /// Charges the present leg. It is refused with `NoSpace` where `fits` says no, and then nothing changes.
