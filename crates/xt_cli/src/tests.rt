@@ -2,6 +2,7 @@
 
 mod asked;
 mod buffers;
+mod core_calls;
 mod drive;
 mod frozen;
 mod home;
@@ -16,10 +17,11 @@ mod rows;
 mod shut;
 mod slots;
 
+use crate::lines::parse_script;
 use crate::script::run_script;
 use asked::*;
 use buffers::*;
-use drive::{Told, drive, home_lines, lines_of, log_lines};
+use drive::{Told, drive, home_lines, lines_of, log_lines, told_home_lines, told_log_lines};
 use frozen::*;
 use home::*;
 use idle::*;
@@ -37,6 +39,7 @@ use std::process::Abort;
 use std::test::Fail;
 use xt_base::names::{Block, Slot};
 use xt_base::steps::LogOffer;
+use xt_core::HostCore;
 use xt_dev::call::HomeCall;
 use xt_dev::fail_at::FailAt;
 use xt_dev::home::HomeDevice;
@@ -569,6 +572,29 @@ fn devices_are_offered_each_block_once_its_checkpoints_landed(rt: HostRuntime) -
     let offers = log.taken().ok_or("it tells")?;
     let calls = home.taken().ok_or("it tells")?;
     tells(&rt, alloc, &replies, offers, calls, FLOWN_AGAIN_OUT)
+}
+
+#[test]
+fn a_run_lists_what_a_slot_offered_to_each_device(rt: HostRuntime) -> Result<(), Fail> {
+    let alloc = rt.alloc();
+    let steps = parse_script(alloc, FLOWN_AGAIN_IN.as_bytes()).map_err(|_| "lines of steps")?;
+    let Ok(told) = HostCore::run(alloc, &steps) else {
+        return Err(Fail::from("an orderly run"));
+    };
+    let slot = Slot::new(0).ok_or("a slot")?;
+    let log = lines_of(alloc, FLOWN_AGAIN_OUT, Told::Log)?;
+    let home = lines_of(alloc, FLOWN_AGAIN_OUT, Told::Home)?;
+    assert_eq!(rt;
+        told_log_lines(alloc, slot, &told)?.as_slice(),
+        log.as_slice()
+    );
+    assert_eq!(rt;
+        told_home_lines(alloc, slot, &told)?.as_slice(),
+        home.as_slice()
+    );
+    let other = Slot::new(1).ok_or("a slot")?;
+    assert_eq!(rt; told.log_offers(alloc, other)?.len(), 0);
+    Ok(())
 }
 
 /// The read is the first call of the home device, and the write of the first flush the second.

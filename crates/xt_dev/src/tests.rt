@@ -1,6 +1,9 @@
 //! Each device through its happy path, `FailAt` through each of its calls, and what is offered.
+//!
+//! A test function is proved too, at a cost that grows with the square of its length. So what is
+//! expected stands in constants, helpers compare, and a test has few assertions.
 
-ghost use Rattle.std.specs.Prelude.{◌≡◌, ◌≤◌, [], false, length, is_ok};
+ghost use Rattle.std.specs.Prelude.{◌≡◌, ◌≤◌, ◌<◌, [], false, length, is_ok};
 ghost use Rattle.xt_dev.specs.Devices.{failures_after};
 
 use crate::call::HomeCall;
@@ -13,48 +16,94 @@ use crate::mem_log::MemLog;
 use crate::offer::offer;
 use crate::offer_home::offer_home;
 use bytes::Bytes;
-use std::test::*;
+use std::alloc::Global;
+use std::process::Abort;
+use xt_base::content::Content;
 use xt_base::names::Block;
-use xt_base::steps::{HomeOffer, LogOffer};
+use xt_base::steps::{HomeAnswers, HomeOffer, LogAnswers, LogOffer};
 
-fn is_piece(offer: &LogOffer, wanted: &[u8], answered: bool) -> bool {
+/// A call of a log device as a test writes it: the piece, or None for a sync, and the answer.
+type LogCall = (Option<&'static [u8]>, bool);
+
+const AB: Option<&[u8]> = Some(b"ab");
+
+const CDE: Option<&[u8]> = Some(b"cde");
+
+const EMPTY: Option<&[u8]> = Some(b"");
+
+const SYNC: Option<&[u8]> = None;
+
+fn is_offer(offer: &LogOffer, piece: Option<&[u8]>, answered: bool) -> bool {
     match offer {
-        LogOffer::Piece { bytes, ok } => bytes.bytes() == wanted && *ok == answered,
-        LogOffer::Sync { .. } => false,
+        LogOffer::Piece { bytes, ok } => piece == Some(bytes.bytes()) && *ok == answered,
+        LogOffer::Sync { ok } => piece.is_none() && *ok == answered,
     }
 }
 
-fn is_log_sync(offer: &LogOffer, answered: bool) -> bool {
-    match offer {
-        LogOffer::Piece { .. } => false,
-        LogOffer::Sync { ok } => *ok == answered,
+/// Whether a log tells just these calls.
+fn log_tells(told: Option<&[LogOffer]>, calls: &[LogCall]) -> bool {
+    let Some(offers) = told else {
+        return false;
+    };
+    for (offer, (piece, answered)) in offers.iter().zip(calls) {
+        if !is_offer(offer, *piece, *answered) {
+            return false;
+        }
+    }
+    offers.len() == calls.len()
+}
+
+/// A call of a home device as a test writes it: the block, the byte that its content has all over,
+/// and the answer.
+#[derive(Clone, Copy, PartialEq)]
+enum Told {
+    Read(u64, Option<u8>),
+    Unread(u64),
+    Write(u64, Option<u8>, bool),
+    Sync(bool),
+}
+
+/// The byte that a content has all over.
+fn even_byte(content: &Content) -> Option<u8> {
+    let first = *content.bytes().first()?;
+    if content.bytes().iter().all(|b| *b == first) {
+        Some(first)
+    } else {
+        None
     }
 }
 
-fn is_read(call: &HomeCall, wanted: Block, byte: u8) -> bool {
+/// A call as a test writes it.
+fn plain(call: &HomeCall) -> Told {
     match call {
         HomeCall::Read {
             block,
             content: Some(content),
-        } => *block == wanted && content.bytes().iter().all(|b| *b == byte),
-        _ => false,
-    }
-}
-
-fn is_write(call: &HomeCall, wanted: Block, byte: u8, answered: bool) -> bool {
-    match call {
+        } => Told::Read(block.0, even_byte(content)),
+        HomeCall::Read { block, .. } => Told::Unread(block.0),
         HomeCall::Offer(HomeOffer::Write { block, content, ok }) => {
-            *block == wanted && *ok == answered && content.bytes().iter().all(|b| *b == byte)
+            Told::Write(block.0, even_byte(content), *ok)
         }
-        _ => false,
+        HomeCall::Offer(HomeOffer::Sync { ok }) => Told::Sync(*ok),
     }
 }
 
-fn is_home_sync(call: &HomeCall, answered: bool) -> bool {
-    match call {
-        HomeCall::Offer(HomeOffer::Sync { ok }) => *ok == answered,
-        _ => false,
+/// Whether a home device tells just these calls.
+fn home_tells(taken: Option<&[HomeCall]>, calls: &[Told]) -> bool {
+    let Some(taken) = taken else {
+        return false;
+    };
+    for (call, want) in taken.iter().zip(calls) {
+        if plain(call) != *want {
+            return false;
+        }
     }
+    taken.len() == calls.len()
+}
+
+/// How many calls a device tells.
+fn count<C>(taken: Option<&[C]>) -> Option<usize> {
+    Some(taken?.len())
 }
 
 /// A device that answers Ok, keeps nothing and tells nothing.
@@ -113,227 +162,273 @@ fn first_byte<H: HomeDevice>(home: &mut H, block: Block) -> Result<u8, DevFault>
 }
 
 #[test]
-fn log_in_memory(rt: HostRuntime) -> Result<(), Fail> {
+fn log_in_memory(rt: HostRuntime) {
+    const CALLS: &[LogCall] = &[(AB, true), (SYNC, true), (EMPTY, true)];
     let mut log = MemLog::new(rt.alloc());
-    assert_eq!(rt; append_through(&mut log, b"ab"), Ok(()));
-    assert_eq!(rt; log.sync(), Ok(()));
-    assert_eq!(rt; append_through(&mut log, b""), Ok(()));
-    let taken = log.taken().ok_or("it tells")?;
-    assert_eq!(rt; taken.len(), 3);
-    assert!(rt; is_piece(&taken[0], b"ab", true));
-    assert!(rt; is_log_sync(&taken[1], true));
-    assert!(rt; is_piece(&taken[2], b"", true));
-    Ok(())
+    let is_taken = append_through(&mut log, b"ab").is_ok()
+        && log.sync().is_ok()
+        && append_through(&mut log, b"").is_ok();
+    assert!(rt; is_taken);
+    assert!(rt; log_tells(log.taken(), CALLS));
+}
+
+/// Writes a block full of one byte.
+fn write(home: &mut MemHome, block: u64, byte: u8) -> bool {
+    home.write(Block(block), &[byte; 4096]).is_ok()
+}
+
+/// Whether a block of a device is read and begins with a byte.
+fn reads(home: &mut MemHome, block: u64, byte: u8) -> bool {
+    first_byte(home, Block(block)) == Ok(byte)
 }
 
 #[test]
-fn home_in_memory(rt: HostRuntime) -> Result<(), Fail> {
-    let mut home = MemHome::new(rt.alloc());
-    assert_eq!(rt; first_byte(&mut home, Block(7)), Ok(0));
-    assert_eq!(rt; home.write(Block(7), &[3; 4096]), Ok(()));
-    assert_eq!(rt; home.write(Block(u64::MAX), &[4; 4096]), Ok(()));
-    assert_eq!(rt; home.write(Block(7), &[5; 4096]), Ok(()));
-    assert_eq!(rt; home.sync(), Ok(()));
-    assert_eq!(rt; first_byte(&mut home, Block(7)), Ok(5));
-    assert_eq!(rt; first_byte(&mut home, Block(u64::MAX)), Ok(4));
-    let taken = home.taken().ok_or("it tells")?;
-    assert_eq!(rt; taken.len(), 7);
-    assert!(rt; is_read(&taken[0], Block(7), 0));
-    assert!(rt; is_write(&taken[1], Block(7), 3, true));
-    assert!(rt; is_write(&taken[2], Block(u64::MAX), 4, true));
-    assert!(rt; is_write(&taken[3], Block(7), 5, true));
-    assert!(rt; is_home_sync(&taken[4], true));
-    assert!(rt; is_read(&taken[5], Block(7), 5));
-    assert!(rt; is_read(&taken[6], Block(u64::MAX), 4));
-    Ok(())
-}
-
-/// Two pieces are offered to a log that fails the call 1, 2, 3 or none, and then again.
-#[test]
-fn log_fails_at_each_call(rt: HostRuntime) -> Result<(), Fail> {
-    let alloc = rt.alloc();
-    let pieces = [Bytes::from_static(b"ab"), Bytes::from_static(b"cde")];
-    let table = [
-        (1, 0, None, 2, Some(true)),
-        (2, 1, None, 2, Some(true)),
-        (3, 2, Some(false), 2, Some(true)),
-        (4, 2, Some(true), 0, None),
+fn home_in_memory(rt: HostRuntime) {
+    const CALLS: &[Told] = &[
+        Told::Read(7, Some(0)),
+        Told::Write(7, Some(3), true),
+        Told::Write(u64::MAX, Some(4), true),
+        Told::Write(7, Some(5), true),
+        Told::Sync(true),
+        Told::Read(7, Some(5)),
+        Told::Read(u64::MAX, Some(4)),
     ];
-    for (at, taken, sync, taken_again, sync_again) in table {
-        let mut log = FailAt::over_log(alloc, MemLog::new(alloc), at);
-        let answers = offer(&mut log, &pieces);
-        assert_eq!(rt; answers.taken, taken, "call {at}");
-        assert_eq!(rt; answers.sync, sync, "call {at}");
-        let calls = log.taken().ok_or("it tells")?;
-        assert_eq!(rt; calls.len() as u64, at.min(3));
-        assert!(rt; is_piece(&calls[0], b"ab", at != 1));
-        assert!(rt; calls.len() < 2 || is_piece(&calls[1], b"cde", at != 2));
-        assert!(rt; calls.len() < 3 || is_log_sync(&calls[2], at != 3));
-        let handed_on = log.device.taken().ok_or("it tells")?;
-        assert_eq!(rt; handed_on.len() as u64, at - 1);
-        let answers = offer(&mut log, &pieces);
-        assert_eq!(rt; answers.taken, taken_again, "call {at}");
-        assert_eq!(rt; answers.sync, sync_again, "call {at}");
-    }
-    Ok(())
+    let mut home = MemHome::new(rt.alloc());
+    assert!(rt; reads(&mut home, 7, 0));
+    assert!(rt; write(&mut home, 7, 3) && write(&mut home, u64::MAX, 4) && write(&mut home, 7, 5));
+    assert!(rt; home.sync().is_ok());
+    assert!(rt; reads(&mut home, 7, 5) && reads(&mut home, u64::MAX, 4));
+    assert!(rt; home_tells(home.taken(), CALLS));
 }
 
-/// Two writes are offered to a home device that fails the call 1, 2, 3 or none.
+/// Offers two pieces.
+fn offer_two(log: &mut FailAt<MemLog, LogOffer>) -> LogAnswers {
+    offer(
+        log,
+        &[Bytes::from_static(b"ab"), Bytes::from_static(b"cde")],
+    )
+}
+
+const ALL_TAKEN: LogAnswers = LogAnswers {
+    taken: 2,
+    sync: Some(true),
+};
+
+/// Two pieces are offered to a log that fails one call: what it answers and tells, and what it answers to them later.
+fn log_fails(
+    rt: &impl Abort,
+    alloc: Global,
+    at: u64,
+    first: LogAnswers,
+    calls: &[LogCall],
+    later: LogAnswers,
+)
+    requires at { 0 < at }
+{
+    let mut log = FailAt::over_log(alloc, MemLog::new(alloc), at);
+    assert_eq!(rt; offer_two(&mut log), first);
+    assert!(rt; log_tells(log.taken(), calls), "call {at}");
+    assert_eq!(rt; count(log.device.taken()), Some(at as usize - 1));
+    assert_eq!(rt; offer_two(&mut log), later);
+}
+
+/// The call 1, 2, 3 or none fails.
 #[test]
-fn home_fails_at_each_call(rt: HostRuntime) -> Result<(), Fail> {
+fn log_fails_at_each_call(rt: HostRuntime) {
+    const FIRST: &[LogCall] = &[(AB, false)];
+    const SECOND: &[LogCall] = &[(AB, true), (CDE, false)];
+    const THIRD: &[LogCall] = &[(AB, true), (CDE, true), (SYNC, false)];
+    const NONE: &[LogCall] = &[(AB, true), (CDE, true), (SYNC, true)];
     let alloc = rt.alloc();
-    let sevens = [7; 4096];
-    let nines = [9; 4096];
+    let taken = |taken, sync| LogAnswers { taken, sync };
+    log_fails(&rt, alloc, 1, taken(0, None), FIRST, ALL_TAKEN);
+    log_fails(&rt, alloc, 2, taken(1, None), SECOND, ALL_TAKEN);
+    log_fails(&rt, alloc, 3, taken(2, Some(false)), THIRD, ALL_TAKEN);
+    log_fails(&rt, alloc, 4, ALL_TAKEN, NONE, taken(0, None));
+}
+
+/// Whether two writes were answered so, and then the sync.
+fn answers(answers: &HomeAnswers, first: bool, second: bool, sync: bool) -> bool {
+    answers.count == 2 && answers.writes[..2] == [first, second] && answers.sync == sync
+}
+
+/// Two writes are offered to a home device that fails one call: each other one is answered Ok.
+fn home_fails(rt: &impl Abort, alloc: Global, at: u64)
+    requires at { 0 < at }
+{
+    let (first, second, sync) = (at != 1, at != 2, at != 3);
+    let mut home = FailAt::over_home(alloc, MemHome::new(alloc), at);
+    let offered = offer_home(&mut home, &[(Block(7), &[7; 4096]), (Block(9), &[9; 4096])]);
+    assert!(rt; answers(&offered, first, second, sync), "call {at}");
+    let calls = [
+        Told::Write(7, Some(7), first),
+        Told::Write(9, Some(9), second),
+        Told::Sync(sync),
+    ];
+    assert!(rt; home_tells(home.taken(), &calls));
+    assert!(rt; reads(&mut home.device, 7, if first { 7 } else { 0 }));
+}
+
+/// The call 1, 2, 3 or none fails.
+#[test]
+fn home_fails_at_each_call(rt: HostRuntime) {
     for at in 1..5 {
-        let mut home = FailAt::over_home(alloc, MemHome::new(alloc), at);
-        let answers = offer_home(&mut home, &[(Block(7), &sevens), (Block(9), &nines)]);
-        assert_eq!(rt; answers.count, 2);
-        assert_eq!(rt; answers.writes[0], at != 1);
-        assert_eq!(rt; answers.writes[1], at != 2);
-        assert_eq!(rt; answers.sync, at != 3);
-        let calls = home.taken().ok_or("it tells")?;
-        assert_eq!(rt; calls.len(), 3);
-        assert!(rt; is_write(&calls[0], Block(7), 7, at != 1));
-        assert!(rt; is_write(&calls[1], Block(9), 9, at != 2));
-        assert!(rt; is_home_sync(&calls[2], at != 3));
-        let seven = if at == 1 { 0 } else { 7 };
-        assert_eq!(rt; first_byte(&mut home.device, Block(7)), Ok(seven));
+        home_fails(&rt, rt.alloc(), at);
     }
-    Ok(())
 }
 
 #[test]
-fn read_fails_once(rt: HostRuntime) -> Result<(), Fail> {
+fn read_fails_once(rt: HostRuntime) {
+    const CALLS: &[Told] = &[Told::Unread(7), Told::Read(7, Some(0))];
     let alloc = rt.alloc();
     let mut home = FailAt::over_home(alloc, MemHome::new(alloc), 1);
     assert_eq!(rt; first_byte(&mut home, Block(7)), Err(DevFault));
     assert_eq!(rt; first_byte(&mut home, Block(7)), Ok(0));
-    let calls = home.taken().ok_or("it tells")?;
-    assert_eq!(rt; calls.len(), 2);
-    assert!(rt; matches!(&calls[0], HomeCall::Read { content: None, .. }));
-    assert!(rt; is_read(&calls[1], Block(7), 0));
-    Ok(())
+    assert!(rt; home_tells(home.taken(), CALLS));
 }
 
 /// Nothing is allocated here: run it with the first allocation failing.
 #[test]
 fn offers_take_no_memory(rt: HostRuntime) {
     let pieces = [Bytes::from_static(b"ab"), Bytes::from_static(b"cde")];
-    let answers = offer(&mut Deaf, &pieces);
-    assert_eq!(rt; answers.taken, 2);
-    assert_eq!(rt; answers.sync, Some(true));
+    assert_eq!(rt; offer(&mut Deaf, &pieces), ALL_TAKEN);
     let zeros = [0; 4096];
-    let answers = offer_home(&mut Deaf, &[(Block(7), &zeros), (Block(7), &zeros)]);
-    assert_eq!(rt; answers.count, 2);
-    assert!(rt; answers.writes[0] && answers.writes[1]);
-    assert!(rt; answers.sync);
+    let offered = offer_home(&mut Deaf, &[(Block(7), &zeros), (Block(7), &zeros)]);
+    assert!(rt; answers(&offered, true, true, true));
 }
 
 #[test]
-fn nothing_to_offer(rt: HostRuntime) -> Result<(), Fail> {
+fn nothing_to_offer(rt: HostRuntime) {
     let mut log = MemLog::new(rt.alloc());
     let answers = offer(&mut log, &[]);
-    assert_eq!(rt; answers.taken, 0);
-    assert_eq!(rt; answers.sync, Some(true));
-    assert_eq!(rt; log.taken().ok_or("it tells")?.len(), 1);
+    assert!(rt; answers.taken == 0 && answers.sync == Some(true));
+    assert!(rt; log_tells(log.taken(), &[(SYNC, true)]));
     let mut home = MemHome::new(rt.alloc());
-    let answers = offer_home(&mut home, &[]);
-    assert_eq!(rt; answers.count, 0);
-    assert_eq!(rt; home.taken().ok_or("it tells")?.len(), 0);
-    Ok(())
+    assert_eq!(rt; offer_home(&mut home, &[]).count, 0);
+    assert!(rt; home_tells(home.taken(), &[]));
 }
 
 /// Whichever growth is refused, a log answers as before, and what it still tells is all there.
 #[test]
 fn log_without_memory(rt: HostRuntime) {
+    const CALLS: &[LogCall] = &[(AB, true), (CDE, true), (SYNC, true)];
     let mut log = MemLog::new(rt.alloc());
-    assert_eq!(rt; log.append(b"ab"), Ok(()));
-    assert_eq!(rt; log.append(b"cde"), Ok(()));
-    assert_eq!(rt; log.sync(), Ok(()));
-    if let Some(taken) = log.taken() {
-        assert_eq!(rt; taken.len(), 3);
-        assert!(rt; is_piece(&taken[0], b"ab", true));
-    }
+    let is_taken = log.append(b"ab").is_ok() && log.append(b"cde").is_ok() && log.sync().is_ok();
+    assert!(rt; is_taken);
+    assert!(rt; log.taken().is_none() || log_tells(log.taken(), CALLS));
 }
 
-/// Whichever growth is refused, a write either failed and is not there, or is there whole.
+/// A write either failed and is not there, or is there whole.
+fn is_kept_or_not(home: &mut MemHome, block: u64, byte: u8) -> bool {
+    let is_kept = write(home, block, byte);
+    reads(home, block, if is_kept { byte } else { 0 })
+}
+
+/// Whichever growth is refused, what a home device still tells is all there.
 #[test]
 fn home_without_memory(rt: HostRuntime) {
     let mut home = MemHome::new(rt.alloc());
-    for (block, byte) in [(Block(7), 7), (Block(9), 9)] {
-        let kept = home.write(block, &[byte; 4096]).is_ok();
-        let there = if kept { byte } else { 0 };
-        assert_eq!(rt; first_byte(&mut home, block), Ok(there));
+    assert!(rt; is_kept_or_not(&mut home, 7, 7) && is_kept_or_not(&mut home, 9, 9));
+    assert!(rt; home.sync().is_ok());
+    assert!(rt; matches!(count(home.taken()), None | Some(5)));
+}
+
+/// Appends the numbers below a count, and syncs after each fifth.
+fn append_many(log: &mut MemLog, count: u64) -> bool {
+    for n in 0..count {
+        let is_taken = append_through(log, &n.to_be_bytes()).is_ok();
+        if !is_taken || n % 5 == 4 && log.sync().is_err() {
+            return false;
+        }
     }
-    assert_eq!(rt; home.sync(), Ok(()));
-    if let Some(taken) = home.taken() {
-        assert_eq!(rt; taken.len(), 5);
+    true
+}
+
+/// Whether these are the calls of `append_many`.
+fn are_many(offers: &[LogOffer]) -> bool {
+    for (i, offer) in offers.iter().enumerate() {
+        let n = ((i - i / 6) as u64).to_be_bytes();
+        let piece = if i % 6 == 5 { None } else { Some(n.as_slice()) };
+        if !is_offer(offer, piece, true) {
+            return false;
+        }
     }
+    true
 }
 
 /// A log tells thousands of calls, all in their order.
 #[test]
-fn log_over_many_calls(rt: HostRuntime) -> Result<(), Fail> {
+fn log_over_many_calls(rt: HostRuntime) {
     let mut log = MemLog::new(rt.alloc());
-    for n in 0..5000u64 {
-        assert_eq!(rt; append_through(&mut log, &n.to_be_bytes()), Ok(()));
-        if n % 5 == 4 {
-            assert_eq!(rt; log.sync(), Ok(()));
+    assert!(rt; append_many(&mut log, 5000));
+    let Some(taken) = log.taken() else {
+        return assert!(rt; false, "it tells");
+    };
+    assert_eq!(rt; taken.len(), 6000);
+    assert!(rt; are_many(taken));
+}
+
+/// Whether a log fails just this one of its calls from 1 to 4,000.
+fn fails_just(log: &mut FailAt<MemLog, LogOffer>, at: u64) -> bool {
+    for n in 1..4001u64 {
+        if append_through(log, &n.to_be_bytes()).is_ok() == (n == at) {
+            return false;
         }
     }
-    let taken = log.taken().ok_or("it tells")?;
-    assert_eq!(rt; taken.len(), 6000);
-    for (i, offer) in taken.iter().enumerate() {
-        let n = (i - i / 6) as u64;
-        let told = if i % 6 == 5 {
-            is_log_sync(offer, true)
-        } else {
-            is_piece(offer, &n.to_be_bytes(), true)
-        };
-        assert!(rt; told, "call {i}");
-    }
-    Ok(())
+    true
 }
 
 /// A log that fails its call 3,000 takes the 2,999 before it and the 1,000 after it.
 #[test]
-fn log_fails_at_a_late_call(rt: HostRuntime) -> Result<(), Fail> {
+fn log_fails_at_a_late_call(rt: HostRuntime) {
     let alloc = rt.alloc();
     let mut log = FailAt::over_log(alloc, MemLog::new(alloc), 3000);
-    for n in 1..4001u64 {
-        let answered = append_through(&mut log, &n.to_be_bytes());
-        assert_eq!(rt; answered.is_ok(), n != 3000, "call {n}");
+    assert!(rt; fails_just(&mut log, 3000));
+    assert_eq!(rt; count(log.taken()), Some(4000));
+    assert_eq!(rt; count(log.device.taken()), Some(3999));
+}
+
+/// The last block that a mount may have.
+const LAST: u64 = 1_099_511_627_775;
+
+/// Writes a thousand blocks down from the last, each with a byte that tells it from those near it.
+fn write_many(home: &mut MemHome, byte: u8) -> bool
+    requires byte { byte ≤ 2 }
+{
+    for n in 0..1000u64 {
+        if !write(home, LAST - n, byte + (n % 250) as u8) {
+            return false;
+        }
     }
-    assert_eq!(rt; log.taken().ok_or("it tells")?.len(), 4000);
-    assert_eq!(rt; log.device.taken().ok_or("it tells")?.len(), 3999);
-    Ok(())
+    true
+}
+
+/// Whether they are read so.
+fn reads_many(home: &mut MemHome, byte: u8) -> bool
+    requires byte { byte ≤ 2 }
+{
+    for n in 0..1000u64 {
+        if !reads(home, LAST - n, byte + (n % 250) as u8) {
+            return false;
+        }
+    }
+    true
+}
+
+/// What a home device tells of one of its calls.
+fn call_at(taken: Option<&[HomeCall]>, place: usize) -> Option<Told> {
+    Some(plain(taken?.get(place)?))
 }
 
 /// A home device keeps a thousand blocks up to the last that a mount may have, each written twice, and tells all calls.
 #[test]
-fn home_over_many_calls(rt: HostRuntime) -> Result<(), Fail> {
-    let last = 1_099_511_627_775u64;
+fn home_over_many_calls(rt: HostRuntime) {
     let mut home = MemHome::new(rt.alloc());
-    for byte in [1, 2] {
-        for n in 0..1000u64 {
-            let content = [byte + (n % 250) as u8; 4096];
-            assert_eq!(rt; home.write(Block(last - n), &content), Ok(()));
-        }
-    }
-    for n in 0..1000u64 {
-        let byte = 2 + (n % 250) as u8;
-        assert_eq!(rt;
-            first_byte(&mut home, Block(last - n)),
-            Ok(byte),
-            "block {n}"
-        );
-    }
-    assert_eq!(rt; first_byte(&mut home, Block(last - 1000)), Ok(0));
-    assert_eq!(rt; first_byte(&mut home, Block(last + 1)), Ok(0));
-    let taken = home.taken().ok_or("it tells")?;
-    assert_eq!(rt; taken.len(), 3002);
-    assert!(rt; is_write(&taken[0], Block(last), 1, true));
-    assert!(rt; is_write(&taken[1999], Block(last - 999), 251, true));
-    assert!(rt; is_read(&taken[2000], Block(last), 2));
-    Ok(())
+    assert!(rt; write_many(&mut home, 1) && write_many(&mut home, 2));
+    assert!(rt; reads_many(&mut home, 2));
+    assert!(rt; reads(&mut home, LAST - 1000, 0) && reads(&mut home, LAST + 1, 0));
+    assert_eq!(rt; count(home.taken()), Some(3002));
+    assert!(rt; call_at(home.taken(), 0) == Some(Told::Write(LAST, Some(1), true)));
+    assert!(rt; call_at(home.taken(), 1999) == Some(Told::Write(LAST - 999, Some(251), true)));
+    assert!(rt; call_at(home.taken(), 2000) == Some(Told::Read(LAST, Some(2))));
 }

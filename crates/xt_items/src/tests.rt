@@ -1,6 +1,9 @@
 //! The lists on numbers worked out by hand, and what a refused allocation leaves.
+//!
+//! A test function is proved too, at a cost that grows with the square of its length. So what is
+//! expected stands in constants and helpers, and a test has few assertions.
 
-ghost use Rattle.std.specs.Prelude.{◌≡◌};
+ghost use Rattle.std.specs.Prelude.{◌≡◌, ◌≤◌};
 ghost use Rattle.xt_base.specs.Maps.{is_in};
 ghost use Rattle.xt_items.specs.Plans.{planned};
 
@@ -11,16 +14,34 @@ use std::alloc::{AllocError, Global};
 use xt_base::chunks::Chunks;
 use xt_base::form::Form;
 use xt_base::map::NumberMap;
-use xt_base::names::Block;
 use xt_base::steps::HomeAnswers;
+
+/// Marks twelve bytes of a block; false where the commit list has no room.
+fn mark(items: &mut Items, block: u64, first: u32) -> bool
+    requires within { first ≤ 4000 }
+{
+    if items.cil().len() == 128 {
+        return false;
+    }
+    items.mark(block, Chunks::mark(first, 12));
+    true
+}
+
+/// Cancels a block; false where the commit list has no room.
+fn cancel(items: &mut Items, block: u64) -> bool {
+    if items.cil().len() == 128 {
+        return false;
+    }
+    items.cancel(block);
+    true
+}
 
 /// Marks one chunk of each block.
 fn commit(items: &mut Items, blocks: &[u64]) -> bool {
     for block in blocks {
-        if items.cil().len() == 128 {
+        if !mark(items, *block, 0) {
             return false;
         }
-        items.mark(*block, Chunks::mark(0, 12));
     }
     true
 }
@@ -73,6 +94,42 @@ fn plan_beside(items: &Items, owned: &NumberMap<u64>) -> FlushPlan
     items.flush_plan(&|block| owned.contains(block))
 }
 
+/// How many chunks of a committed block are marked.
+fn marked(items: &Items, block: u64) -> Option<u32> {
+    Some(items.marks(block)?.count())
+}
+
+/// The open list's number, and what it costs.
+fn open_list(items: &Items) -> (u64, u64) {
+    (items.open_number(), items.cil_cost(Form::one()))
+}
+
+/// Whether the open list has three marked chunks of block 7, and block 9 cancelled.
+fn has_both(items: &Items) -> bool {
+    marked(items, 7) == Some(3)
+        && items
+            .marks(7)
+            .is_some_and(|marks| marks.has(2) && !marks.has(3))
+        && marked(items, 9) == Some(0)
+        && marked(items, 8).is_none()
+        && items.is_committed(9)
+        && !items.is_committed(8)
+}
+
+/// Whether both fly in checkpoint 1 and checkpoint 2 is open.
+fn both_fly(items: &Items) -> bool {
+    open_list(items) == (2, 0)
+        && (items.flight_number(), items.pieces().len()) == (Some(1), 1)
+        && items.is_in_flight(7)
+        && items.is_listed(9)
+        && !items.is_listed(8)
+}
+
+/// Whether nothing flies, and just these blocks are active.
+fn rests(items: &Items, active: &[(u64, u64)]) -> bool {
+    !items.is_flying() && items.pieces().is_empty() && items.ail() == active
+}
+
 /// A block is logged twice and another one cancelled; they fly and land. Where a growth is refused nothing has changed:
 /// run it with each allocation failing in turn.
 #[test]
@@ -80,90 +137,101 @@ fn a_checkpoint_lands(rt: HostRuntime) {
     let Ok(mut items) = Items::new(rt.alloc()) else {
         return;
     };
-    items.mark(7, Chunks::mark(0, 12));
-    items.mark(7, Chunks::mark(250, 12));
-    items.cancel(9);
-    assert_eq!(rt; items.marks(7).map(|marks| marks.count()), Some(3));
-    assert_eq!(rt; items.marks(9).map(|marks| marks.count()), Some(0));
-    assert!(rt; items.marks(8).is_none() && items.is_committed(9) && !items.is_committed(8));
-    let is_begun = begin(rt.alloc(), &mut items);
-    assert_eq!(rt; is_begun, items.is_flying());
-    if !is_begun {
-        assert_eq!(rt;
-            (items.open_number(), items.cil_cost(Form::one())),
-            (1, 448)
-        );
-        return;
+    assert!(rt; mark(&mut items, 7, 0) && mark(&mut items, 7, 250) && cancel(&mut items, 9));
+    assert!(rt; has_both(&items));
+    if !begin(rt.alloc(), &mut items) {
+        return assert!(rt; !items.is_flying() && open_list(&items) == (1, 448));
     }
-    assert_eq!(rt; (items.open_number(), items.cil_cost(Form::one())), (2, 0));
-    assert_eq!(rt; (items.flight_number(), items.pieces().len()), (Some(1), 1));
-    assert!(rt; items.is_in_flight(7) && items.is_listed(9) && !items.is_listed(8));
-    let is_landed = end(&mut items);
-    assert!(rt; is_landed && !items.is_flying() && items.pieces().is_empty());
-    assert_eq!(rt; items.ail(), [(7, 1)].as_slice());
-    assert_eq!(rt; items.least(), Some(1));
+    assert!(rt; both_fly(&items));
+    assert!(rt; end(&mut items) && rests(&items, &[(7, 1)]) && items.least() == Some(1));
 }
 
-/// A cancelled block leaves the active list when it lands; a flight that is given up leaves its blocks.
+/// A cancelled block leaves the active list when it lands.
 #[test]
 fn a_cancelled_block_leaves(rt: HostRuntime) {
+    let alloc = rt.alloc();
+    let Ok(mut items) = Items::new(alloc) else {
+        return;
+    };
+    if write(alloc, &mut items, &[4, 5]) && cancel(&mut items, 4) && begin(alloc, &mut items) {
+        assert!(rt; end(&mut items) && rests(&items, &[(5, 1)]));
+    }
+}
+
+/// A flight that is given up leaves its blocks.
+#[test]
+fn a_failed_flight_leaves_its_blocks(rt: HostRuntime) {
     let Ok(mut items) = Items::new(rt.alloc()) else {
         return;
     };
-    if !write(rt.alloc(), &mut items, &[4, 5]) || items.cil().len() > 100 {
-        return;
-    }
-    items.cancel(4);
-    if !begin(rt.alloc(), &mut items) {
-        return;
-    }
-    let is_landed = end(&mut items);
-    assert!(rt; is_landed);
-    assert_eq!(rt; items.ail(), [(5, 1)].as_slice());
     if commit(&mut items, &[6]) && begin(rt.alloc(), &mut items) {
         items.fail();
-        assert!(rt; !items.is_flying() && !items.is_listed(6));
-        assert_eq!(rt; items.open_number(), 4);
+        assert!(rt; rests(&items, &[]) && !items.is_listed(6) && items.open_number() == 2);
     }
 }
 
-/// Nine blocks on the active list, by number: 20, 30; 5, 7, 9, 25; 1, 2, 3. The eight that are first go home, and of these
-/// none that is owned, committed or in flight.
+/// Nine blocks on the active list, by number: 20, 30; 5, 7, 9, 25; 1, 2, 3. None where a growth is refused.
+fn nine_blocks(alloc: Global) -> Option<Items> {
+    let mut items = Items::new(alloc).ok()?;
+    let is_written = write(alloc, &mut items, &[30, 20])
+        && write(alloc, &mut items, &[25, 5, 7, 9])
+        && write(alloc, &mut items, &[1, 2, 3, 20]);
+    if is_written { Some(items) } else { None }
+}
+
+/// Whether a plan has just these blocks, in order.
+fn plans(plan: &FlushPlan, blocks: &[u64]) -> bool {
+    for (planned, block) in plan.blocks().iter().zip(blocks) {
+        if planned.0 != *block {
+            return false;
+        }
+    }
+    plan.blocks().len() == blocks.len()
+        && plan.count() as usize == blocks.len()
+        && plan.count == plan.count()
+}
+
+/// The eight that are first go home.
 #[test]
 fn a_flush_takes_the_first_eight(rt: HostRuntime) {
-    let (Ok(mut items), Ok(owned)) = (Items::new(rt.alloc()), NumberMap::new(rt.alloc())) else {
+    const FIRST: &[u64] = &[20, 30, 5, 7, 9, 25, 1, 2];
+    let (Some(items), Ok(owned)) = (nine_blocks(rt.alloc()), NumberMap::new(rt.alloc())) else {
         return;
     };
-    let is_written = write(rt.alloc(), &mut items, &[30, 20])
-        && write(rt.alloc(), &mut items, &[25, 5, 7, 9])
-        && write(rt.alloc(), &mut items, &[1, 2, 3, 20]);
-    if !is_written {
-        return;
-    }
     assert_eq!(rt; items.ail().len(), 9);
-    let plan = plan_beside(&items, &owned);
-    let first = [
-        Block(20),
-        Block(30),
-        Block(5),
-        Block(7),
-        Block(9),
-        Block(25),
-        Block(1),
-        Block(2),
-    ];
-    assert_eq!(rt; plan.blocks(), first.as_slice());
-    assert_eq!(rt; plan.count(), 8);
-    let is_begun = commit(&mut items, &[7]) && begin(rt.alloc(), &mut items);
-    if !is_begun || !commit(&mut items, &[5, 20]) {
+    assert!(rt; plans(&plan_beside(&items, &owned), FIRST));
+}
+
+/// None goes home that is owned, committed or in flight.
+#[test]
+fn a_flush_leaves_out_blocks_in_use(rt: HostRuntime) {
+    const OTHERS: &[u64] = &[9, 25, 1, 2, 3];
+    let Some(mut items) = nine_blocks(rt.alloc()) else {
         return;
+    };
+    if commit(&mut items, &[7]) && begin(rt.alloc(), &mut items) && commit(&mut items, &[5, 20]) {
+        assert!(rt; plans(&items.flush_plan(&|block| block == 30), OTHERS));
+        assert!(rt; items.has_due(&|block| block < 9));
+        assert!(rt; !items.has_due(&|block| block < 26 || block == 30));
     }
-    let plan = items.flush_plan(&|block| block == 30);
-    let others = [Block(9), Block(25), Block(1), Block(2), Block(3)];
-    assert_eq!(rt; plan.blocks(), others.as_slice());
-    assert!(rt;
-        items.has_due(&|block| block < 9) && !items.has_due(&|block| block < 26 || block == 30)
-    );
+}
+
+/// Answers to so many writes, of which the second failed, and to the sync.
+fn answers(count: u8, sync: bool) -> HomeAnswers {
+    HomeAnswers {
+        count,
+        writes: [true, false, true, true, true, true, true, true],
+        sync,
+    }
+}
+
+/// A flush of three blocks with these answers: how many went home.
+fn flush(items: &mut Items, answers: &HomeAnswers) -> Option<u32> {
+    let plan = items.flush_plan(&|_| false);
+    if plan.count() != answers.count {
+        return None;
+    }
+    Some(items.flush_done(&plan, answers))
 }
 
 /// Of three blocks the middle one's write failed: it stays. Where the sync failed all stay.
@@ -172,39 +240,18 @@ fn a_flush_leaves_what_failed(rt: HostRuntime) {
     let Ok(mut items) = Items::new(rt.alloc()) else {
         return;
     };
-    if !write(rt.alloc(), &mut items, &[3, 2, 1]) {
-        return;
+    if write(rt.alloc(), &mut items, &[3, 2, 1]) {
+        assert_eq!(rt; flush(&mut items, &answers(3, false)), Some(0));
+        assert_eq!(rt; items.ail().len(), 3);
+        assert_eq!(rt; flush(&mut items, &answers(3, true)), Some(2));
+        assert!(rt; rests(&items, &[(2, 1)]));
     }
-    let mut answers = HomeAnswers {
-        count: 3,
-        writes: [true, false, true, true, true, true, true, true],
-        sync: false,
-    };
-    let plan = items.flush_plan(&|_| false);
-    assert_eq!(rt; plan.count(), 3);
-    if plan.count() != answers.count {
-        return;
-    }
-    assert_eq!(rt; items.flush_done(&plan, &answers), 0);
-    assert_eq!(rt; items.ail().len(), 3);
-    answers.sync = true;
-    assert_eq!(rt; items.flush_done(&plan, &answers), 2);
-    assert_eq!(rt; items.ail(), [(2, 1)].as_slice());
 }
 
 /// Answers after the last planned write don't count.
 #[test]
 fn all_answers_are_ok(rt: HostRuntime) {
-    let mut answers = HomeAnswers {
-        count: 2,
-        writes: [true, true, false, false, false, false, false, false],
-        sync: true,
-    };
-    assert!(rt; all_ok(&answers));
-    answers.sync = false;
-    assert!(rt; !all_ok(&answers));
-    answers.sync = true;
-    answers.count = 3;
-    assert!(rt; !all_ok(&answers));
+    assert!(rt; all_ok(&answers(1, true)));
+    assert!(rt; !all_ok(&answers(1, false)) && !all_ok(&answers(2, true)));
     assert_eq!(rt; FlushPlan::none().count(), 0);
 }

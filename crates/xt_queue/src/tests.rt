@@ -1,10 +1,13 @@
 //! Worked rows of the queue and of the board, and names that go through two threads on each side.
+//!
+//! A test function is proved too, at a cost that grows with the square of its length. So what is
+//! expected stands in constants and helpers, and a test has few assertions.
 
 ghost use Rattle.std.specs.Prelude.{◌≡◌, ◌+◌, ◌-◌, ◌<◌, ◌≤◌, ◌++◌, [], ◌∷◌, IfSome, vec_capacity, vec_len};
 ghost use Rattle.xt_queue.specs.Names.{last_of, unposted};
 ghost use Rattle.xt_queue.specs.Passes.{fresh_post, fresh_posts, fresh_works};
 
-use crate::board::Board;
+use crate::board::{Board, Seat};
 use crate::jobs::{JobQueue, PostPass, WorkPass};
 use crate::words;
 use std::sync::Wait;
@@ -12,7 +15,7 @@ use std::test::*;
 use std::thread;
 use std::thread::Threads;
 use xt_base::names::{JobKind, JobName, Life, Slot};
-use xt_base::steps::Reason;
+use xt_base::steps::{Errno, Reason};
 
 /// The slot of an index.
 fn slot(index: u8) -> Slot
@@ -42,34 +45,50 @@ fn name(index: u8, serial: u64) -> JobName
 
 #[test]
 fn words_are_lives_and_reasons(rt: HostRuntime) {
-    let rows = [
-        (0, Life(0), None),
-        (8, Life(1), None),
-        (9, Life(1), Some(Reason::MetaIoError)),
-        (10, Life(1), Some(Reason::LogIoError)),
-        (11, Life(1), Some(Reason::ForceUmount)),
-        (12, Life(1), Some(Reason::CorruptIncore)),
-        (16, Life(2), None),
+    const ROWS: &[(u64, u32, Option<Reason>)] = &[
+        (0, 0, None),
+        (8, 1, None),
+        (9, 1, Some(Reason::MetaIoError)),
+        (10, 1, Some(Reason::LogIoError)),
+        (11, 1, Some(Reason::ForceUmount)),
+        (12, 1, Some(Reason::CorruptIncore)),
+        (16, 2, None),
     ];
-    for (word, life, shut) in rows {
-        assert_eq!(rt; words::word(life, shut), word);
+    for (word, life, shut) in ROWS {
+        assert_eq!(rt; words::word(Life(*life), *shut), *word);
     }
 }
 
+/// What slot 0 shows after a word.
+fn shown(
+    board: &Board,
+    showing: &mut Seat,
+    reading: &mut Seat,
+    life: u32,
+    shut: Option<Reason>,
+) -> (Life, Option<Reason>)
+    requires showing { showing.old.board ≡ board.now }
+    requires reading { reading.old.board ≡ board.now }
+    ensures showing { showing.new.board ≡ board.now }
+    ensures reading { reading.new.board ≡ board.now }
+{
+    board.show(showing, slot(0), Life(life), shut);
+    board.peek(reading, slot(0))
+}
+
 #[test]
-fn a_shown_word_never_goes_down(rt: HostRuntime) -> Result<(), Fail> {
+fn a_shown_word_never_goes_down(rt: HostRuntime) -> Result<(), Errno> {
+    const SHUT: Option<Reason> = Some(Reason::CorruptIncore);
     let (board, mut showing) = Board::new(rt.alloc())?;
     let mut reading = board.split(&mut showing);
-    let zero = slot(0);
-    let shut = (Life(1), Some(Reason::CorruptIncore));
-    assert_eq!(rt; board.peek(&mut reading, zero), (Life(0), None));
-    board.show(&mut showing, zero, Life(1), Some(Reason::CorruptIncore));
-    assert_eq!(rt; board.peek(&mut reading, zero), shut);
-    board.show(&mut showing, zero, Life(1), None);
-    assert_eq!(rt; board.peek(&mut reading, zero), shut);
-    board.show(&mut showing, zero, Life(2), None);
-    assert_eq!(rt; board.peek(&mut reading, zero), (Life(2), None));
-    assert_eq!(rt; board.peek(&mut reading, slot(1)), (Life(0), None));
+    let blank = board.peek(&mut reading, slot(0));
+    let first = shown(&board, &mut showing, &mut reading, 1, SHUT);
+    let lower = shown(&board, &mut showing, &mut reading, 1, None);
+    let higher = shown(&board, &mut showing, &mut reading, 2, None);
+    let other = board.peek(&mut reading, slot(1));
+    assert!(rt; blank == (Life(0), None) && other == (Life(0), None));
+    assert!(rt; first == (Life(1), SHUT) && lower == (Life(1), SHUT));
+    assert_eq!(rt; higher, (Life(2), None));
     Ok(())
 }
 
@@ -94,37 +113,73 @@ fn post_two<R: Wait>(
     Some(pass)
 }
 
-#[test]
-fn a_full_queue_hands_a_name_back(rt: HostRuntime) -> Result<(), Fail> {
-    let (queue, mut passes) = JobQueue::new(rt.alloc())?;
+/// Posts two names of each slot, 15 to 0, and hands back the pass of slot 0.
+fn fill<R: Wait>(rt: &R, queue: &JobQueue, posts: &mut Vec<PostPass>) -> Option<PostPass>
+    requires posts { posts.old.items ≡ fresh_posts queue.now 16 }
+    ensures queue { IfSome result (λ pass. pass.queue ≡ queue.now) }
+    ensures slot { IfSome result (λ pass. pass.slot ≡ 0) }
+    ensures last { IfSome result (λ pass. last_of unposted pass.posted ≡ (1, 2)) }
+{
     for low in 0..15 {
-        let posted = post_two(&rt, &queue, &mut passes.posts, 15 - low);
-        assert!(rt; posted.is_some(), "two names of slot {}", 15 - low);
+        post_two(rt, queue, posts, 15 - low)?;
     }
-    let Some(mut first_slot) = post_two(&rt, &queue, &mut passes.posts, 0) else {
-        return Ok(assert!(rt; false, "two names of slot 0"));
-    };
-    let third = name(0, 3);
-    assert_eq!(rt; queue.post(&rt, &mut first_slot, third), Err(third));
-    let Some(mut worker) = passes.works.pop() else {
-        unreachable!()
-    };
-    assert_eq!(rt; queue.take(&rt, &mut worker), Some(name(15, 1)));
-    assert_eq!(rt; queue.post(&rt, &mut first_slot, third), Ok(()));
-    Ok(())
+    post_two(rt, queue, posts, 0)
+}
+
+/// Posts the third name of slot 0, takes one, and posts it again: what came back, who was taken, and what came back then.
+type Full = (Option<JobName>, Option<JobName>, Option<JobName>);
+
+fn post_to_full<R: Wait>(rt: &R, queue: &JobQueue, pass: &mut PostPass, work: &mut WorkPass) -> Full
+    requires queue { pass.old.queue ≡ queue.now }
+    requires slot { pass.old.slot ≡ 0 }
+    requires last { last_of unposted pass.old.posted ≡ (1, 2) }
+    requires work { work.old.queue ≡ queue.now }
+{
+    let back = queue.post(rt, pass, name(0, 3)).err();
+    if back.is_none() {
+        return (None, None, None);
+    }
+    let taken = queue.take(rt, work);
+    (back, taken, queue.post(rt, pass, name(0, 3)).err())
 }
 
 #[test]
-fn an_empty_queue_gives_none(rt: HostRuntime) -> Result<(), Fail> {
+fn a_full_queue_hands_a_name_back(rt: HostRuntime) -> Result<(), Errno> {
+    let (queue, mut passes) = JobQueue::new(rt.alloc())?;
+    let Some(mut first_slot) = fill(&rt, &queue, &mut passes.posts) else {
+        return Ok(assert!(rt; false, "two names of each slot"));
+    };
+    let Some(mut worker) = passes.works.pop() else {
+        unreachable!()
+    };
+    let told = post_to_full(&rt, &queue, &mut first_slot, &mut worker);
+    assert!(rt; told == (Some(name(0, 3)), Some(name(15, 1)), None));
+    Ok(())
+}
+
+/// The slot and the serial of the next name that a worker takes.
+fn take<R: Wait>(rt: &R, queue: &JobQueue, pass: &mut WorkPass) -> Option<(usize, u64)>
+    requires queue { pass.old.queue ≡ queue.now }
+    ensures queue { pass.new.queue ≡ queue.now }
+{
+    let taken = queue.take(rt, pass)?;
+    Some((taken.slot.index(), taken.serial))
+}
+
+#[test]
+fn an_empty_queue_gives_none(rt: HostRuntime) -> Result<(), Errno> {
     let (queue, mut passes) = JobQueue::new(rt.alloc())?;
     let Some(mut worker) = passes.works.pop() else {
         unreachable!()
     };
-    assert_eq!(rt; queue.take(&rt, &mut worker), None);
+    assert_eq!(rt; take(&rt, &queue, &mut worker), None);
     assert!(rt; post_two(&rt, &queue, &mut passes.posts, 15).is_some());
-    assert_eq!(rt; queue.take(&rt, &mut worker), Some(name(15, 1)));
-    assert_eq!(rt; queue.take(&rt, &mut worker), Some(name(15, 2)));
-    assert_eq!(rt; queue.take(&rt, &mut worker), None);
+    let (first, second) = (
+        take(&rt, &queue, &mut worker),
+        take(&rt, &queue, &mut worker),
+    );
+    assert!(rt; first == Some((15, 1)) && second == Some((15, 2)));
+    assert_eq!(rt; take(&rt, &queue, &mut worker), None);
     Ok(())
 }
 
@@ -234,6 +289,46 @@ fn rises(names: &[JobName], index: usize) -> bool {
     true
 }
 
+/// Whether each serial of a slot stands once in one of two lists, in both of which they rise.
+fn is_dealt(first: &[JobName], second: &[JobName], index: usize) -> bool {
+    for serial in 1..SERIALS as u64 + 1 {
+        let found = (times(first, index, serial), times(second, index, serial));
+        if found != (1, 0) && found != (0, 1) {
+            return false;
+        }
+    }
+    rises(first, index) && rises(second, index)
+}
+
+/// Two slots post to two workers, in threads of their own: what each worker took.
+fn exchange<R: Threads + Wait + Sync>(
+    rt: &R,
+    queue: &JobQueue,
+    posts: (PostPass, PostPass),
+    works: (WorkPass, WorkPass),
+    lists: (Vec<JobName>, Vec<JobName>),
+) -> (Vec<JobName>, Vec<JobName>)
+    requires high { posts.0 ≡ fresh_post queue.now 15 }
+    requires low { posts.1 ≡ fresh_post queue.now 14 }
+    requires queue { (works.0.queue ≡ queue.now) × (works.1.queue ≡ queue.now) }
+    requires empty { (vec_len lists.0 ≡ 0) × (vec_len lists.1 ≡ 0) }
+    requires room { (vec_capacity lists.0 ≡ 50) × (vec_capacity lists.1 ≡ 50) }
+{
+    let (high, low) = posts;
+    let ((), taken) = thread::join(
+        rt,
+        move ||
+            requires { (high ≡ fresh_post queue.now 15) × (low ≡ fresh_post queue.now 14) }
+        { post_both(rt, queue, high, low) },
+        move ||
+            requires queue { (works.0.queue ≡ queue.now) × (works.1.queue ≡ queue.now) }
+            requires empty { (vec_len lists.0 ≡ 0) × (vec_len lists.1 ≡ 0) }
+            requires room { (vec_capacity lists.0 ≡ 50) × (vec_capacity lists.1 ≡ 50) }
+        { take_both(rt, queue, works, lists) },
+    );
+    taken
+}
+
 #[test]
 fn each_name_goes_to_one_worker_in_order(rt: HostRuntime) -> Result<(), Fail> {
     let alloc = rt.alloc();
@@ -248,23 +343,8 @@ fn each_name_goes_to_one_worker_in_order(rt: HostRuntime) -> Result<(), Fail> {
         Vec::with_capacity(alloc, SERIALS)?,
         Vec::with_capacity(alloc, SERIALS)?,
     );
-    let ((), (first, second)) = thread::join(
-        &rt,
-        || post_both(&rt, &queue, high, low),
-        || take_both(&rt, &queue, (first, second), lists),
-    );
-    for index in 14..16 {
-        assert!(rt;
-            rises(&first, index) && rises(&second, index),
-            "slot {index}"
-        );
-        for serial in 1..SERIALS as u64 + 1 {
-            let found = (times(&first, index, serial), times(&second, index, serial));
-            assert!(rt;
-                found == (1, 0) || found == (0, 1),
-                "slot {index}, serial {serial}"
-            );
-        }
-    }
+    let (first, second) = exchange(&rt, &queue, (high, low), (first, second), lists);
+    assert!(rt; is_dealt(&first, &second, 14));
+    assert!(rt; is_dealt(&first, &second, 15));
     Ok(())
 }

@@ -37,13 +37,6 @@ impl Model for Ticket {
 }
 
 impl Ticket {
-    /// The log bytes of a leg.
-    pub fn unit(&self) -> u32
-        ensures { result ≡ self.now.unit }
-    {
-        self.unit
-    }
-
     /// The legs left, the present one counted; 0 after a roll that was given up.
     pub fn legs(&self) -> u32
         ensures { result ≡ self.now.legs }

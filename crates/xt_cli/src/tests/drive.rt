@@ -11,6 +11,7 @@ use std::alloc::Global;
 use std::test::Fail;
 use xt_base::content::Content;
 use xt_base::names::{Block, JobName, Life, Slot};
+use xt_base::outcomes::Outcomes;
 use xt_base::steps::{Answer, HomeAnswers, LogOffer, Reply, Request, Step};
 use xt_dev::call::HomeCall;
 use xt_dev::home::HomeDevice;
@@ -84,6 +85,30 @@ pub fn home_lines(alloc: Global, slot: Slot, calls: &[HomeCall]) -> Result<Vec<u
             print_home_offer(slot, offer, &mut text);
             put_line(&mut lines, &text)?;
         }
+    }
+    Ok(lines)
+}
+
+/// The lines of what a run tells that a slot offered to its log device.
+pub fn told_log_lines(alloc: Global, slot: Slot, told: &Outcomes) -> Result<Vec<u8>, Fail> {
+    let mut lines = Vec::new(alloc);
+    let mut text = Text::new(alloc)?;
+    for offer in told.log_offers(alloc, slot)? {
+        text.clear();
+        print_log_offer(slot, offer, &mut text);
+        put_line(&mut lines, &text)?;
+    }
+    Ok(lines)
+}
+
+/// The same of its home device.
+pub fn told_home_lines(alloc: Global, slot: Slot, told: &Outcomes) -> Result<Vec<u8>, Fail> {
+    let mut lines = Vec::new(alloc);
+    let mut text = Text::new(alloc)?;
+    for offer in told.home_offers(alloc, slot)? {
+        text.clear();
+        print_home_offer(slot, offer, &mut text);
+        put_line(&mut lines, &text)?;
     }
     Ok(lines)
 }

@@ -2,203 +2,222 @@
 
 use super::says;
 use std::alloc::Global;
-use std::fmt::Write;
+use std::fmt::{self, Write};
 use std::process::Abort;
-use std::test::Fail;
 
-/// The lines of a script and what they print, put together step by step.
+/// The lines of a script and what they print, put together piece by piece.
 #[derive(Drop)]
 struct Script {
     input: String,
     want: String,
+    /// Whether there was memory for all pieces.
+    is_whole: bool,
+}
+
+/// Puts a text behind another, in which each `#` stands for the next number, and each `@` for its two hexadecimal digits.
+fn put(text: &mut String, more: &str, numbers: &[u64]) -> fmt::Result {
+    let mut next = numbers.iter();
+    for c in more.chars() {
+        match c {
+            '#' => write!(text, "{}", next.next().ok_or(fmt::Error)?)?,
+            '@' => write!(text, "{:02x}", next.next().ok_or(fmt::Error)?)?,
+            _ => text.write_char(c)?,
+        }
+    }
+    Ok(())
+}
+
+/// Puts a text behind another, so many times.
+fn put_times(text: &mut String, more: &str, count: usize) -> fmt::Result {
+    for _time in 0..count {
+        text.write_str(more)?;
+    }
+    Ok(())
 }
 
 impl Script {
     /// A mount of slot 0 with a log of so many bytes.
-    fn mounted(alloc: Global, log_bytes: u32) -> Result<Self, Fail> {
-        let (mut input, mut want) = (String::new(alloc), String::new(alloc));
-        writeln!(input, "mount 0 {log_bytes} 1099511627776")?;
-        want.push_str("0 life 1\n")?;
-        Ok(Script { input, want })
+    fn mounted(alloc: Global, log_bytes: u64) -> Self {
+        let mut script = Script {
+            input: String::new(alloc),
+            want: String::new(alloc),
+            is_whole: true,
+        };
+        script.asks("mount 0 # 1099511627776\n", &[log_bytes]);
+        script.wants("0 life 1\n", &[]);
+        script
     }
 
-    /// A call and its reply.
-    fn call(&mut self, request: &str, reply: &str) -> Result<(), Fail> {
-        writeln!(self.input, "0.1 {request}")?;
-        writeln!(self.want, "0 {reply}")?;
-        Ok(())
+    /// Puts lines behind the script.
+    fn asks(&mut self, more: &str, numbers: &[u64]) {
+        let is_put = put(&mut self.input, more, numbers).is_ok();
+        self.is_whole &= is_put;
     }
 
-    /// A checkpoint that lands: its number, which is its job's serial too, and the pieces that its log is offered.
-    fn checkpoint(&mut self, number: u64, pieces: &[String]) -> Result<(), Fail> {
-        let count = pieces.len();
-        writeln!(
-            self.input,
-            "0.1 force\npost 0.1.ckpt.{number}\ntake 7 0.1.ckpt.{number}"
-        )?;
-        writeln!(
-            self.input,
-            "begin 7 0.1.ckpt.{number}\nend 7 0.1.ckpt.{number} {count} ok"
-        )?;
-        writeln!(
-            self.want,
-            "0 wait c{number}\n0 ok\n0 ok\n0 begun c{number} {count}\n0 landed c{number}"
-        )?;
-        for piece in pieces {
-            writeln!(self.want, "0 log {piece} ok")?;
-        }
-        self.want.push_str("0 logsync ok\n")?;
-        Ok(())
+    /// Puts lines behind what it prints.
+    fn wants(&mut self, more: &str, numbers: &[u64]) {
+        let is_put = put(&mut self.want, more, numbers).is_ok();
+        self.is_whole &= is_put;
+    }
+
+    /// The same for a text that comes so many times.
+    fn asks_times(&mut self, more: &str, count: usize) {
+        let is_put = put_times(&mut self.input, more, count).is_ok();
+        self.is_whole &= is_put;
+    }
+
+    fn wants_times(&mut self, more: &str, count: usize) {
+        let is_put = put_times(&mut self.want, more, count).is_ok();
+        self.is_whole &= is_put;
+    }
+
+    /// The first checkpoint is forced and lands with so many pieces, of which the log is offered the lines that come next.
+    fn lands(&mut self, count: u64) {
+        self.asks("0.1 force\npost 0.1.ckpt.1\ntake 7 0.1.ckpt.1\n", &[]);
+        self.asks("begin 7 0.1.ckpt.1\nend 7 0.1.ckpt.1 # ok\n", &[count]);
+        self.wants(
+            "0 wait c1\n0 ok\n0 ok\n0 begun c1 #\n0 landed c1\n",
+            &[count],
+        );
     }
 
     /// Asserts that the script is run to its end and prints just what is wanted.
     fn says(&self, rt: &impl Abort, alloc: Global) {
+        assert!(rt; self.is_whole);
         says(rt, alloc, self.input.as_str(), self.want.as_str(), 0);
     }
 }
 
 /// The 65 pieces of a checkpoint of 64 whole blocks, in which block N is filled with N + 1.
-fn longest_pieces(alloc: Global) -> Result<Vec<String>, Fail> {
-    let mut pieces = Vec::new(alloc);
-    let first = "58435031.00*7.0100000040.00*8.ff*4.00*4.01*4064";
-    pieces.push(String::from_str(alloc, first)?)?;
+fn want_longest_pieces(script: &mut Script) {
+    script.wants(
+        "0 log 58435031.00*7.0100000040.00*8.ff*4.00*4.01*4064 ok\n",
+        &[],
+    );
     for n in 1..64u64 {
-        let (before, here) = (16 + 16 * n, 4064 - 16 * n);
-        let next = n + 1;
-        pieces.push(format!(in alloc;
-            "{n:02x}*{before}.00*7.{n:02x}.ff*4.00*4.{next:02x}*{here}"
-        )?)?;
+        let numbers = [n, 16 + 16 * n, n, n + 1, 4064 - 16 * n];
+        script.wants("0 log @*#.00*7.@.ff*4.00*4.@*# ok\n", &numbers);
     }
-    let last = "40*1040.5843453100000040.00*7.01";
-    pieces.push(String::from_str(alloc, last)?)?;
-    Ok(pieces)
+    script.wants(
+        "0 log 40*1040.5843453100000040.00*7.01 ok\n0 logsync ok\n",
+        &[],
+    );
 }
 
 /// 64 blocks, of which each is changed whole, make a text of 263,200 bytes.
 #[test]
-fn a_checkpoint_of_65_pieces(rt: HostRuntime) -> Result<(), Fail> {
-    let alloc = rt.alloc();
-    let mut script = Script::mounted(alloc, 16777216)?;
-    script.call("alloc 263200 1 plain", "t1")?;
+fn a_checkpoint_of_65_pieces(rt: HostRuntime) {
+    let mut script = Script::mounted(rt.alloc(), 16777216);
+    script.asks("0.1 alloc 263200 1 plain\n", &[]);
+    script.wants("0 t1\n", &[]);
     for n in 0..64u64 {
-        let fill = n + 1;
-        script.call(format!(in alloc; "get t1 {n}")?.as_str(), "ok")?;
-        script.call(
-            format!(in alloc; "log t1 {n} 0 {fill:02x}*4096")?.as_str(),
-            "ok",
-        )?;
+        script.asks("0.1 get t1 #\n0.1 log t1 # 0 @*4096\n", &[n, n, n + 1]);
+        script.wants("0 ok\n0 ok\n", &[]);
     }
-    script.call("get t1 64", "ENOBUFS")?;
-    script.call("commit t1", "c1")?;
-    script.checkpoint(1, &longest_pieces(alloc)?)?;
-    script.call("force", "done")?;
-    script.says(&rt, alloc);
-    Ok(())
+    script.asks("0.1 get t1 64\n0.1 commit t1\n", &[]);
+    script.wants("0 ENOBUFS\n0 c1\n", &[]);
+    script.lands(65);
+    want_longest_pieces(&mut script);
+    script.asks("0.1 force\n", &[]);
+    script.wants("0 done\n", &[]);
+    script.says(&rt, rt.alloc());
 }
 
-/// The spelling of so many bytes, in turn 1 and 2, of which no two neighbours are equal.
-fn alternating(alloc: Global, pairs: usize) -> Result<String, Fail> {
-    let mut text = String::new(alloc);
-    for _pair in 0..pairs {
-        text.push_str("0102")?;
-    }
-    Ok(text)
+/// A block without equal neighbours is logged and seen.
+fn log_uneven_block(script: &mut Script) {
+    script.asks("0.1 alloc 4144 1 plain\n0.1 get t1 1099511627775\n", &[]);
+    script.asks("0.1 log t1 1099511627775 0 ", &[]);
+    script.asks_times("0102", 2048);
+    script.asks("\n0.1 view t1 1099511627775\n0.1 commit t1\n", &[]);
+    script.wants("0 t1\n0 ok\n0 ok\n0 data ", &[]);
+    script.wants_times("0102", 2048);
+    script.wants("\n0 c1\n", &[]);
+}
+
+/// The two pieces of its checkpoint.
+fn want_uneven_pieces(script: &mut Script) {
+    script.wants("0 log 58435031.00*7.0100000001000000.ff*9.00*4.", &[]);
+    script.wants_times("0102", 2032);
+    script.wants(" ok\n0 log ", &[]);
+    script.wants_times("0102", 16);
+    script.wants("5843453100000001.00*7.01 ok\n0 logsync ok\n", &[]);
 }
 
 /// A block without equal neighbours has a line, a reply and offers of more than 8,192 bytes.
 #[test]
-fn a_line_of_8_kilobytes(rt: HostRuntime) -> Result<(), Fail> {
-    let alloc = rt.alloc();
-    let data = alternating(alloc, 2048)?;
-    let mut script = Script::mounted(alloc, 65536)?;
-    script.call("alloc 4144 1 plain", "t1")?;
-    script.call("get t1 1099511627775", "ok")?;
-    script.call(
-        format!(in alloc; "log t1 1099511627775 0 {data}")?.as_str(),
-        "ok",
-    )?;
-    script.call(
-        "view t1 1099511627775",
-        format!(in alloc; "data {data}")?.as_str(),
-    )?;
-    script.call("commit t1", "c1")?;
-    let (front, back) = (alternating(alloc, 2032)?, alternating(alloc, 16)?);
-    let mut pieces = Vec::new(alloc);
-    pieces.push(format!(in alloc; "58435031.00*7.0100000001000000.ff*9.00*4.{front}")?)?;
-    pieces.push(format!(in alloc; "{back}5843453100000001.00*7.01")?)?;
-    script.checkpoint(1, &pieces)?;
-    script.call("push", "ok")?;
-    writeln!(
-        script.input,
-        "post 0.1.flush.2\ntake 7 0.1.flush.2\nflush 7 0.1.flush.2 ok ok"
-    )?;
-    writeln!(
-        script.want,
-        "0 ok\n0 ok\n0 flushed 1\n0 home 1099511627775 {data} ok\n0 homesync ok"
-    )?;
-    script.call("unmount", "ok")?;
-    script.says(&rt, alloc);
-    Ok(())
+fn a_line_of_8_kilobytes(rt: HostRuntime) {
+    let mut script = Script::mounted(rt.alloc(), 65536);
+    log_uneven_block(&mut script);
+    script.lands(2);
+    want_uneven_pieces(&mut script);
+    script.asks("0.1 push\npost 0.1.flush.2\ntake 7 0.1.flush.2\n", &[]);
+    script.asks("flush 7 0.1.flush.2 ok ok\n0.1 unmount\n", &[]);
+    script.wants("0 ok\n0 ok\n0 ok\n0 flushed 1\n0 home 1099511627775 ", &[]);
+    script.wants_times("0102", 2048);
+    script.wants(" ok\n0 homesync ok\n0 ok\n", &[]);
+    script.says(&rt, rt.alloc());
+}
+
+/// Each of 32 transactions changes a block of its own, and the first one has block 1.
+fn change_in_each(script: &mut Script) {
+    for n in 1..33u64 {
+        script.asks(
+            "0.1 read t# # = 00*4096\n0.1 log t# # 0 11\n",
+            &[n, n, n, n],
+        );
+        script.asks("0.1 get t# 1\n", &[n]);
+        script.wants("0 ok\n0 ok\n", &[]);
+        script.wants(if n == 1 { "0 ok\n" } else { "0 EAGAIN\n" }, &[]);
+    }
 }
 
 /// 32 transactions are open, each with a change of its own; the 33rd waits until one has ended.
 #[test]
-fn all_transactions_at_once(rt: HostRuntime) -> Result<(), Fail> {
-    let alloc = rt.alloc();
-    let mut script = Script::mounted(alloc, 65536)?;
+fn all_transactions_at_once(rt: HostRuntime) {
+    let mut script = Script::mounted(rt.alloc(), 65536);
     for n in 1..33u64 {
-        script.call("alloc 176 8 perm", format!(in alloc; "t{n}")?.as_str())?;
+        script.asks("0.1 alloc 176 8 perm\n", &[]);
+        script.wants("0 t#\n", &[n]);
     }
-    script.call("alloc 176 8 perm", "EAGAIN")?;
+    script.asks("0.1 alloc 176 8 perm\n", &[]);
+    script.wants("0 EAGAIN\n", &[]);
+    change_in_each(&mut script);
     for n in 1..33u64 {
-        script.call(format!(in alloc; "read t{n} {n} = 00*4096")?.as_str(), "ok")?;
-        script.call(format!(in alloc; "log t{n} {n} 0 11")?.as_str(), "ok")?;
-        script.call(
-            format!(in alloc; "get t{n} 1")?.as_str(),
-            if n == 1 { "ok" } else { "EAGAIN" },
-        )?;
+        script.asks("0.1 commit t#\n", &[n]);
+        script.wants("0 c1\n", &[]);
     }
-    for n in 1..33u64 {
-        script.call(format!(in alloc; "commit t{n}")?.as_str(), "c1")?;
-    }
-    script.call("alloc 176 8 perm", "t33")?;
-    script.call("cancel t1", "EINVAL")?;
-    script.call("cancel t33", "ok")?;
-    script.says(&rt, alloc);
-    Ok(())
+    script.asks("0.1 alloc 176 8 perm\n0.1 cancel t1\n0.1 cancel t33\n", &[]);
+    script.wants("0 t33\n0 EINVAL\n0 ok\n", &[]);
+    script.says(&rt, rt.alloc());
 }
 
 /// A transaction of 8 legs rolls over them all, and once more by a new unit; each leg changes a block.
 #[test]
-fn all_legs_of_a_transaction(rt: HostRuntime) -> Result<(), Fail> {
-    let alloc = rt.alloc();
-    let mut script = Script::mounted(alloc, 65536)?;
-    script.call("alloc 176 9 perm", "EINVAL")?;
-    script.call("alloc 176 8 perm", "t1")?;
+fn all_legs_of_a_transaction(rt: HostRuntime) {
+    let mut script = Script::mounted(rt.alloc(), 65536);
+    script.asks("0.1 alloc 176 9 perm\n0.1 alloc 176 8 perm\n", &[]);
+    script.wants("0 EINVAL\n0 t1\n", &[]);
     for leg in 1..9u64 {
-        script.call(format!(in alloc; "read t1 {leg} = 00*4096")?.as_str(), "ok")?;
-        script.call(format!(in alloc; "log t1 {leg} 0 11")?.as_str(), "ok")?;
-        script.call("log t1 0 0 11", "EINVAL")?;
-        script.call("roll t1", "c1")?;
+        script.asks("0.1 read t1 # = 00*4096\n0.1 log t1 # 0 11\n", &[leg, leg]);
+        script.asks("0.1 log t1 0 0 11\n0.1 roll t1\n", &[]);
+        script.wants("0 ok\n0 ok\n0 EINVAL\n0 c1\n", &[]);
     }
-    script.call("alloc 65536 1 plain", "EAGAIN")?;
-    script.call("commit t1", "c0")?;
-    script.says(&rt, alloc);
-    Ok(())
+    script.asks("0.1 alloc 65536 1 plain\n0.1 commit t1\n", &[]);
+    script.wants("0 EAGAIN\n0 c0\n", &[]);
+    script.says(&rt, rt.alloc());
 }
 
 /// 10,000 lines: a mount, and then transactions that only look.
 #[test]
-fn a_script_of_10_000_lines(rt: HostRuntime) -> Result<(), Fail> {
-    let alloc = rt.alloc();
-    let mut script = Script::mounted(alloc, 65536)?;
+fn a_script_of_10_000_lines(rt: HostRuntime) {
+    let mut script = Script::mounted(rt.alloc(), 65536);
     for n in 1..3334u64 {
-        script.call("alloc 1 1 plain", format!(in alloc; "t{n}")?.as_str())?;
         let answer = if n == 1 { " = 33*4096" } else { "" };
-        script.call(format!(in alloc; "read t{n} 7{answer}")?.as_str(), "ok")?;
-        script.call(format!(in alloc; "cancel t{n}")?.as_str(), "ok")?;
+        script.asks("0.1 alloc 1 1 plain\n0.1 read t# 7", &[n]);
+        script.asks(answer, &[]);
+        script.asks("\n0.1 cancel t#\n", &[n]);
+        script.wants("0 t#\n0 ok\n0 ok\n", &[n]);
     }
     assert_eq!(rt; script.input.lines().count(), 10_000);
-    script.says(&rt, alloc);
-    Ok(())
+    script.says(&rt, rt.alloc());
 }
