@@ -4,6 +4,7 @@ mod asked;
 mod buffers;
 mod core_calls;
 mod drive;
+mod frozen;
 mod home;
 mod idle;
 mod longest;
@@ -21,6 +22,7 @@ use crate::script::run_script;
 use asked::*;
 use buffers::*;
 use drive::{Told, drive, home_lines, lines_of, log_lines, told_home_lines, told_log_lines};
+use frozen::*;
 use home::*;
 use idle::*;
 use longest::*;
@@ -195,6 +197,21 @@ fn a_block_given_up_for_good_is_locked_until_its_checkpoint_lands(rt: HostRuntim
     let alloc = rt.alloc();
     says(&rt, alloc, INVALIDATED_IN, INVALIDATED_OUT, 0);
     says(&rt, alloc, ONE_PIECE_IN, ONE_PIECE_OUT, 0);
+}
+
+#[test]
+fn a_frozen_mount_opens_no_transaction_and_ends_the_open_ones(rt: HostRuntime) {
+    let alloc = rt.alloc();
+    says(&rt, alloc, FROZEN_IN, FROZEN_OUT, 0);
+    says(&rt, alloc, FROZEN_BESIDE_IN, FROZEN_BESIDE_OUT, 0);
+    says(
+        &rt,
+        alloc,
+        FROZEN_ASKS_NOTHING_IN,
+        FROZEN_ASKS_NOTHING_OUT,
+        3,
+    );
+    says(&rt, alloc, FROZEN_LIFE_IN, FROZEN_LIFE_OUT, 0);
 }
 
 #[test]

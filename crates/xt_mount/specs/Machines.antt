@@ -17,6 +17,7 @@ state_of m = record {
   last_trans = m.last_trans;
   items = m.accounts.items;
   jobs = m.jobs.jobs;
+  frozen = m.frozen;
   shut = m.shut;
 }
 

@@ -27,6 +27,9 @@ impl Machine {
         if self.is_shut() {
             return Some(Errno::Io);
         }
+        if self.frozen {
+            return Some(Errno::Again);
+        }
         if self.last_trans == u64::MAX {
             return Some(Errno::NoSpace);
         }

@@ -9,6 +9,7 @@ mod ckpt;
 mod commit;
 mod flush;
 mod force;
+mod freeze;
 mod get;
 mod hold;
 mod inval;

@@ -29,6 +29,8 @@ pub struct Machine {
     pub accounts: Accounts,
     pub last_trans: u64,
     pub jobs: JobTable,
+    /// Whether new transactions are refused.
+    pub frozen: bool,
     pub shut: Option<Reason>,
 }
 
@@ -56,6 +58,7 @@ impl Machine {
             accounts,
             last_trans: 0,
             jobs: JobTable::new(slot, life),
+            frozen: false,
             shut: None,
         })
     }

@@ -58,6 +58,8 @@ impl Machine {
             Request::ForceTo { number } => self.force_to(*number),
             Request::Push => self.push(),
             Request::Shutdown => self.shutdown(),
+            Request::Freeze => self.freeze(),
+            Request::Thaw => self.thaw(),
             Request::Unmount => self.unmount(),
             _ => unreachable!(),
         }

@@ -111,6 +111,8 @@ fn put_request(out: &mut Text, request: &Request)
         }
         Request::Push => out.put(b"push"),
         Request::Shutdown => out.put(b"shutdown"),
+        Request::Freeze => out.put(b"freeze"),
+        Request::Thaw => out.put(b"thaw"),
         Request::Unmount => out.put(b"unmount"),
     }
 }

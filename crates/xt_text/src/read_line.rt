@@ -95,6 +95,10 @@ fn mount_request(verb: &[u8], words: &[u8]) -> Result<Request, BadLine>
         Ok(Request::Push)
     } else if verb == b"shutdown".as_slice() {
         Ok(Request::Shutdown)
+    } else if verb == b"freeze".as_slice() {
+        Ok(Request::Freeze)
+    } else if verb == b"thaw".as_slice() {
+        Ok(Request::Thaw)
     } else if verb == b"unmount".as_slice() {
         Ok(Request::Unmount)
     } else {

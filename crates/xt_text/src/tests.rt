@@ -2,6 +2,7 @@
 
 use crate::bad_line::BadLine;
 use crate::buffer::Text;
+use crate::line::Line;
 use crate::parse::parse_line;
 use crate::print_reply::{print_home_offer, print_log_offer, print_reply, print_slot_reply};
 use crate::print_step::print_step;
@@ -81,6 +82,10 @@ fn lines_of_steps_are_read_and_printed(rt: HostRuntime) -> Result<(), Fail> {
         "15.4294967295 forceto c18446744073709551615",
         "0.1 push",
         "0.1 shutdown",
+        "0.1 freeze",
+        "15.4294967295 freeze",
+        "0.1 thaw",
+        "15.4294967295 thaw",
         "0.1 unmount",
         "post 0.1.ckpt.1",
         "post 15.4294967295.ckpt.18446744073709551615",
@@ -254,6 +259,14 @@ fn other_spellings_of_words_of_the_mount_are_bad(rt: HostRuntime) -> Result<(), 
         "0.1 push ",
         "0.1 push t1",
         "0.1 shutdown FORCE_UMOUNT",
+        "0.1 freeze ",
+        "0.1 freeze t1",
+        "0.1 frozen",
+        "0.1 unfreeze",
+        "0.1 thaw 0",
+        "0.1 Thaw",
+        "freeze 0",
+        "thaw",
         "0.1 unmount 0",
         "0.1 umount",
         "unmount 0",
@@ -270,6 +283,19 @@ fn other_spellings_of_words_of_the_mount_are_bad(rt: HostRuntime) -> Result<(), 
         "peek 0 0",
     ] {
         assert!(rt; is_bad(rt.alloc(), line.as_bytes())?, "{line}");
+    }
+    Ok(())
+}
+
+#[test]
+fn sessions_freeze_and_thaw_and_do_not_unmount(rt: HostRuntime) -> Result<(), Fail> {
+    for (line, is_read) in [
+        ("0.1 freeze", true),
+        ("0.1 thaw", true),
+        ("0.1 unmount", false),
+    ] {
+        let step = parse_line(rt.alloc(), line.as_bytes())?;
+        assert_eq!(rt; Line(step).in_session(), is_read, "{line}");
     }
     Ok(())
 }
