@@ -66,7 +66,7 @@ impl Text {
             return;
         }
         if self.bytes.len() < TEXT_BYTES {
-            self.bytes.push(byte).unwrap();
+            self.bytes.push_reserved(byte);
         } else {
             self.full = true;
         }
