@@ -2,6 +2,7 @@
 
 mod asked;
 mod buffers;
+mod core_calls;
 mod drive;
 mod home;
 mod idle;

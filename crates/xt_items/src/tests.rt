@@ -84,6 +84,10 @@ fn a_checkpoint_lands(rt: HostRuntime) {
     items.mark(7, Chunks::mark(250, 12));
     items.cancel(9);
     assert_eq!(rt; items.marks(7).map(|marks| marks.count()), Some(3));
+    assert_eq!(rt;
+        items.marks(7).map(|marks| marks.has(2) && !marks.has(3)),
+        Some(true)
+    );
     assert_eq!(rt; items.marks(9).map(|marks| marks.count()), Some(0));
     assert!(rt; items.marks(8).is_none() && items.is_committed(9) && !items.is_committed(8));
     let is_begun = begin(rt.alloc(), &mut items);
@@ -154,6 +158,7 @@ fn a_flush_takes_the_first_eight(rt: HostRuntime) {
     ];
     assert_eq!(rt; plan.blocks(), first.as_slice());
     assert_eq!(rt; plan.count(), 8);
+    assert_eq!(rt; (plan.count, plan.blocks[7]), (8, Block(2)));
     let is_begun = commit(&mut items, &[7]) && begin(rt.alloc(), &mut items);
     if !is_begun || !commit(&mut items, &[5, 20]) {
         return;

@@ -1,15 +1,18 @@
 //! One mount, step by step: transactions over locked buffers, the committed item list, checkpoints.
 #![tactic(auto)]
 
+mod accounts;
 mod alloc;
 mod busy;
+mod cancel;
 mod ckpt;
 mod commit;
 mod flush;
 mod force;
 mod get;
 mod hold;
-mod journal;
+mod inval;
+mod join;
 mod leg_end;
 mod log;
 mod machine;
@@ -21,6 +24,8 @@ mod roll;
 mod serve;
 mod settle;
 pub mod slot;
+mod unmount;
+mod view;
 
 pub use mount::{Mount, Stage};
 pub use slot::MountSlot;

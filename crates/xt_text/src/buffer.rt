@@ -72,6 +72,21 @@ impl Text {
         }
     }
 
+    /// Puts two bytes behind what it holds, or is full where they do not fit.
+    pub(crate) fn push_both(&mut self, first: u8, second: u8)
+        ensures { self.new ≡ put self.old (first ∷ second ∷ []) }
+    {
+        if self.full {
+            return;
+        }
+        if self.bytes.len() <= TEXT_BYTES - 2 {
+            self.bytes.push(first).unwrap();
+            self.bytes.push(second).unwrap();
+        } else {
+            self.full = true;
+        }
+    }
+
     /// Whether a text did not fit.
     pub fn is_full(&self) -> bool
         ensures { IsTrue result ↔ (self.now ≡ None) }
