@@ -80,8 +80,8 @@ impl Text {
             return;
         }
         if self.bytes.len() <= TEXT_BYTES - 2 {
-            self.bytes.push(first).unwrap();
-            self.bytes.push(second).unwrap();
+            self.bytes.push_reserved(first);
+            self.bytes.push_reserved(second);
         } else {
             self.full = true;
         }
