@@ -12,8 +12,8 @@ use crate::data_text::{read_content, read_data};
 use crate::home_answers::home_of;
 use crate::numbers::number_of;
 use crate::words::{
-    BLANK, block_of, ckpt_of, cut, is_word, life_of, name_of, perm_of, slot_of, sync_of, trans_of, u32_of,
-    worker_of,
+    BLANK, block_of, ckpt_of, cut, is_word, life_of, name_of, perm_of, slot_of, sync_of, trans_of,
+    u32_of, worker_of,
 };
 use std::alloc::Global;
 use xt_base::names::{Block, Life, Slot, TransNo};
