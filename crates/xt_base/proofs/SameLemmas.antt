@@ -1,34 +1,21 @@
 -- What each call and each job step of a mount leaves as it was: slot, life and last serial, and but for a begin and an end the flight.
-use Rattle.std.proofs.Common.{drop, length-take, suc, zero, ◌≡◌, ◌∙◌, ◌⊎◌, ◌+◌, ◌<◌, ◌≤◌, ◌∷◌, Bool, List, None, Option, Some, [], ap, arith, false, inl, length, inr, refl, sym, true, ℕ}
-use Rattle.std.proofs.lemmas.Bool.{and_parts, cases_Bool, eqb-true, false_from_ne_true, false≢true}
-use Rattle.std.specs.Prelude.{if◌then◌else◌, is_some, nat_lt, not, ◌&&◌, ◌-◌, ◌==◌, ◌||◌}
-use Rattle.xt_base.specs.Alone.{Turn, alone, call, called, goes_on, is_okay, mount, mount_refusals, mounted_new, on_mount, shown, step_with, turn, unless_refused, with_mount}
-use Rattle.xt_base.specs.Calls.{Outcome, alloc, alloc_refusals, alone_with, answered, asks_ckpt, asks_flush, brought, cancel, closed, commit, commit_number, committed_of, first_of, force, force_to, force_to_refusals, get, get_refusals, gives, held_of, hold, inval, inval_refusals, io_of, is_absent, is_flight, is_no_room, is_unmount, join, join_refusals, legs_after, locked, log, log_refusals, push, read, read_refusals, release, released, roll, shut_down, shut_if, unhold, unless, unmount, unowned, view, waits_for, with_leg, with_legs, with_owner, with_trans, without_hold}
-use Rattle.xt_base.specs.Jobs.{begin, end, end_of, is_ok, end_offers, flight_pieces, flush, flush_of, flush_offers, flush_plan, is_owed, is_owed_as, posted}
+use Rattle.std.proofs.Common.{◌≡◌, Bool, List, None, Option, Some, false, length, refl, true, ℕ}
+use Rattle.std.specs.Prelude.{if◌then◌else◌, is_some, nat_lt, not, ◌&&◌, ◌-◌, ◌==◌}
+use Rattle.xt_base.specs.Calls.{Outcome, alloc, alloc_refusals, alone_with, answered, asks_ckpt, asks_flush, brought, cancel, closed, commit, commit_number, committed_of, first_of, force, force_to, force_to_refusals, freeze, freeze_refusals, get, get_refusals, gives, held_of, hold, inval, inval_refusals, io_of, is_absent, is_flight, is_no_room, join, join_refusals, legs_after, locked, log, log_refusals, push, read, read_refusals, release, released, roll, shut_down, shut_if, thaw, unhold, unless, unmount, unowned, view, waits_for, with_leg, with_legs, with_owner, with_trans, without_hold}
+use Rattle.xt_base.specs.Jobs.{begin, end, end_of, is_ok, flush, flush_of, flush_plan}
 use Rattle.xt_base.specs.Legs.{aborted, ended, is_dirty, own_count}
 use Rattle.xt_base.specs.Maps.{at, is_in}
-use Rattle.xt_base.specs.Order.{is_among, mount_is, same_name}
 use Rattle.xt_base.specs.Settle.{Dropped, settled}
-use Rattle.xt_base.specs.Sound.{Each}
-use Rattle.xt_base.specs.State.{Flight, Leg, Lone, State, Transaction}
-use Rattle.xt_base.specs.Steps.{slot_of}
-use Rattle.xt_base.specs.Text.{first_pieces, piece_count, text_of}
-use Rattle.xt_base.specs.declared.names.JobKind.{JobKind}
-use Rattle.xt_base.specs.declared.names.JobName.{JobName}
+use Rattle.xt_base.specs.State.{Flight, Leg, State, Transaction}
 use Rattle.xt_base.specs.declared.steps.Answer.{Answer}
 use Rattle.xt_base.specs.declared.steps.Errno.{Errno}
-use Rattle.xt_base.specs.declared.steps.Errno.TheVariants.{Again, Invalid, Io, Stale}
+use Rattle.xt_base.specs.declared.steps.Errno.TheVariants.{Again, Invalid, Io}
 use Rattle.xt_base.specs.declared.steps.HomeAnswers.{HomeAnswers}
-use Rattle.xt_base.specs.declared.steps.HomeOffer.{HomeOffer}
 use Rattle.xt_base.specs.declared.steps.LogAnswers.{LogAnswers}
-use Rattle.xt_base.specs.declared.steps.LogOffer.{LogOffer}
-use Rattle.xt_base.specs.declared.steps.Reason.{Reason}
 use Rattle.xt_base.specs.declared.steps.Reason.TheVariants.{CorruptIncore}
 use Rattle.xt_base.specs.declared.steps.Owner.TheVariants.{Trans}
-use Rattle.xt_base.specs.declared.steps.Reply.TheVariants.{Done, Free, Kept, Okay, Refused, Wait}
+use Rattle.xt_base.specs.declared.steps.Reply.TheVariants.{Done, Free, Kept, Refused, Wait}
 use Rattle.xt_base.specs.declared.steps.Request.{Request}
-use Rattle.xt_base.specs.declared.steps.Step.{Step}
-use Rattle.xt_base.specs.declared.steps.Step.TheVariants.{Begin, Call, End, Flush, Mount, Peek, Post, Show, Take}
 
 -- the same slot, life and last serial
 pub record IsSameLife (s t : State) : Type 0 where
@@ -163,6 +150,12 @@ module _ (s : State) where
   same_push : IsSameFlight s (push s).state
   same_push = same_either _ _ _ (same s) (record { slot = refl; life = refl; serial = refl; flight = refl })
 
+  same_freeze : IsSameFlight s (freeze s).state
+  same_freeze = same_unless (first_of (freeze_refusals s)) _ (record { slot = refl; life = refl; serial = refl; flight = refl })
+
+  same_thaw : IsSameFlight s (thaw s).state
+  same_thaw = same_either _ _ _ (record { slot = refl; life = refl; serial = refl; flight = refl }) (same s)
+
   same_unmount : IsSameFlight s (unmount s).state
   same_unmount = same_either _ _ _ (same s) (same s)
 
@@ -186,6 +179,8 @@ module _ (s : State) where
   same_call dropped (Request.ForceTo number) answer = same_force_to number
   same_call dropped Request.Push answer = same_push
   same_call dropped Request.Shutdown answer = record { slot = refl; life = refl; serial = refl; flight = refl }
+  same_call dropped Request.Freeze answer = same_freeze
+  same_call dropped Request.Thaw answer = same_thaw
   same_call dropped Request.Unmount answer = same_unmount
 
   -- a begin leaves slot, life and last serial

@@ -4,7 +4,7 @@ use Rattle.xt_base.proofs.RisingLemmas.{each_at}
 use Rattle.xt_base.proofs.SoundBuffers.{sound_get_call, sound_hold, sound_join, sound_log_call, sound_read, sound_release, sound_relse, sound_unhold}
 use Rattle.xt_base.proofs.SoundJobs.{sound_force_to}
 use Rattle.xt_base.proofs.SoundLegs.{sound_cancel, sound_inval, sound_roll}
-use Rattle.xt_base.proofs.SoundSteps.{sound_alloc, sound_commit, sound_either, sound_force, sound_push, sound_shutdown}
+use Rattle.xt_base.proofs.SoundSteps.{sound_alloc, sound_commit, sound_either, sound_force, sound_freeze, sound_push, sound_shutdown, sound_thaw}
 use Rattle.xt_base.specs.Calls.{Outcome, alone_with, cancel, commit, get, gives, hold, inval, is_in_use, join, log, read, relse, roll, unhold, unmount, view, is_own, seen, with_trans}
 use Rattle.xt_base.specs.Maps.{at}
 use Rattle.xt_base.specs.Settle.{Dropped}
@@ -56,4 +56,6 @@ sound_call dropped Request.Force answer s h = sound_force s h
 sound_call dropped (Request.ForceTo number) answer s h = sound_force_to number s h
 sound_call dropped Request.Push answer s h = sound_push s h
 sound_call dropped Request.Shutdown answer s h = sound_shutdown s h
+sound_call dropped Request.Freeze answer s h = sound_freeze s h
+sound_call dropped Request.Thaw answer s h = sound_thaw s h
 sound_call dropped Request.Unmount answer s h = sound_unmount s h

@@ -12,7 +12,7 @@ use Rattle.xt_base.proofs.OwnerNumbers.{IsGiven, given_aborted, given_ended, giv
 use Rattle.xt_base.proofs.SoundParts.{busy_active, busy_by, busy_committed, busy_flying, busy_owned, is_in_activated, none_else, parts_aborted, parts_empty, parts_ended, parts_failed, parts_flown, parts_landed, parts_leg, parts_locked, parts_opened}
 use Rattle.xt_base.proofs.WrittenLemmas.{free_not_cancelled, written_ended, written_flown, written_landed, written_less, written_locked, written_none}
 use Rattle.xt_base.specs.declared.steps.Reply.TheVariants.{Failed, Landed, Nothing, Okay, Refused, Wait}
-use Rattle.xt_base.specs.Calls.{Outcome, commit_number, committed_of, gives, held_of, io_of, alloc, alloc_refusals, allocated, asks_ckpt, asks_flush, at_end, brought, busied, closed, commit, edited, first_of, force, get_refusals, is_elsewhere, is_fresh, is_own, locked, log_refusals, logged_leg, made_fresh, new_trans, not_fresh, overwritten, push, seen, shut_down, shut_for, shutdown, unless, waits_for, with_leg, with_owner}
+use Rattle.xt_base.specs.Calls.{Outcome, commit_number, committed_of, gives, held_of, io_of, alloc, alloc_refusals, allocated, asks_ckpt, asks_flush, at_end, brought, busied, closed, commit, edited, first_of, force, freeze, freeze_refusals, get_refusals, is_elsewhere, is_fresh, is_own, locked, log_refusals, logged_leg, made_fresh, marked_frozen, new_trans, not_fresh, overwritten, push, seen, shut_down, shut_for, shutdown, thaw, unless, waits_for, with_leg, with_owner}
 use Rattle.xt_base.specs.Chunks.{marks, union}
 use Rattle.xt_base.specs.Form.{Form, IsForm}
 use Rattle.xt_base.specs.Jobs.{activated, begin, begun, end, end_of, failed, finished, flown, is_ckpt, is_ok, is_outstanding, is_owed, is_serial, is_waiting, is_wanted, job, landed, landed_items, next_pieces, posted, waits_on}
@@ -180,6 +180,29 @@ sound_push s h = sound_either (is_some s.shut) (gives (Refused Io) s) (gives Oka
 pub sound_shutdown : (s : State) → IsSound s → IsSound (shutdown s).state
 sound_shutdown s h = sound_shut_down ForceUmount s h
 
+-- the frozen mark is set or taken away
+pub sound_marked_frozen : (frozen : Bool) (s : State) → IsSound s → IsSound (marked_frozen frozen s)
+sound_marked_frozen frozen s h = record {
+  form = h.form;
+  log_small = h.log_small;
+  numbers = h.numbers;
+  parts = h.parts;
+  kept = h.kept;
+  ready = h.ready;
+  legs_left = h.legs_left;
+  fresh_owned = h.fresh_owned;
+  given = h.given;
+  written = h.written;
+}
+
+-- a freeze
+pub sound_freeze : (s : State) → IsSound s → IsSound (freeze s).state
+sound_freeze s h = sound_unless (first_of (freeze_refusals s)) s (gives Okay (marked_frozen true s)) h (λ passes. sound_marked_frozen true s h)
+
+-- a thaw
+pub sound_thaw : (s : State) → IsSound s → IsSound (thaw s).state
+sound_thaw s h = sound_either s.frozen (gives Okay (marked_frozen false s)) (gives (Refused Invalid) s) (λ frozen. sound_marked_frozen false s h) (λ other. h)
+
 -- ---- mount
 -- a new mount with a log of at most 16 MiB
 pub sound_mount : (slot life log_bytes blocks : ℕ) (form : Form) → IsForm form → log_bytes ≤ MOST_LOG → IsSound (mount_of slot life log_bytes blocks form)
@@ -261,7 +284,7 @@ sound_alloc unit count perm s h =
     (λ passes.
     sound_either full (gives (Refused Again) (asks_flush (asks_ckpt s))) (allocated unit count perm s) (λ lack. sound_asks_flush (asks_ckpt s) (sound_asks_ckpt s h))
     (λ room.
-    let good = passes_first bad Invalid ((is_some s.shut, Io) ∷ (s.last_trans == greatest, NoSpace) ∷ (nat_le 32 (length s.transactions), Again) ∷ []) passes in
+    let good = passes_first bad Invalid ((is_some s.shut, Io) ∷ (s.frozen, Again) ∷ (s.last_trans == greatest, NoSpace) ∷ (nat_le 32 (length s.transactions), Again) ∷ []) passes in
     let some : (count == 0) ≡ false = (or_parts (unit == 0) (count == 0) (or_parts _ _ (or_parts _ _ (or_parts _ _ good.0).0).0).0).1 in
     sound_allocated unit count perm s h (omega (arith, eqb-false count 0 some)) (ltb-false s.log_bytes (used s + unit * count) room)))
 

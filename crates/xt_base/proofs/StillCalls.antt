@@ -9,7 +9,7 @@ use Rattle.xt_base.proofs.SoundBuffers.{held_no_trans}
 use Rattle.xt_base.proofs.SoundParts.{apart_from, none_else}
 use Rattle.xt_base.proofs.SoundSteps.{passes_first}
 use Rattle.xt_base.proofs.StillLemmas.{IsStill, fact_either, fact_if, fact_unless, fact_with_trans, still_aborted, still_busied, still_closed, still_ended, still_landed, still_leg, still_legs, still_made_fresh, still_not_fresh, still_owner, still_same, still_settled, still_shut_if, still_then, still_unowned}
-use Rattle.xt_base.specs.Calls.{Outcome, alloc, alloc_refusals, allocated, alone_with, answered, asks_ckpt, asks_flush, at_end, brought, busied, cancel, closed, commit, commit_number, committed_of, edited, first_of, force, force_to, force_to_refusals, get, get_refusals, gives, held_of, hold, inval, inval_refusals, invalidated, io_of, is_absent, is_elsewhere, is_flight, is_fresh, is_held, is_in_use, is_no_room, is_own, join, join_refusals, legs_after, locked, log, log_refusals, logged_leg, made_fresh, new_trans, not_fresh, push, read, read_refusals, release, released, relse, roll, seen, shut_down, shut_if, unhold, unmount, unowned, view, waits_for, with_leg, with_legs, with_owner, with_trans, without_hold}
+use Rattle.xt_base.specs.Calls.{Outcome, alloc, alloc_refusals, allocated, alone_with, answered, asks_ckpt, asks_flush, at_end, brought, busied, cancel, closed, commit, commit_number, committed_of, edited, first_of, force, force_to, force_to_refusals, freeze, freeze_refusals, get, get_refusals, gives, held_of, hold, inval, inval_refusals, invalidated, io_of, is_absent, is_elsewhere, is_flight, is_fresh, is_held, is_in_use, is_no_room, is_own, join, join_refusals, legs_after, locked, log, log_refusals, logged_leg, made_fresh, marked_frozen, new_trans, not_fresh, push, read, read_refusals, release, released, relse, roll, seen, shut_down, shut_if, thaw, unhold, unmount, unowned, view, waits_for, with_leg, with_legs, with_owner, with_trans, without_hold}
 use Rattle.xt_base.specs.Chunks.{marks}
 use Rattle.xt_base.specs.Jobs.{begin, begun, cleaned, end, end_of, failed, finished, flush, flush_plan, flushed, gone, is_ok, landed, landed_items, next_pieces, posted, renewed, unflushed, waits_on}
 use Rattle.xt_base.specs.Laws.{names}
@@ -247,6 +247,14 @@ module _ (t b : ℕ) (s : State) (h : IsSound s) (own : is_own s t b ≡ true) w
   still_push : IsStill t b s (push s).state
   still_push = fact_either (IsStill t b s) (is_some s.shut) (gives (Refused Io) s) (gives Okay (asks_flush s)) (λ shut. still_same t b s) (λ live. record { form = refl; trans = refl; owner = refl; fresh = refl; content = refl })
 
+  still_freeze : IsStill t b s (freeze s).state
+  still_freeze =
+      fact_unless (IsStill t b s) (first_of (freeze_refusals s)) s (gives Okay (marked_frozen true s)) (still_same t b s) (λ passes. record { form = refl; trans = refl; owner = refl; fresh = refl; content = refl })
+
+  still_thaw : IsStill t b s (thaw s).state
+  still_thaw =
+      fact_either (IsStill t b s) s.frozen (gives Okay (marked_frozen false s)) (gives (Refused Invalid) s) (λ frozen. record { form = refl; trans = refl; owner = refl; fresh = refl; content = refl }) (λ other. still_same t b s)
+
   still_unmount : IsStill t b s (unmount s).state
   still_unmount = fact_either (IsStill t b s) (is_in_use s) (gives (Refused Busy) s) (gives Okay s) (λ kept. still_same t b s) (λ left. still_same t b s)
 
@@ -274,6 +282,8 @@ module _ (t b : ℕ) (s : State) (h : IsSound s) (own : is_own s t b ≡ true) w
   still_call (Request.ForceTo number) answer dropped there other = still_force_to number
   still_call Request.Push answer dropped there other = still_push
   still_call Request.Shutdown answer dropped there other = record { form = refl; trans = refl; owner = refl; fresh = refl; content = refl }
+  still_call Request.Freeze answer dropped there other = still_freeze
+  still_call Request.Thaw answer dropped there other = still_thaw
   still_call Request.Unmount answer dropped there other = still_unmount
 
   -- ---- jobs

@@ -122,6 +122,7 @@ abbrev pub alloc_refusals : ℕ → ℕ → Bool → State → List (Bool × Err
 alloc_refusals unit count perm s =
     ((unit == 0) || (count == 0) || nat_lt GRANTED_LEGS count || (nat_lt 1 count && not perm) || nat_lt s.log_bytes (unit * count), Invalid)
     ∷ (is_some s.shut, Io)
+    ∷ (s.frozen, Again)
     ∷ (s.last_trans == greatest, NoSpace)
     ∷ (nat_le OPEN_TRANSACTIONS (length s.transactions), Again)
     ∷ []
@@ -371,7 +372,7 @@ abbrev pub cancel : Dropped → ℕ → State → Transaction → Outcome
 cancel dropped t s trans =
     gives (okay_of (held_of trans.leg.holds)) (settled dropped (shut_if (is_dirty trans.leg) CorruptIncore (closed t (aborted t trans.leg s))))
 
--- ---- force, forceto, push, shutdown, unmount
+-- ---- force, forceto, push, shutdown
 -- what a force waits for where nothing is committed
 abbrev pub waits_for : Option Flight → Reply
 waits_for None = Done
@@ -407,6 +408,24 @@ push s = if is_some s.shut then gives (Refused Io) s else gives Okay (asks_flush
 abbrev pub shutdown : State → Outcome
 shutdown s = gives Okay (shut_down ForceUmount s)
 
+-- ---- freeze, thaw
+-- with the frozen mark, or without it
+abbrev pub marked_frozen : Bool → State → State
+marked_frozen frozen s = record s { frozen = frozen }
+
+-- what refuses a freeze
+abbrev pub freeze_refusals : State → List (Bool × Errno)
+freeze_refusals s = (is_some s.shut, Io) ∷ (s.frozen, Busy) ∷ []
+
+-- no transaction is opened from here on; those that are open go on
+abbrev pub freeze : State → Outcome
+freeze s = unless (first_of (freeze_refusals s)) s (gives Okay (marked_frozen true s))
+
+-- transactions are opened again, as far as a shut mount opens any
+abbrev pub thaw : State → Outcome
+thaw s = if s.frozen then gives Okay (marked_frozen false s) else gives (Refused Invalid) s
+
+-- ---- unmount
 -- whether something keeps the mount: an open transaction, a held block, an outstanding job, or, if live, a listed block
 abbrev pub is_in_use : State → Bool
 is_in_use s =
@@ -438,6 +457,8 @@ alone_with dropped Request.Force answer s = force s
 alone_with dropped (Request.ForceTo number) answer s = force_to number s
 alone_with dropped Request.Push answer s = push s
 alone_with dropped Request.Shutdown answer s = shutdown s
+alone_with dropped Request.Freeze answer s = freeze s
+alone_with dropped Request.Thaw answer s = thaw s
 alone_with dropped Request.Unmount answer s = unmount s
 
 -- whether a request asks the home device

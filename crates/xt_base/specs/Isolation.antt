@@ -1,12 +1,14 @@
 -- What a run of many slots told, and that each slot was told what it would have been told alone.
 use Rattle.std.specs.List.{list_any, slice_get}
-use Rattle.std.specs.Prelude.{Bool, List, None, Option, [], false, filter, if◌then◌else◌, length, map, replicate, slice_index_or, slice_set, take, true, ℕ, ◌+◌, ◌<◌, ◌==◌, ◌∷◌, ◌≡◌, ◌++◌, Some}
+use Rattle.std.specs.Prelude.{Bool, List, None, Option, [], false, filter, flat_map, if◌then◌else◌, length, map, replicate, slice_index_or, slice_set, take, true, ℕ, ◌+◌, ◌<◌, ◌==◌, ◌∷◌, ◌≡◌, ◌++◌, Some}
 use Rattle.xt_base.specs.Alone.{Said, alone_run, shut_after}
 use Rattle.xt_base.specs.Order.{Event, fits, orderly, orderly_for}
 use Rattle.xt_base.specs.Steps.{slot_of, strike}
 use Rattle.xt_base.specs.declared.sizes.TheConstants.{SLOTS}
 use Rattle.xt_base.specs.declared.steps.Errno.{Errno}
 use Rattle.xt_base.specs.declared.steps.Errno.TheVariants.{NoMemory}
+use Rattle.xt_base.specs.declared.steps.HomeOffer.{HomeOffer}
+use Rattle.xt_base.specs.declared.steps.LogOffer.{LogOffer}
 use Rattle.xt_base.specs.declared.steps.Reason.{Reason}
 use Rattle.xt_base.specs.declared.steps.Reply.{Reply}
 use Rattle.xt_base.specs.declared.steps.Reply.TheVariants.{Refused}
@@ -25,6 +27,14 @@ untold = record { turns = []; shut = replicate SLOTS None; refused = replicate S
 -- the turns of a slot, in order
 abbrev pub turns_of : ℕ → List Said → List Said
 turns_of m turns = filter (λ t. t.slot == m) turns
+
+-- what a slot offered to its log device, in order
+abbrev pub log_offers_in : ℕ → Told → List LogOffer
+log_offers_in m o = flat_map (λ t. t.log) (turns_of m o.turns)
+
+-- what a slot offered to its home device, in order
+abbrev pub home_offers_in : ℕ → Told → List HomeOffer
+home_offers_in m o = flat_map (λ t. t.home) (turns_of m o.turns)
 
 -- why a slot is shut, if it is
 abbrev pub shut_in : ℕ → Told → Option Reason

@@ -65,6 +65,8 @@ pub record State : Type 0 where
   pub last_trans : ℕ
   pub items : Items
   pub jobs : Jobs
+  -- whether new transactions are refused
+  pub frozen : Bool
   pub shut : Option Reason
 
 -- one slot: the last life given, what the board shows, and the mount if there is one
@@ -92,6 +94,7 @@ mount_of slot life log_bytes blocks form = record {
   last_trans = 0;
   items = record { open_number = 1; cil = []; flight = None; ail = []; landed = [] };
   jobs = record { asked_ckpt = false; asked_flush = false; ckpt = None; flush = None; last_serial = 0 };
+  frozen = false;
   shut = None;
 }
 

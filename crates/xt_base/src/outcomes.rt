@@ -1,7 +1,7 @@
 //! What a run of steps told.
 
-ghost use Rattle.std.specs.Prelude.{◌≡◌, ◌<◌, ◌++◌, ◌∷◌, [], true, slice_set, IfOk, OnOk, OnErr};
-ghost use Rattle.xt_base.specs.Isolation.{is_refused, shut_in, untold};
+ghost use Rattle.std.specs.Prelude.{◌≡◌, ◌<◌, ◌++◌, ◌∷◌, [], true, map, slice_set, IfOk, OnOk, OnErr};
+ghost use Rattle.xt_base.specs.Isolation.{home_offers_in, is_refused, log_offers_in, shut_in, untold};
 
 use crate::names::Slot;
 use crate::sizes::SLOTS;
@@ -168,6 +168,32 @@ impl Outcomes {
         self.refused[slot.index()]
     }
 
+    /// What a slot offered to its log device, in order. The one error is want of memory for the list.
+    pub fn log_offers(&self, alloc: Global, slot: Slot) -> Result<Vec<&LogOffer>, AllocError>
+        ensures { IfOk result (λ offers. map (λ o. o.now) offers.items ≡ log_offers_in slot self.now) }
+    {
+        let mut offers = Vec::new(alloc);
+        for turn in &self.turns {
+            if turn.slot() == slot {
+                append_log(&mut offers, turn.offers.log())?;
+            }
+        }
+        Ok(offers)
+    }
+
+    /// What a slot offered to its home device, in order, reads aside. The one error is want of memory for the list.
+    pub fn home_offers(&self, alloc: Global, slot: Slot) -> Result<Vec<&HomeOffer>, AllocError>
+        ensures { IfOk result (λ offers. map (λ o. o.now) offers.items ≡ home_offers_in slot self.now) }
+    {
+        let mut offers = Vec::new(alloc);
+        for turn in &self.turns {
+            if turn.slot() == slot {
+                append_home(&mut offers, turn.offers.home())?;
+            }
+        }
+        Ok(offers)
+    }
+
     /// Adds the turn of one more step. The one error is want of memory, and then nothing changes.
     pub fn add(&mut self, turn: Turn) -> Result<(), AllocError>
         ensures ok { OnOk result (self.new ≡ record self.old { turns = self.old.turns ++ turn ∷ [] }) }
@@ -191,6 +217,26 @@ impl Outcomes {
     {
         self.refused[slot.index()] = true;
     }
+}
+
+/// Appends offers to a log device. The one error is want of memory.
+fn append_log<'a>(out: &mut Vec<&'a LogOffer>, offers: &'a [LogOffer]) -> Result<(), AllocError>
+    ensures { OnOk result (map (λ o. o.now) out.new.items ≡ map (λ o. o.now) out.old.items ++ offers.now) }
+{
+    for offer in offers {
+        out.push(offer)?;
+    }
+    Ok(())
+}
+
+/// Appends offers to a home device. The one error is want of memory.
+fn append_home<'a>(out: &mut Vec<&'a HomeOffer>, offers: &'a [HomeOffer]) -> Result<(), AllocError>
+    ensures { OnOk result (map (λ o. o.now) out.new.items ≡ map (λ o. o.now) out.old.items ++ offers.now) }
+{
+    for offer in offers {
+        out.push(offer)?;
+    }
+    Ok(())
 }
 
 /// A step that may not come now.

@@ -14,11 +14,11 @@ use std::alloc::{AllocError, Global};
 pub enum Errno {
     /// EIO: the mount is shut, or a device failed in that call.
     Io,
-    /// EAGAIN: locked elsewhere, no log space, or 32 open transactions.
+    /// EAGAIN: locked elsewhere, no log space, 32 open transactions, or a frozen mount.
     Again,
     /// ENOMEM: a growth was refused.
     NoMemory,
-    /// EBUSY: the slot is in use, or an unmount found something left.
+    /// EBUSY: the slot is in use, an unmount found something left, or the mount is frozen already.
     Busy,
     /// ENODEV: an empty slot.
     NoDevice,
@@ -160,6 +160,10 @@ pub enum Request {
     Push,
     /// Shuts the mount (`xfs_force_shutdown`).
     Shutdown,
+    /// Opens no transaction from here on; those that are open go on (`xfs_fs_freeze`).
+    Freeze,
+    /// Opens transactions again.
+    Thaw,
     /// Empties the slot.
     Unmount,
 }
@@ -326,6 +330,8 @@ impl Request {
             Request::ForceTo { number } => Request::ForceTo { number: *number },
             Request::Push => Request::Push,
             Request::Shutdown => Request::Shutdown,
+            Request::Freeze => Request::Freeze,
+            Request::Thaw => Request::Thaw,
             Request::Unmount => Request::Unmount,
         };
         Ok(request)

@@ -1,7 +1,7 @@
 -- A text that is cut every 4,096 bytes.
 use Rattle.std.proofs.Common.{◌≡◌, ◌∙◌, ℕ, zero, suc, ◌+◌, ◌-◌, ◌*◌, ◌/◌, ◌<◌, ◌≤◌, List, [], ◌∷◌, ◌++◌, length, get_or, take, drop, min, sym, ap, refl, arith, append_assoc}
 use Rattle.std.specs.List.{concat}
-use Rattle.std.proofs.lemmas.List.{drop-drop, length-take, length-drop, nil_from_length, append-nil, take-append-drop, take_min, drop_min}
+use Rattle.std.proofs.lemmas.List.{drop-drop, length-take, length-drop, nil_from_length, take-append-drop, take_min, drop_min}
 use Rattle.xt_base.specs.Text.{first_pieces, piece_count, pieces}
 
 -- what is not empty has one piece more than what is behind its first
@@ -20,11 +20,6 @@ pub cut_more : (done : List (List ℕ)) (rest : List ℕ) (all : List (List ℕ)
 cut_more done rest all h e =
     rw (take_min 4096 rest, drop_min 4096 rest, append_assoc done (take 4096 rest ∷ []) (pieces (drop 4096 rest)))
     (ap (λ ps. done ++ ps) (sym (pieces-more rest h)) ∙ e)
-
--- nothing is left to cut
-pub cut_all : (done : List (List ℕ)) (rest : List ℕ) (all : List (List ℕ)) → length rest ≡ 0 → done ++ pieces rest ≡ all → done ≡ all
-cut_all done rest all h e =
-    sym (append-nil done) ∙ ap (λ xs. done ++ pieces xs) (sym (nil_from_length rest h)) ∙ e
 
 -- how many pieces there are
 length-first_pieces : (n : ℕ) (text : List ℕ) → length (first_pieces n text) ≡ n

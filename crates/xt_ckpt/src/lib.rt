@@ -12,4 +12,4 @@ pub mod writing;
 
 pub use item::Item;
 pub use reading::{Checkpoint, CkptFault, ReadFault, read_checkpoint};
-pub use writing::{checkpoint_len, write_checkpoint};
+pub use writing::write_checkpoint;

@@ -14,7 +14,9 @@ use bytes::Bytes;
 use std::alloc::{AllocError, Global};
 use xt_base::chunks::Chunks;
 use xt_base::names::CkptNo;
-use xt_base::sizes::{BUSY_BLOCKS, CHUNK_BYTES, CHUNK_COST, CHUNKS, ENDS, ITEM_COST, PIECE_BYTES};
+use xt_base::sizes::{
+    BUSY_BLOCKS, CHUNK_BYTES, CHUNK_COST, CHUNKS, ENDS, ITEM_COST, PIECE_BYTES, TEXT_PIECES,
+};
 use xt_base::steps::Errno;
 
 /// How many bytes an item takes in a text: 16, and 128 for each chunk.
@@ -27,7 +29,7 @@ fn item_len(item: &Item) -> usize
 
 /// The length of the text of a checkpoint in bytes, which is its cost: 32, and for each
 /// item 16 and 128 for each chunk. At most 263,200.
-pub fn checkpoint_len(items: &[Item]) -> usize
+fn checkpoint_len(items: &[Item]) -> usize
     requires { length items.now ≤ BUSY_BLOCKS }
     ensures value { result ≡ checkpoint_len items.now }
     ensures range { result ≤ ENDS + BUSY_BLOCKS * (ITEM_COST + CHUNK_COST * CHUNKS) }
@@ -114,7 +116,7 @@ fn write_pieces(alloc: Global, no: CkptNo, items: &[Item]) -> Result<Vec<Bytes>,
     requires rising { BlocksRise items.now }
     ensures text { IfOk result (λ pieces. pieces.items ≡ pieces_of (checkpoint_text no items.now)) }
     ensures grammar { IfOk result (λ pieces. IsText (concat pieces.items) no (entries items.now)) }
-    ensures few { IfOk result (λ pieces. length pieces.items ≤ 65) }
+    ensures few { IfOk result (λ pieces. length pieces.items ≤ TEXT_PIECES) }
 {
     let text = write_text(alloc, no, items)?;
     cut(alloc, Bytes::from_vec(text)?)
@@ -130,7 +132,7 @@ pub fn write_checkpoint(alloc: Global, no: CkptNo, items: &[Item]) -> Result<Vec
     ensures text { IfOk result (λ pieces. pieces.items ≡ pieces_of (checkpoint_text no items.now)) }
     // The pieces together are a text of the grammar, which `read_checkpoint` reads again, whatever follows it.
     ensures grammar { IfOk result (λ pieces. IsText (concat pieces.items) no (entries items.now)) }
-    ensures few { IfOk result (λ pieces. length pieces.items ≤ 65) }
+    ensures few { IfOk result (λ pieces. length pieces.items ≤ TEXT_PIECES) }
     ensures memory { IfErr result (λ e. e ≡ NoMemory) }
 {
     write_pieces(alloc, no, items).map_err(|_| Errno::NoMemory)

@@ -1,3 +1,4 @@
 pub mod AppendLemmas
 pub mod ScriptLemmas
 pub mod PlayLemmas
+pub mod LineLemmas

@@ -6,6 +6,7 @@ ghost use Rattle.xt_base.specs.declared.steps.Step.{Step as AnyStep};
 ghost use Rattle.xt_cli.specs.Script.{is_one_line, IsCut, IsFaultIn, IsScript};
 
 use crate::fault::ScriptFault;
+use memchr::memchr;
 use std::alloc::{AllocError, Global};
 use std::io::{self, Read};
 use xt_base::steps::Step;
@@ -44,7 +45,7 @@ fn line_len(text: &[u8]) -> usize
     ensures value { result ≡ prefix_len (λ b. not (b == 10)) text.now }
     ensures bound { result ≤ length text.now }
 {
-    text.iter().take_while(|byte| **byte != b'\n').count()
+    memchr(b'\n', text).unwrap_or(text.len())
 }
 
 /// The first line of a text, without its newline, and what comes after it.

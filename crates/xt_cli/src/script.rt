@@ -10,6 +10,7 @@ use crate::printing::{print_broken, print_turns};
 use crate::writing::{write_bytes, write_numbered};
 use std::alloc::{AllocError, Global};
 use std::io::{self, Read, Write};
+use std::mem::ManuallyDrop;
 use xt_base::names::Slot;
 use xt_base::outcomes::RunFault;
 use xt_base::steps::Step;
@@ -29,7 +30,8 @@ fn pick(alloc: Global, steps: Vec<Step>, only: Option<Slot>) -> Result<Vec<Step>
     }
 }
 
-/// Runs steps and prints what they said: the status is 0, or 3 where one breaks order.
+/// Runs steps and prints what they said: the status is 0, or 3 where one breaks order. What was said is left to the end of the
+/// process, since to give back its parts one by one takes longer than to print some of them.
 #[tactic(auto, using(crate::proofs::PlayLemmas::printed_up_to, crate::proofs::PlayLemmas::printed_all, crate::proofs::PlayLemmas::cut_all, crate::proofs::PlayLemmas::cut_up_to, crate::proofs::PlayLemmas::cut_none))]
 fn play_steps<W: Write>(alloc: Global, writer: &mut W, steps: &[Step]) -> Result<u8, ScriptFault>
     ensures printed { IfOk result (IsPrinted steps.now (W.contents writer.old) (W.contents writer.new)) }
@@ -39,6 +41,7 @@ fn play_steps<W: Write>(alloc: Global, writer: &mut W, steps: &[Step]) -> Result
     match HostCore::run(alloc, steps) {
         Ok(told) => {
             print_turns(alloc, writer, told.turns()).map_err(ScriptFault::Io)?;
+            let _left = ManuallyDrop::new(told);
             Ok(0)
         }
         Err(RunFault::Disorder { at, before }) => {
@@ -64,7 +67,7 @@ fn play_to_the_end<W: Write>(
     Ok(status)
 }
 
-/// Reads, parses, runs and prints: the status is 0, or 3 where a step breaks order.
+/// Reads, parses, runs and prints: the status is 0, or 3 where a step breaks order. The steps too are left to the end of the process.
 #[tactic(auto, using(crate::proofs::PlayLemmas::fault_unread, crate::proofs::PlayLemmas::fault_unparsed, crate::proofs::PlayLemmas::fault_unpicked))]
 fn play<R: Read, W: Write>(
     alloc: Global,
@@ -78,7 +81,9 @@ fn play<R: Read, W: Write>(
     let script = read_script(alloc, reader)?;
     let steps = pick(alloc, parse_script(alloc, &script)?, only)?;
     drop(script);
-    play_to_the_end(alloc, writer, &steps)
+    let played = play_to_the_end(alloc, writer, &steps);
+    let _left = ManuallyDrop::new(steps);
+    played
 }
 
 /// Runs a script: parses all its lines, runs the steps (with `only`, those of one slot), and prints for each step

@@ -5,7 +5,9 @@
 
 mod asked;
 mod buffers;
+mod core_calls;
 mod drive;
+mod frozen;
 mod home;
 mod idle;
 mod longest;
@@ -19,8 +21,9 @@ mod scripts;
 mod shut;
 mod slots;
 
+use crate::lines::parse_script;
 use crate::script::run_script;
-use drive::{Told, drive, home_lines, lines_of, log_lines};
+use drive::{Told, drive, home_lines, lines_of, log_lines, told_home_lines, told_log_lines};
 use home::{FAILED_WRITE_IN, FAILED_WRITE_OUT, FLOWN_AGAIN_IN, FLOWN_AGAIN_OUT};
 use idle::{IDLE_IN, IDLE_OUT};
 use names::*;
@@ -32,7 +35,9 @@ use std::io::{self, Read, Write};
 use std::process::Abort;
 use std::test::Fail;
 use xt_base::names::{Block, Slot};
+use xt_base::outcomes::Outcomes;
 use xt_base::steps::LogOffer;
+use xt_core::HostCore;
 use xt_dev::call::HomeCall;
 use xt_dev::fail_at::FailAt;
 use xt_dev::home::HomeDevice;
@@ -107,6 +112,11 @@ fn the_board_shows_why_a_mount_was_shut(rt: HostRuntime) {
 #[test]
 fn blocks_are_given_up_and_lives_are_counted(rt: HostRuntime) {
     all_say(&rt, rt.alloc(), GIVEN_UP);
+}
+
+#[test]
+fn a_frozen_mount_opens_no_transaction_and_ends_the_open_ones(rt: HostRuntime) {
+    all_say(&rt, rt.alloc(), FROZEN);
 }
 
 #[test]
@@ -316,6 +326,26 @@ fn devices_are_offered_each_block_once_its_checkpoints_landed(rt: HostRuntime) -
     let (mut log, mut home) = (MemLog::new(alloc), MemHome::new(alloc));
     let replies = drive(alloc, FLOWN_AGAIN_IN, &mut log, &mut home)?;
     assert!(rt; are_lines(alloc, &replies, log.taken(), home.taken(), FLOWN_AGAIN_OUT)?);
+    Ok(())
+}
+
+/// Whether what a run tells that slot 0 offered is the lines of an output, and slot 1 offered nothing.
+fn are_told(alloc: Global, told: &Outcomes, want: &str) -> Result<bool, Fail> {
+    let slot = Slot::new(0).ok_or("a slot")?;
+    let other = Slot::new(1).ok_or("a slot")?;
+    let is_log = told_log_lines(alloc, slot, told)? == lines_of(alloc, want, Told::Log)?;
+    let is_home = told_home_lines(alloc, slot, told)? == lines_of(alloc, want, Told::Home)?;
+    Ok(is_log && is_home && told.log_offers(alloc, other)?.is_empty())
+}
+
+#[test]
+fn a_run_lists_what_a_slot_offered_to_each_device(rt: HostRuntime) -> Result<(), Fail> {
+    let alloc = rt.alloc();
+    let steps = parse_script(alloc, FLOWN_AGAIN_IN.as_bytes()).map_err(|_| "lines of steps")?;
+    let Ok(told) = HostCore::run(alloc, &steps) else {
+        return Err(Fail::from("an orderly run"));
+    };
+    assert!(rt; are_told(alloc, &told, FLOWN_AGAIN_OUT)?);
     Ok(())
 }
 

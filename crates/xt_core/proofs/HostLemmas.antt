@@ -122,8 +122,8 @@ led_taken h x new old l small may went taken =
       refused = λ m. l.refused m ∙ sym (refused_by m h x r false (ap (λ b. (slot_of x == m) && b) went ∙ and_none (slot_of x == m)) ∙ or_none (was_refused m h));
     }
 
-led_kept : (h : List Event) (new old : Host) → IsKept new old → IsLed h old → IsLed h new
-led_kept h new old kept l = record {
+led_kept : (h : List Event) (x : Step) (new old : Host) → IsKept x new old → IsLed h old → IsLed h new
+led_kept h x new old kept l = record {
   done = l.done;
   said = l.said;
   run =
@@ -137,9 +137,9 @@ led_more : (h : List Event) (x : Step) (r : Reply) (new old : Host) → IsLed h 
 led_more h x r new old l small s =
     elim (cases_Bool (is_no_memory r)) [
       | inl refused ↦
-          led_kept (h ++ record { step = x; reply = r } ∷ []) new old (by_true (is_no_memory r) (IsKept new old) (IsTaken x r new old) refused s.went) (led_refused h x r old l small refused)
+          led_kept (h ++ record { step = x; reply = r } ∷ []) x new old (by_true (is_no_memory r) (IsKept x new old) (IsTaken x r new old) refused s.went) (led_refused h x r old l small refused)
       | inr went ↦
-          let taken : IsTaken x r new old = by_false (is_no_memory r) (IsKept new old) (IsTaken x r new old) went s.went in
+          let taken : IsTaken x r new old = by_false (is_no_memory r) (IsKept x new old) (IsTaken x r new old) went s.went in
           subst (λ r. is_no_memory r ≡ false → IsTaken x r new old → IsLed (h ++ record { step = x; reply = r } ∷ []) new) (sym taken.reply)
           (λ went taken. led_taken h x new old l small s.may went taken) went taken
     ]

@@ -58,7 +58,7 @@ module _ (done : List Step) (o : Told) (old : Host) (a : IsHostRun done o old) (
       events_more done o.turns x t a.run.slots ∙ ap (λ b. events done o.turns ++ (if b then [] else record { step = x; reply = t.reply } ∷ [])) refused
       ∙ append-nil (events done o.turns)
 
-  host_refused : (t : Said) (new : Host) → IsKept new old → slot_of x < 16 → t.slot ≡ slot_of x → is_no_memory t.reply ≡ true
+  host_refused : (t : Said) (new : Host) → IsKept x new old → slot_of x < 16 → t.slot ≡ slot_of x → is_no_memory t.reply ≡ true
       → IsHostRun (done ++ x ∷ []) (told_refused o t (reason_of (lone_of new (slot_of x)).mounted)) new
   host_refused t new kept small here refused =
       let why : Option Reason = reason_of (lone_of new (slot_of x)).mounted in
@@ -146,9 +146,9 @@ host_more done o o' new old x a more =
     elim (cases_Bool (is_no_memory t.reply)) [
       | inl refused ↦
           subst (λ p. IsHostRun (done ++ x ∷ []) p new) (sym (more.1.1 ∙ ap (λ b. if b then told_refused o t why else told_taken o t why) refused))
-          (host_refused done o old a x t new (by_true (is_no_memory t.reply) (IsKept new old) (IsTaken x t.reply new old) refused s.stepped.went) more.1.2 s.place refused)
+          (host_refused done o old a x t new (by_true (is_no_memory t.reply) (IsKept x new old) (IsTaken x t.reply new old) refused s.stepped.went) more.1.2 s.place refused)
       | inr went ↦
-          let taken : IsTaken x t.reply new old = by_false (is_no_memory t.reply) (IsKept new old) (IsTaken x t.reply new old) went s.stepped.went in
+          let taken : IsTaken x t.reply new old = by_false (is_no_memory t.reply) (IsKept x new old) (IsTaken x t.reply new old) went s.stepped.went in
           subst (λ p. IsHostRun (done ++ x ∷ []) p new) (sym (more.1.1 ∙ ap (λ b. if b then told_refused o t why else told_taken o t why) went))
           (host_taken done o old a x t new s.stepped.may taken (said_is x t new old s went taken) more.1.2 went)
     ]

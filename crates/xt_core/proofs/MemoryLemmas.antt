@@ -4,7 +4,7 @@ use Rattle.std.specs.List.{list_all}
 use Rattle.std.specs.Prelude.{if◌then◌else◌, is_some, nat_lt, not, ◌&&◌, ◌*◌, ◌+◌, ◌-◌, ◌==◌, ◌||◌}
 use Rattle.std.proofs.lemmas.Bool.{and_parts, not-true}
 use Rattle.xt_base.specs.Alone.{Turn, alone, call, called, goes_on, mount_refusals, mounted_new, on_mount, turn, unless_refused, with_mount}
-use Rattle.xt_base.specs.Calls.{Outcome, alloc, alloc_refusals, allocated, alone_with, answered, asks_ckpt, asks_flush, closed, commit, commit_number, committed_of, first_of, force, force_to, force_to_refusals, get, get_refusals, gives, held_of, hold, inval, inval_refusals, io_of, is_absent, is_flight, is_held, is_in_use, is_no_room, is_own, join, join_refusals, legs_after, locked, log, log_refusals, logged_leg, invalidated, not_fresh, okay_of, push, read, read_refusals, release, released, roll, seen, unhold, unless, unmount, unowned, view, waits_for, with_leg, with_legs, with_owner, with_trans, without_hold}
+use Rattle.xt_base.specs.Calls.{Outcome, alloc, alloc_refusals, allocated, alone_with, answered, asks_ckpt, asks_flush, closed, commit, commit_number, committed_of, first_of, force, force_to, force_to_refusals, freeze, freeze_refusals, get, get_refusals, gives, held_of, hold, inval, inval_refusals, io_of, is_absent, is_flight, is_held, is_in_use, is_no_room, is_own, join, join_refusals, legs_after, locked, log, log_refusals, logged_leg, invalidated, marked_frozen, not_fresh, okay_of, push, read, read_refusals, release, released, roll, seen, thaw, unhold, unless, unmount, unowned, view, waits_for, with_leg, with_legs, with_owner, with_trans, without_hold}
 use Rattle.xt_base.specs.Isolation.{is_memory, is_no_memory}
 use Rattle.xt_base.specs.Jobs.{begin, begun, end, end_of, end_offers, failed, finished, flush, flush_of, flush_offers, flush_plan, flushed, is_ok, landed, next_pieces, posted, unflushed}
 use Rattle.xt_base.specs.Legs.{aborted, ended, is_dirty, is_stale, own_count}
@@ -149,6 +149,12 @@ module _ (s : State) where
   push_no_want : IsNoWant (push s)
   push_no_want = either (is_some s.shut) (gives (Refused Io) s) (gives Okay (asks_flush s)) refl refl
 
+  freeze_no_want : IsNoWant (freeze s)
+  freeze_no_want = listed (freeze_refusals s) s (gives Okay (marked_frozen true s)) refl refl
+
+  thaw_no_want : IsNoWant (thaw s)
+  thaw_no_want = either s.frozen (gives Okay (marked_frozen false s)) (gives (Refused Invalid) s) refl refl
+
   unmount_no_want : IsNoWant (unmount s)
   unmount_no_want = either (is_in_use s) (gives (Refused Busy) s) (gives Okay s) refl refl
 
@@ -172,6 +178,8 @@ module _ (s : State) where
   call_no_want dropped (Request.ForceTo number) answer = force_to_no_want number
   call_no_want dropped Request.Push answer = push_no_want
   call_no_want dropped Request.Shutdown answer = refl
+  call_no_want dropped Request.Freeze answer = freeze_no_want
+  call_no_want dropped Request.Thaw answer = thaw_no_want
   call_no_want dropped Request.Unmount answer = unmount_no_want
 
   -- a begin

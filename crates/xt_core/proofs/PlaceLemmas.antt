@@ -3,7 +3,7 @@ use Rattle.std.proofs.Common.{◌≡◌, ◌≢◌, ◌∙◌, ◌+◌, ◌<◌,
 use Rattle.std.proofs.lemmas.Bool.{and_parts, cases_Bool}
 use Rattle.std.proofs.lemmas.List.{get_or-set_other, get_or-set_same, get_or_default, length-append, length-set}
 use Rattle.std.specs.Prelude.{slice_index_or, slice_set}
-use Rattle.xt_base.specs.Alone.{alone, on_mount, turn, with_mount}
+use Rattle.xt_base.specs.Alone.{alone, on_mount, step_may_want, turn, with_mount}
 use Rattle.xt_base.specs.Isolation.{is_no_memory}
 use Rattle.xt_base.specs.Order.{post_of, suits}
 use Rattle.xt_base.specs.Jobs.{posted}
@@ -16,7 +16,7 @@ use Rattle.xt_base.specs.declared.steps.Step.{Step}
 use Rattle.xt_base.specs.declared.steps.Step.TheVariants.{Begin, Call, End, Flush, Mount, Peek, Post, Show, Take}
 use Rattle.xt_core.proofs.HostLemmas.{by_false, by_true, to_false, to_true}
 use Rattle.xt_core.proofs.RunLemmas.{by_slot}
-use Rattle.xt_core.specs.Cells.{Cell, IsTurned, with_lone}
+use Rattle.xt_core.specs.Cells.{Cell, IsTurned, IsUnturned, with_lone}
 use Rattle.xt_core.specs.Host.{Host, IsKept, IsStepped, IsTaken, may_come}
 use Rattle.xt_core.specs.InPlace.{AreInPlace, AreUnused, cell_at, states_of, unused}
 use Rattle.xt_core.specs.Turns.{InTurn, hand_after, hand_of, keeps_turn, queue_after, queue_left}
@@ -113,15 +113,16 @@ module _ (x : Step) (cells : List Cell) (a : AreInPlace cells) (small : slot_of 
       ∙ (and_parts (keeps_turn turns.queue (hand_of turns) x) (suits x (states_of cells (slot_of x))) may).1
 
   -- it was answered ENOMEM
-  stepped_refused : (r : Reply) (d : Cell) (turns' : InTurn) → is_no_memory r ≡ true → d ≡ c → turns' ≡ turns → IsStepped x r (host_of (slice_set cells (slot_of x) d) turns') (host_of cells turns)
+  stepped_refused : (r : Reply) (d : Cell) (turns' : InTurn) → is_no_memory r ≡ true → IsUnturned x d c → turns' ≡ turns → IsStepped x r (host_of (slice_set cells (slot_of x) d) turns') (host_of cells turns)
   stepped_refused r d turns' refused same still = record {
     may = may;
     went =
-        to_true (is_no_memory r) (IsKept (host_of (slice_set cells (slot_of x) d) turns') (host_of cells turns)) (IsTaken x r (host_of (slice_set cells (slot_of x) d) turns') (host_of cells turns)) refused
+        to_true (is_no_memory r) (IsKept x (host_of (slice_set cells (slot_of x) d) turns') (host_of cells turns)) (IsTaken x r (host_of (slice_set cells (slot_of x) d) turns') (host_of cells turns)) refused
         (record {
-          slots = set_same cells a (slot_of x) small c is d same;
+          slots = set_same cells a (slot_of x) small c is d same.0;
           queue = ap (λ (t : InTurn). t.queue) still;
           hands = λ w. ap (λ t. hand_of t w) still;
+          want = sym (ap (λ (s : Lone). step_may_want x (alone x s).reply) (found_state cells a (slot_of x) small c is)) ∙ same.1;
         });
   }
 
@@ -142,18 +143,18 @@ module _ (x : Step) (cells : List Cell) (a : AreInPlace cells) (small : slot_of 
       → IsStepped x r (host_of (slice_set cells (slot_of x) d) turns') (host_of cells turns)
   stepped_taken r d turns' went taken = record {
     may = may;
-    went = to_false (is_no_memory r) (IsKept (host_of (slice_set cells (slot_of x) d) turns') (host_of cells turns)) (IsTaken x r (host_of (slice_set cells (slot_of x) d) turns') (host_of cells turns)) went taken;
+    went = to_false (is_no_memory r) (IsKept x (host_of (slice_set cells (slot_of x) d) turns') (host_of cells turns)) (IsTaken x r (host_of (slice_set cells (slot_of x) d) turns') (host_of cells turns)) went taken;
   }
 
   -- a step that is no post, answered ENOMEM
   pub turn_refused : (r : Reply) (d : Cell) → is_no_memory r ≡ true → IsTurned x r d c → IsStepped x r (host_of (slice_set cells (slot_of x) d) turns) (host_of cells turns)
-  turn_refused r d refused turned = stepped_refused r d turns refused (by_true (is_no_memory r) (d ≡ c) ((r ≡ (alone x c.lone).reply) × (d ≡ with_lone (alone x c.lone).slot c)) refused turned) refl
+  turn_refused r d refused turned = stepped_refused r d turns refused (by_true (is_no_memory r) (IsUnturned x d c) ((r ≡ (alone x c.lone).reply) × (d ≡ with_lone (alone x c.lone).slot c)) refused turned) refl
 
   -- a step that is no post, taken
   pub turn_taken : (r : Reply) (d : Cell) (turns' : InTurn) → post_of x ≡ None → is_no_memory r ≡ false → IsTurned x r d c → IsPassedOn x r turns' turns
       → IsStepped x r (host_of (slice_set cells (slot_of x) d) turns') (host_of cells turns)
   turn_taken r d turns' other went turned passed =
-      let served = by_false (is_no_memory r) (d ≡ c) ((r ≡ (alone x c.lone).reply) × (d ≡ with_lone (alone x c.lone).slot c)) went turned in
+      let served = by_false (is_no_memory r) (IsUnturned x d c) ((r ≡ (alone x c.lone).reply) × (d ≡ with_lone (alone x c.lone).slot c)) went turned in
       stepped_taken r d turns' went (taken_so r d turns' served.0 served.1 (passed.queue ∙ left_is x turns.queue other) passed.hands)
 
   -- a slot is still in place after it
@@ -161,8 +162,8 @@ module _ (x : Step) (cells : List Cell) (a : AreInPlace cells) (small : slot_of 
   turned_in_place r d turned =
       let same : d.slot ≡ c.slot =
       elim (cases_Bool (is_no_memory r)) [
-        | inl refused ↦ ap (λ (e : Cell). e.slot) (by_true (is_no_memory r) (d ≡ c) ((r ≡ (alone x c.lone).reply) × (d ≡ with_lone (alone x c.lone).slot c)) refused turned)
-        | inr went ↦ ap (λ (e : Cell). e.slot) (by_false (is_no_memory r) (d ≡ c) ((r ≡ (alone x c.lone).reply) × (d ≡ with_lone (alone x c.lone).slot c)) went turned).1
+        | inl refused ↦ ap (λ (e : Cell). e.slot) (by_true (is_no_memory r) (IsUnturned x d c) ((r ≡ (alone x c.lone).reply) × (d ≡ with_lone (alone x c.lone).slot c)) refused turned).0
+        | inr went ↦ ap (λ (e : Cell). e.slot) (by_false (is_no_memory r) (IsUnturned x d c) ((r ≡ (alone x c.lone).reply) × (d ≡ with_lone (alone x c.lone).slot c)) went turned).1
       ] in
       set_in_place cells a (slot_of x) small c is d same
 
@@ -183,12 +184,13 @@ module _ (name : JobName) (cells : List Cell) (a : AreInPlace cells) (small : na
   posted_in_place d goes = set_in_place cells a name.slot small c is d (ap (λ (e : Cell). e.slot) goes)
 
 -- a post that found no memory
-pub post_refused : (x : Step) (r : Reply) (cells : List Cell) (turns turns' : InTurn) → may_come (host_of cells turns) x ≡ true → is_no_memory r ≡ true → turns' ≡ turns → IsStepped x r (host_of cells turns') (host_of cells turns)
-post_refused x r cells turns turns' may refused still = record {
+pub post_refused : (x : Step) (r : Reply) (cells : List Cell) (turns turns' : InTurn) → may_come (host_of cells turns) x ≡ true → is_no_memory r ≡ true → turns' ≡ turns → step_may_want x (alone x (states_of cells (slot_of x))).reply ≡ true
+    → IsStepped x r (host_of cells turns') (host_of cells turns)
+post_refused x r cells turns turns' may refused still want = record {
   may = may;
   went =
-      to_true (is_no_memory r) (IsKept (host_of cells turns') (host_of cells turns)) (IsTaken x r (host_of cells turns') (host_of cells turns)) refused
-      (record { slots = λ m. refl; queue = ap (λ (t : InTurn). t.queue) still; hands = λ w. ap (λ t. hand_of t w) still });
+      to_true (is_no_memory r) (IsKept x (host_of cells turns') (host_of cells turns)) (IsTaken x r (host_of cells turns') (host_of cells turns)) refused
+      (record { slots = λ m. refl; queue = ap (λ (t : InTurn). t.queue) still; hands = λ w. ap (λ t. hand_of t w) still; want = want });
 }
 
 -- the slot at the place of a step lets it come

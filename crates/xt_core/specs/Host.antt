@@ -1,7 +1,7 @@
 -- The host as a reader sees it: its slots, one queue of names, and the hands of its workers; and what one step makes of it.
 use Rattle.std.specs.List.{list_any}
 use Rattle.std.specs.Prelude.{Bool, List, MatchBool, None, Option, [], filter, is_none, not, slice_index_or, true, ℕ, ◌&&◌, ◌++◌, ◌<◌, ◌==◌, ◌∷◌, ◌≡◌, ◌≢◌}
-use Rattle.xt_base.specs.Alone.{alone}
+use Rattle.xt_base.specs.Alone.{alone, step_may_want}
 use Rattle.xt_base.specs.Isolation.{is_no_memory}
 use Rattle.xt_base.specs.Order.{Event, is_first}
 use Rattle.xt_base.specs.State.{Lone, empty}
@@ -39,11 +39,12 @@ pub record IsNew (host : Host) : Type 0 where
 abbrev pub may_come : Host → Step → Bool
 may_come host x = can_step host.queue (hand_at host) (lone_of host (slot_of x)) x
 
--- nothing changed
-pub record IsKept (new old : Host) : Type 0 where
+-- a step was answered ENOMEM, which it may want for its slot's own reply, and nothing changed
+pub record IsKept (x : Step) (new old : Host) : Type 0 where
   pub slots : (m : ℕ) → lone_of new m ≡ lone_of old m
   pub queue : new.queue ≡ old.queue
   pub hands : (w : ℕ) → hand_at new w ≡ hand_at old w
+  pub want : step_may_want x (alone x (lone_of old (slot_of x))).reply ≡ true
 
 -- a step was taken: its reply and what it makes of its slot are those of the slot alone; no other slot changed; the queue and the hands follow
 pub record IsTaken (x : Step) (r : Reply) (new old : Host) : Type 0 where
@@ -53,10 +54,10 @@ pub record IsTaken (x : Step) (r : Reply) (new old : Host) : Type 0 where
   pub queue : new.queue ≡ queue_after x old.queue
   pub hands : (w : ℕ) → hand_at new w ≡ hand_after x r w (hand_at old w)
 
--- a step that might come was taken, or it was answered ENOMEM and nothing changed
+-- a step that might come was taken, or it was answered ENOMEM where it may want memory, and nothing changed
 pub record IsStepped (x : Step) (r : Reply) (new old : Host) : Type 0 where
   pub may : may_come old x ≡ true
-  pub went : MatchBool (is_no_memory r) (IsKept new old) (IsTaken x r new old)
+  pub went : MatchBool (is_no_memory r) (IsKept x new old) (IsTaken x r new old)
 
 -- ---- histories: steps with the replies that were given, ENOMEM among them
 -- a history led to a host: at first it was new, and each step was taken or answered ENOMEM

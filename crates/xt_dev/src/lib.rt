@@ -12,7 +12,7 @@ pub mod mem_home;
 pub mod mem_log;
 pub mod offer;
 pub mod offer_home;
-pub mod record;
+mod record;
 #[cfg(test)]
 mod tests;
 

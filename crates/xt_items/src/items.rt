@@ -22,7 +22,7 @@ use xt_base::steps::HomeAnswers;
 
 /// A checkpoint that is being written: its number, its items, and the pieces of its text.
 #[derive(Debug, Drop)]
-pub struct Flight {
+struct Flight {
     number: u64,
     items: NumberMap<Chunks>,
     pieces: Vec<Bytes>,

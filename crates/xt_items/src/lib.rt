@@ -7,5 +7,5 @@ pub mod plan;
 #[cfg(test)]
 mod tests;
 
-pub use items::{Flight, Items};
+pub use items::Items;
 pub use plan::FlushPlan;

@@ -12,8 +12,10 @@ use xt_base::steps::HomeAnswers;
 /// The blocks that a flush writes home, 0 to 8, in the order of their writes. Clauses see the list of them.
 #[derive(Debug, Drop)]
 pub struct FlushPlan {
-    count: u8,
-    blocks: [Block; FLUSH_BLOCKS],
+    /// How many blocks it writes, 0 to 8.
+    pub count: u8,
+    /// Its blocks, the first `count` of these; the others stand for nothing.
+    pub blocks: [Block; FLUSH_BLOCKS],
 }
 
 impl Model for FlushPlan {

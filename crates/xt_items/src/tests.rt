@@ -107,6 +107,9 @@ fn open_list(items: &Items) -> (u64, u64) {
 /// Whether the open list has three marked chunks of block 7, and block 9 cancelled.
 fn has_both(items: &Items) -> bool {
     marked(items, 7) == Some(3)
+        && items
+            .marks(7)
+            .is_some_and(|marks| marks.has(2) && !marks.has(3))
         && marked(items, 9) == Some(0)
         && marked(items, 8).is_none()
         && items.is_committed(9)
@@ -183,7 +186,9 @@ fn plans(plan: &FlushPlan, blocks: &[u64]) -> bool {
             return false;
         }
     }
-    plan.blocks().len() == blocks.len() && plan.count() as usize == blocks.len()
+    plan.blocks().len() == blocks.len()
+        && plan.count() as usize == blocks.len()
+        && plan.count == plan.count()
 }
 
 /// The eight that are first go home.

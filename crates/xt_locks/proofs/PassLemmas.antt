@@ -1,8 +1,7 @@
 -- The entries of a transaction's blocks, passed on one by one.
 use Rattle.std.proofs.Common.{◌≡◌, ◌∙◌, ◌+◌, ◌<◌, ◌≤◌, ◌++◌, ◌∷◌, Bool, List, None, Option, Some, [], add-one, ap, append_assoc, arith, drop, false, length, not, refl, subst, suc, sym, take, true, zero, ℕ}
 use Rattle.std.specs.List.{cons_option}
-use Rattle.std.specs.Prelude.{IfSome, filter_map, if◌then◌else◌, is_some, option_map, slice_get}
-use Rattle.std.proofs.lemmas.Option.{slice_get_within}
+use Rattle.std.specs.Prelude.{IfSome, filter_map, if◌then◌else◌, option_map, slice_get}
 use Rattle.xt_base.specs.Legs.{owned_by}
 use Rattle.xt_base.specs.declared.steps.Owner.{Owner}
 use Rattle.xt_locks.specs.Locking.{IsPassedAt, Owners, passed}
@@ -39,25 +38,6 @@ drop_next [] (suc i) y ys le = absurd (omega arith)
 drop_next (x ∷ xs) zero y ys le = refl
 drop_next (x ∷ xs) (suc i) y ys le = drop_next xs i y ys (omega arith)
 
--- how long a list is with another element at a place, and without it
-length_replaced : {X : Type 0} (xs : List X) (i : ℕ) (y : X) → i < length xs → length (take i xs ++ (y ∷ drop (suc i) xs)) ≡ length xs
-length_replaced [] i y lt = absurd (omega arith)
-length_replaced (x ∷ xs) zero y lt = refl
-length_replaced (x ∷ xs) (suc i) y lt = ap suc (length_replaced xs i y (omega arith))
-
-length_removed : {X : Type 0} (xs : List X) (i : ℕ) → i < length xs → suc (length (take i xs ++ drop (suc i) xs)) ≡ length xs
-length_removed [] i lt = absurd (omega arith)
-length_removed (x ∷ xs) zero lt = refl
-length_removed (x ∷ xs) (suc i) lt = ap suc (length_removed xs i (omega arith))
-
-pub length_put_at : (m n : Owners) (i : ℕ) (o : Owner) → i < length m → IfSome (slice_get m i) (λ x. n ≡ take i m ++ ((x.0, o) ∷ drop (i + 1) m)) → length n ≡ length m
-length_put_at m n i o lt at =
-    let found = place_is (λ x. n ≡ take i m ++ ((x.0, o) ∷ drop (i + 1) m)) m i lt at in
-    ap (λ (xs : Owners). length xs) (found.2 ∙ ap (λ k. take i m ++ ((found.0.0, o) ∷ drop k m)) (add-one i)) ∙ length_replaced m i (found.0.0, o) lt
-
-pub length_gone : (m n : Owners) (i : ℕ) → i < length m → n ≡ take i m ++ drop (i + 1) m → suc (length n) ≡ length m
-length_gone m n i lt is = ap (λ (xs : Owners). suc (length xs)) (is ∙ ap (λ k. take i m ++ drop k m) (add-one i)) ∙ length_removed m i lt
-
 -- ---- one entry
 module _ (t : ℕ) (f : ℕ → Option Owner) (m : Owners) (i : ℕ) (e : ℕ × Owner) (here : slice_get m i ≡ Some e) where
   whole_again : m ≡ take i m ++ (e ∷ drop (i + 1) m)
@@ -76,20 +56,6 @@ module _ (t : ℕ) (f : ℕ → Option Owner) (m : Owners) (i : ℕ) (e : ℕ ×
   stays other =
       let same : passed t f e ≡ Some e = ap (λ b. if not b then Some e else option_map (λ o. (e.0, o)) (f e.0)) other in
       here_if (λ x. IsPassedAt i (passed t f x) true m m) (subst (λ o. IsPassedAt i o true m m) (sym same) (record { stays = refl; list = whole_again }))
-
-  -- one of the transaction is passed on
-  pub goes_on : (n : Owners) (o : Owner) → owned_by t e.1 ≡ true → Some o ≡ f e.0
-      → IfSome (slice_get m i) (λ x. n ≡ take i m ++ ((x.0, o) ∷ drop (i + 1) m)) → IfSome (slice_get m i) (λ x. IsPassedAt i (passed t f x) true n m)
-  goes_on n o own next at =
-      let list : n ≡ take i m ++ ((e.0, o) ∷ drop (i + 1) m) = subst (λ q. IfSome q (λ (x : ℕ × Owner). n ≡ take i m ++ ((x.0, o) ∷ drop (i + 1) m))) here at in
-      let same : passed t f e ≡ Some (e.0, o) = ap (λ b. if not b then Some e else option_map (λ p. (e.0, p)) (f e.0)) own ∙ ap (option_map (λ p. (e.0, p))) (sym next) in
-      here_if (λ x. IsPassedAt i (passed t f x) true n m) (subst (λ q. IsPassedAt i q true n m) (sym same) (record { stays = refl; list = list }))
-
-  -- or is free
-  pub goes : (n : Owners) → owned_by t e.1 ≡ true → None ≡ f e.0 → n ≡ take i m ++ drop (i + 1) m → IfSome (slice_get m i) (λ x. IsPassedAt i (passed t f x) false n m)
-  goes n own next list =
-      let same : passed t f e ≡ None = ap (λ b. if not b then Some e else option_map (λ p. (e.0, p)) (f e.0)) own ∙ ap (option_map (λ p. (e.0, p))) (sym next) in
-      here_if (λ x. IsPassedAt i (passed t f x) false n m) (subst (λ q. IsPassedAt i q false n m) (sym same) (record { stays = refl; list = list }))
 
 -- ---- all of them
 module _ (t : ℕ) (f : ℕ → Option Owner) where
@@ -130,24 +96,3 @@ module _ (t : ℕ) (f : ℕ → Option Owner) where
     passes_more kept at before =
         let found = place_is (λ e. IsPassedAt i (passed t f e) kept new now) now i lt at in
         passes_by found.0 (passed t f found.0) kept refl found.1 found.2 before
-
-  take_past : {X : Type 0} (xs : List X) (i : ℕ) → length xs ≤ i → take i xs ≡ xs
-  take_past [] zero le = refl
-  take_past [] (suc i) le = refl
-  take_past (x ∷ xs) zero le = absurd (omega arith)
-  take_past (x ∷ xs) (suc i) le = ap (λ ys. x ∷ ys) (take_past xs i (omega arith))
-
-  drop_past : {X : Type 0} (xs : List X) (i : ℕ) → length xs ≤ i → drop i xs ≡ []
-  drop_past [] zero le = refl
-  drop_past [] (suc i) le = refl
-  drop_past (x ∷ xs) zero le = absurd (omega arith)
-  drop_past (x ∷ xs) (suc i) le = drop_past xs i (omega arith)
-
-  append_none : {X : Type 0} (xs : List X) → xs ++ [] ≡ xs
-  append_none [] = refl
-  append_none (x ∷ xs) = ap (λ ys. x ∷ ys) (append_none xs)
-
-  -- none is left
-  pub passes_all : (old now : Owners) (i : ℕ) → length now ≤ i → Passes i old now → now ≡ filter_map (passed t f) old
-  passes_all old now i le before =
-      sym (ap (λ xs. xs ++ filter_map (passed t f) (drop i now)) (take_past now i le) ∙ ap (λ xs. now ++ filter_map (passed t f) xs) (drop_past now i le) ∙ append_none now) ∙ before

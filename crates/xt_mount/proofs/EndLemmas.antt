@@ -92,3 +92,12 @@ module _ (s : State) (t : ℕ) (trans : Transaction) (there : Some trans ≡ at 
 pub length_with_edit : (b : ℕ) (edit : Option (List ℕ)) (m : List (ℕ × List ℕ)) → length (with_edit b edit m) ≤ length m + 1
 length_with_edit b None m = omega (arith, length_without_le b m)
 length_with_edit b (Some content) m = length_put_le b content m
+
+-- ---- a transaction by its number
+-- what is there under a number is there under the same one
+pub named : (xs : List (ℕ × Transaction)) {o : Option Transaction} {n m : ℕ} → o ≡ at n xs → n ≡ m → o ≡ at m xs
+named xs is same = is ∙ ap (λ k. at k xs) same
+
+-- a fact of what is there under a number
+pub as_named : (xs : List (ℕ × Transaction)) (P : Transaction → Type 0) {n m : ℕ} → n ≡ m → IfSome (at n xs) P → IfSome (at m xs) P
+as_named xs P same h = subst (λ k. IfSome (at k xs) P) same h

@@ -1,5 +1,5 @@
 -- A transaction that is taken out, changed and put back.
-use Rattle.std.proofs.Common.{◌≡◌, ◌≢◌, ◌∙◌, ◌+◌, ◌<◌, ◌≤◌, false, true, ℕ, suc, List, [], ◌∷◌, Some, sym, ap, subst, refl, inl, inr, arith, IfSome, length}
+use Rattle.std.proofs.Common.{◌≡◌, ◌≢◌, ◌∙◌, ◌+◌, ◌<◌, ◌≤◌, false, true, ℕ, suc, List, Option, None, [], ◌∷◌, Some, sym, ap, subst, refl, inl, inr, arith, IfSome, length}
 use Rattle.std.proofs.lemmas.Bool.{cases_order}
 use Rattle.xt_base.specs.Maps.{at, has, is_in, put, set_at, without, without_member}
 use Rattle.xt_base.specs.Calls.{is_own, not_fresh, with_leg}
@@ -63,3 +63,8 @@ pub room_held : (s : State) (t b : ℕ) (u : Transaction) → IsSound s → Some
 room_held s t b u sound there own =
     subst (λ o. IfSome o (λ x. has x.leg.holds b ≡ false → length x.leg.changes + length x.leg.holds < 128)) there
     (λ free. omega (arith, few_changes s sound t u (sym there), fewer_holds s sound t u (sym there) b own free))
+
+-- what follows for what is there
+pub if_then : {X : Type 0} (o : Option X) (P Q : X → Type 0) → ((x : X) → P x → Q x) → IfSome o P → IfSome o Q
+if_then None P Q f h = tt
+if_then (Some x) P Q f h = f x h

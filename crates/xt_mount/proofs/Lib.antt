@@ -4,7 +4,7 @@ pub mod EndLemmas
 pub mod CkptLemmas
 pub mod MountLemmas
 pub mod ChargeLemmas
-pub mod JournalLemmas
+pub mod AccountsLemmas
 pub mod RollLemmas
 pub mod FlushLemmas
 pub mod SlotLemmas

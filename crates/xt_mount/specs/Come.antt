@@ -15,6 +15,8 @@ is_of_mount Request.Force = true
 is_of_mount (Request.ForceTo number) = true
 is_of_mount Request.Push = true
 is_of_mount Request.Shutdown = true
+is_of_mount Request.Freeze = true
+is_of_mount Request.Thaw = true
 is_of_mount Request.Unmount = true
 is_of_mount other = false
 

@@ -1,4 +1,4 @@
-pub mod Journals
+pub mod Accounts
 pub mod Machines
 pub mod Settling
 pub mod Ending

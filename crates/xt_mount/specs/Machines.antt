@@ -8,15 +8,16 @@ abbrev pub state_of : Machine → State
 state_of m = record {
   slot = m.jobs.slot;
   life = m.jobs.life;
-  log_bytes = m.journal.log_bytes;
+  log_bytes = m.accounts.log_bytes;
   blocks = m.blocks;
-  form = m.journal.form;
+  form = m.accounts.form;
   frames = m.frames;
   owners = m.locks;
-  transactions = m.journal.transactions;
+  transactions = m.accounts.transactions;
   last_trans = m.last_trans;
-  items = m.journal.items;
+  items = m.accounts.items;
   jobs = m.jobs.jobs;
+  frozen = m.frozen;
   shut = m.shut;
 }
 

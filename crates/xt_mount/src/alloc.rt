@@ -17,20 +17,23 @@ impl Machine {
     /// What refuses an alloc before the space does.
     fn alloc_refusal(&self, unit: u32, count: u32, perm: bool) -> Option<Errno>
         ensures refusal { result ≡ first_of (alloc_refusals unit count perm (state_of self.now)) }
-        ensures valid { result ≡ None → is_invalid unit count perm self.now.journal.log_bytes ≡ false }
+        ensures valid { result ≡ None → is_invalid unit count perm self.now.accounts.log_bytes ≡ false }
         ensures number { result ≡ None → self.now.last_trans < 18446744073709551615 }
-        ensures few { result ≡ None → length self.now.journal.transactions < OPEN_TRANSACTIONS }
+        ensures few { result ≡ None → length self.now.accounts.transactions < OPEN_TRANSACTIONS }
     {
-        if self.journal.is_invalid(unit, count, perm) {
+        if self.accounts.is_invalid(unit, count, perm) {
             return Some(Errno::Invalid);
         }
         if self.is_shut() {
             return Some(Errno::Io);
         }
+        if self.frozen {
+            return Some(Errno::Again);
+        }
         if self.last_trans == u64::MAX {
             return Some(Errno::NoSpace);
         }
-        if self.journal.open_count() >= OPEN_TRANSACTIONS {
+        if self.accounts.open_count() >= OPEN_TRANSACTIONS {
             return Some(Errno::Again);
         }
         None
@@ -47,13 +50,13 @@ impl Machine {
         if let Some(errno) = self.alloc_refusal(unit, count, perm) {
             return Ok(Reply::Refused(errno));
         }
-        if !self.journal.has_room(unit, count) {
+        if !self.accounts.has_room(unit, count) {
             self.ask_space();
             return Ok(Reply::Refused(Errno::Again));
         }
-        let trans = self.last_trans + 1;
-        self.journal.begin(self.alloc, trans, unit, count, perm)?;
-        self.last_trans = trans;
-        Ok(Reply::Trans(TransNo(trans)))
+        let trans = TransNo(self.last_trans + 1);
+        self.accounts.begin(self.alloc, trans.0, unit, count, perm)?;
+        self.last_trans = trans.0;
+        Ok(Reply::Trans(trans))
     }
 }

@@ -4,7 +4,7 @@ ghost use Rattle.std.specs.Prelude.{◌≡◌, ◌≤◌, ◌||◌, count_by, no
 ghost use Rattle.xt_base.specs.Maps.{is_in};
 ghost use Rattle.xt_base.specs.Space.{flight_items};
 
-use crate::journal::Journal;
+use crate::accounts::Accounts;
 use xt_base::names::Block;
 use xt_base::sizes::ROOM;
 use xt_locks::locks::Locks;
@@ -17,11 +17,11 @@ fn is_owned(locks: &Locks, block: u64) -> bool
 }
 
 /// How many blocks of the commit list nobody owns.
-pub fn beside_cil(locks: &Locks, journal: &Journal) -> usize
-    ensures count { result ≡ count_by (λ e. not (is_in e.0 locks.now)) journal.now.items.cil }
+pub fn beside_cil(locks: &Locks, accounts: &Accounts) -> usize
+    ensures count { result ≡ count_by (λ e. not (is_in e.0 locks.now)) accounts.now.items.cil }
     ensures small { result ≤ ROOM }
 {
-    journal
+    accounts
         .cil()
         .iter()
         .filter(|e| !is_owned(locks, e.0))
@@ -29,29 +29,29 @@ pub fn beside_cil(locks: &Locks, journal: &Journal) -> usize
 }
 
 /// How many blocks of the flight nobody owns, those of the commit list aside.
-pub fn beside_flight(locks: &Locks, journal: &Journal) -> usize
-    ensures count { result ≡ count_by (λ e. not (is_in e.0 locks.now || is_in e.0 journal.now.items.cil)) (flight_items journal.now.items.flight) }
+pub fn beside_flight(locks: &Locks, accounts: &Accounts) -> usize
+    ensures count { result ≡ count_by (λ e. not (is_in e.0 locks.now || is_in e.0 accounts.now.items.cil)) (flight_items accounts.now.items.flight) }
     ensures small { result ≤ ROOM }
 {
-    match journal.flight_items() {
+    match accounts.flight_items() {
         Some(flight) => flight
             .iter()
-            .filter(|e| !(is_owned(locks, e.0) || journal.is_committed(e.0)))
+            .filter(|e| !(is_owned(locks, e.0) || accounts.is_committed(e.0)))
             .count(),
         None => 0,
     }
 }
 
 /// How many blocks of the active list nobody owns, those of the other lists aside.
-pub fn beside_ail(locks: &Locks, journal: &Journal) -> usize
-    ensures count { result ≡ count_by (λ e. not (is_in e.0 locks.now || is_in e.0 journal.now.items.cil || is_in e.0 (flight_items journal.now.items.flight))) journal.now.items.ail }
+pub fn beside_ail(locks: &Locks, accounts: &Accounts) -> usize
+    ensures count { result ≡ count_by (λ e. not (is_in e.0 locks.now || is_in e.0 accounts.now.items.cil || is_in e.0 (flight_items accounts.now.items.flight))) accounts.now.items.ail }
     ensures small { result ≤ ROOM }
 {
-    journal
+    accounts
         .ail()
         .iter()
         .filter(|e| !(is_owned(locks, e.0)
-            || journal.is_committed(e.0)
-            || journal.is_in_flight(e.0)))
+            || accounts.is_committed(e.0)
+            || accounts.is_in_flight(e.0)))
         .count()
 }

@@ -5,7 +5,6 @@ ghost use Rattle.std.specs.Int.{bit_at};
 ghost use Rattle.xt_base.specs.Alone.{has_begun};
 ghost use Rattle.xt_base.specs.Calls.{gives};
 ghost use Rattle.xt_base.specs.Jobs.{begin as begin_step, end as end_step, failed as failed_step, flight_pieces, is_ok, landed as landed_step, next_pieces};
-ghost use Rattle.xt_base.specs.Maps.{at};
 ghost use Rattle.xt_base.specs.Sound.{IsSound};
 ghost use Rattle.xt_base.specs.Text.{chunk, chunk_bytes, content_at};
 ghost use Rattle.xt_ckpt.specs.Items.{item_bytes, HasForm};
@@ -29,7 +28,7 @@ impl Machine {
     /// The bytes of some chunks of a block, one after another, as they are committed.
     fn chunk_bytes_at(&self, block: u64, chunks: Chunks) -> Result<Vec<u8>, AllocError>
         requires { HasContent self.now.frames.committed (block, chunks) }
-        ensures bytes { IfOk result (λ bytes. bytes.items ≡ chunk_bytes (content_at self.now.journal.form.size block self.now.frames.committed) chunks) }
+        ensures bytes { IfOk result (λ bytes. bytes.items ≡ chunk_bytes (content_at self.now.accounts.form.size block self.now.frames.committed) chunks) }
         ensures form { IfOk result (λ bytes. length bytes.items ≡ CHUNK_BYTES * length chunks) }
     {
         match self.frames.content(block) {
@@ -40,13 +39,13 @@ impl Machine {
 
     /// The committed items with the bytes of their chunks, as they are now.
     fn items_now(&self) -> Result<Vec<Item>, AllocError>
-        requires { HaveContents self.now.frames.committed self.now.journal.items.cil }
-        ensures text { IfOk result (λ items. flat_map item_bytes items.items ≡ flat_map (entry_bytes self.now.journal.form.size self.now.frames.committed) self.now.journal.items.cil) }
-        ensures blocks { IfOk result (λ items. map entry_block self.now.journal.items.cil ≡ map (λ (i : AnItem). i.block) items.items) }
+        requires { HaveContents self.now.frames.committed self.now.accounts.items.cil }
+        ensures text { IfOk result (λ items. flat_map item_bytes items.items ≡ flat_map (entry_bytes self.now.accounts.form.size self.now.frames.committed) self.now.accounts.items.cil) }
+        ensures blocks { IfOk result (λ items. map entry_block self.now.accounts.items.cil ≡ map (λ (i : AnItem). i.block) items.items) }
         ensures form { IfOk result (λ items. All HasForm items.items) }
     {
         let mut items = Vec::new(self.alloc);
-        for e in self.journal.cil() {
+        for e in self.accounts.cil() {
             let content = self.chunk_bytes_at(e.0, e.1)?;
             items.push(Item {
                 block: Block(e.0),
@@ -61,12 +60,12 @@ impl Machine {
     fn pieces_now(&self) -> Result<Vec<Bytes>, AllocError>
         requires sound { IsSound (state_of self.now) }
         requires live { is_none self.now.shut ≡ true }
-        requires worth { 0 < length self.now.journal.items.cil }
+        requires worth { 0 < length self.now.accounts.items.cil }
         ensures pieces { IfOk result (λ pieces. pieces.items ≡ next_pieces (state_of self.now)) }
         ensures few { IfOk result (λ pieces. length pieces.items ≤ TEXT_PIECES) }
     {
         let items = self.items_now()?;
-        match write_checkpoint(self.alloc, CkptNo(self.journal.open_number()), &items) {
+        match write_checkpoint(self.alloc, self.accounts.open_number(), &items) {
             Ok(pieces) => Ok(pieces),
             Err(_) => Err(AllocError),
         }
@@ -77,9 +76,9 @@ impl Machine {
     pub fn begin(&mut self) -> Result<Reply, AllocError>
         requires sound { IsSound (state_of self.old) }
         requires outstanding { is_some (state_of self.old).jobs.ckpt ≡ true }
-        requires waiting { is_none self.old.journal.items.flight ≡ true }
+        requires waiting { is_none self.old.accounts.items.flight ≡ true }
         ensures ok { IfOk result (λ reply. gives reply (state_of self.new) ≡ begin_step (state_of self.old)) }
-        ensures few { OnOk result (length (flight_pieces self.new.journal.items.flight) ≤ TEXT_PIECES) }
+        ensures few { OnOk result (length (flight_pieces self.new.accounts.items.flight) ≤ TEXT_PIECES) }
         ensures err { OnErr result (state_of self.new ≡ state_of self.old) }
         ensures want { OnErr result (has_begun (begin_step (state_of self.old)).reply ≡ true) }
     {
@@ -88,9 +87,9 @@ impl Machine {
             return Ok(Reply::Nothing);
         }
         let pieces = self.pieces_now()?;
-        let number = CkptNo(self.journal.open_number());
+        let number = self.accounts.open_number();
         let count = pieces.len() as u32;
-        self.journal.fly(self.alloc, pieces)?;
+        self.accounts.fly(self.alloc, pieces)?;
         self.jobs.clear(JobKind::Ckpt);
         Ok(Reply::Begun {
             number,
@@ -99,13 +98,13 @@ impl Machine {
     }
 
     /// The flight has landed. It takes no memory.
-    fn land(&mut self, number: u64)
+    fn land(&mut self, number: CkptNo)
         requires sound { IsSound (state_of self.old) }
-        requires flying { flight_number self.old.journal.items.flight ≡ Some number }
-        ensures { IfSome self.old.journal.items.flight (λ f. state_of self.new ≡ landed_step [] f (state_of self.old)) }
+        requires flying { flight_number self.old.accounts.items.flight ≡ Some number }
+        ensures { IfSome self.old.accounts.items.flight (λ f. state_of self.new ≡ landed_step [] f (state_of self.old)) }
     {
-        self.locks.free_stale(CkptNo(number));
-        self.journal.land();
+        self.locks.free_stale(number);
+        self.accounts.land();
         self.jobs.finish(JobKind::Ckpt);
         self.settle();
     }
@@ -114,7 +113,7 @@ impl Machine {
     fn fail(&mut self)
         ensures { state_of self.new ≡ failed_step [] (state_of self.old) }
     {
-        self.journal.fail();
+        self.accounts.fail();
         self.shut_down(Reason::LogIoError);
         self.jobs.finish(JobKind::Ckpt);
         self.settle();
@@ -126,15 +125,15 @@ impl Machine {
         requires sound { IsSound (state_of self.old) }
         ensures { gives result (state_of self.new) ≡ end_step [] answers (state_of self.old) }
     {
-        let Some(number) = self.journal.flight_number() else {
+        let Some(number) = self.accounts.flight_number() else {
             return Reply::Nothing;
         };
         if is_synced(answers) {
             self.land(number);
-            Reply::Landed(CkptNo(number))
+            Reply::Landed(number)
         } else {
             self.fail();
-            Reply::Failed(CkptNo(number))
+            Reply::Failed(number)
         }
     }
 }

@@ -1,16 +1,27 @@
-//! The flush job: blocks of landed checkpoints are written home.
+//! The flush job: blocks of landed checkpoints are written home; and the request that asks one.
 
-ghost use Rattle.std.specs.Prelude.{◌≡◌, [], length, true};
-ghost use Rattle.xt_base.specs.Calls.{gives};
+ghost use Rattle.std.specs.Prelude.{◌≡◌, [], true};
+ghost use Rattle.xt_base.specs.Calls.{gives, push as push_step};
 ghost use Rattle.xt_base.specs.Jobs.{fits_plan, flush as flush_step, flush_plan, flushed as flushed_step, renewed, unflushed};
 ghost use Rattle.xt_mount.specs.Machines.{state_of};
 
 use crate::machine::Machine;
 use xt_base::names::JobKind;
-use xt_base::steps::{HomeAnswers, Reply};
+use xt_base::steps::{Errno, HomeAnswers, Reply};
 use xt_items::plan::{FlushPlan, all_ok};
 
 impl Machine {
+    /// Asks that blocks be written home.
+    pub fn push(&mut self) -> Reply
+        ensures { gives result (state_of self.new) ≡ push_step (state_of self.old) }
+    {
+        if self.is_shut() {
+            return Reply::Refused(Errno::Io);
+        }
+        self.ask_flush();
+        Reply::Okay
+    }
+
     /// The blocks that a flush writes home; none on a shut mount. It takes no memory.
     pub fn flush_plan(&self) -> FlushPlan
         ensures { result ≡ flush_plan (state_of self.now) }
@@ -18,7 +29,7 @@ impl Machine {
         if self.is_shut() {
             return FlushPlan::none();
         }
-        self.journal.flush_plan(&self.locks)
+        self.accounts.flush_plan(&self.locks)
     }
 
     /// A flush has nothing to write: it is done, and none is asked any more.
@@ -33,7 +44,7 @@ impl Machine {
     fn renew_asking(&mut self, answers: &HomeAnswers)
         ensures { state_of self.new ≡ renewed answers.now (state_of self.old) }
     {
-        if all_ok(answers) && self.journal.has_due(&self.locks) {
+        if all_ok(answers) && self.accounts.has_due(&self.locks) {
             self.jobs.ask(JobKind::Flush);
         } else {
             self.jobs.clear(JobKind::Flush);
@@ -45,7 +56,7 @@ impl Machine {
         requires { fits_plan answers.now plan.now ≡ true }
         ensures { gives result (state_of self.new) ≡ flushed_step [] plan.now answers.now (state_of self.old) }
     {
-        let count = self.journal.flush_done(plan, answers);
+        let count = self.accounts.flush_done(plan, answers);
         self.jobs.finish(JobKind::Flush);
         self.renew_asking(answers);
         self.settle();

@@ -14,12 +14,12 @@ use xt_base::steps::{Errno, Reply};
 
 impl Machine {
     /// What refuses a get.
-    fn get_refusal(&self, trans: u64, block: u64) -> Option<Errno>
+    fn get_refusal(&self, trans: TransNo, block: Block) -> Option<Errno>
         ensures refusal { result ≡ first_of (get_refusals trans block (state_of self.now)) }
         ensures room { result ≡ None → at_end (own_count trans (at block self.now.locks)) ≡ false }
         ensures free { result ≡ None → is_elsewhere (state_of self.now) trans block ≡ false }
     {
-        if block >= self.blocks {
+        if block.0 >= self.blocks {
             return Some(Errno::Invalid);
         }
         if self.is_shut() {
@@ -38,20 +38,20 @@ impl Machine {
     }
 
     /// A first lock of a block: an idle one keeps its content, and one that is not resident is fresh.
-    fn lock_first(&mut self, trans: u64, block: u64)
+    fn lock_first(&mut self, trans: TransNo, block: Block)
         requires sound { IsSound (state_of self.old) }
         requires strange { own_count trans (at block self.old.locks) ≡ None }
         requires free { is_elsewhere (state_of self.old) trans block ≡ false }
         ensures { state_of self.new ≡ locked trans block None (state_of self.old) }
     {
         if !self.is_busy(block) {
-            self.frames.bring(block);
+            self.frames.bring(block.0);
         }
-        let _locked = self.locks.try_lock(TransNo(trans), Block(block));
+        let _locked = self.locks.try_lock(trans, block);
     }
 
     /// One lock more of a block that the transaction has, and a first one of another.
-    pub fn lock(&mut self, trans: u64, block: u64)
+    pub fn lock(&mut self, trans: TransNo, block: Block)
         requires sound { IsSound (state_of self.old) }
         requires room { at_end (own_count trans (at block self.old.locks)) ≡ false }
         requires free { is_elsewhere (state_of self.old) trans block ≡ false }
@@ -59,18 +59,18 @@ impl Machine {
     {
         match self.own_count(trans, block) {
             Some(_) => {
-                let _again = self.locks.again(TransNo(trans), Block(block));
+                let _again = self.locks.again(trans, block);
             }
             None => self.lock_first(trans, block),
         }
     }
 
     /// Locks a block, unread. A block that the transaction has is locked once more. It takes no memory.
-    pub fn get(&mut self, trans: u64, block: u64) -> Reply
+    pub fn get(&mut self, trans: TransNo, block: Block) -> Reply
         requires { IsSound (state_of self.old) }
-        ensures { gives result (state_of self.new) ≡ with_trans (at trans self.old.journal.transactions) (state_of self.old) (λ t. get_step trans block (state_of self.old)) }
+        ensures { gives result (state_of self.new) ≡ with_trans (at trans self.old.accounts.transactions) (state_of self.old) (λ t. get_step trans block (state_of self.old)) }
     {
-        if !self.journal.is_open(trans) {
+        if !self.accounts.is_open(trans.0) {
             return Reply::Refused(Errno::Invalid);
         }
         if let Some(errno) = self.get_refusal(trans, block) {

@@ -19,78 +19,78 @@ use xt_trans::trans::{Change, TransRec};
 
 impl Machine {
     /// A transaction ends, and its leg is committed. It takes no memory.
-    pub fn close(&mut self, trans: u64)
+    pub fn close(&mut self, trans: TransNo)
         requires sound { IsSound (state_of self.old) }
-        requires there { is_in trans self.old.journal.transactions ≡ true }
-        requires kept { IfSome (at trans self.old.journal.transactions) (λ t. (is_dirty t.leg && is_some self.old.shut) ≡ false) }
-        ensures { IfSome (at trans self.old.journal.transactions) (λ t. state_of self.new ≡ closed trans (ended trans t.leg (state_of self.old))) }
+        requires there { is_in trans self.old.accounts.transactions ≡ true }
+        requires kept { IfSome (at trans self.old.accounts.transactions) (λ t. (is_dirty t.leg && is_some self.old.shut) ≡ false) }
+        ensures { IfSome (at trans self.old.accounts.transactions) (λ t. state_of self.new ≡ closed trans (ended trans t.leg (state_of self.old))) }
     {
-        let Some(opened) = self.journal.get(trans) else {
+        let Some(opened) = self.accounts.get(trans.0) else {
             unreachable!();
         };
         pass_on(
             &mut self.locks,
             trans,
             opened.leg(),
-            self.journal.open_number(),
+            self.accounts.open_number(),
         );
-        self.journal.commit(trans, &mut self.frames);
+        self.accounts.commit(trans.0, &mut self.frames);
     }
 
     /// A leg is committed, and the next one of its transaction begins. It takes no memory.
-    pub fn next_leg(&mut self, trans: u64)
+    pub fn next_leg(&mut self, trans: TransNo)
         requires sound { IsSound (state_of self.old) }
-        requires there { is_in trans self.old.journal.transactions ≡ true }
+        requires there { is_in trans self.old.accounts.transactions ≡ true }
         requires live { is_none self.old.shut ≡ true }
-        requires room { IfSome (at trans self.old.journal.transactions) (λ t. is_no_room trans t (state_of self.old) ≡ false) }
-        ensures { IfSome (at trans self.old.journal.transactions) (λ t. state_of self.new ≡ with_legs trans (legs_after t.legs) t (ended trans t.leg (state_of self.old))) }
+        requires room { IfSome (at trans self.old.accounts.transactions) (λ t. is_no_room trans t (state_of self.old) ≡ false) }
+        ensures { IfSome (at trans self.old.accounts.transactions) (λ t. state_of self.new ≡ with_legs trans (legs_after t.legs) t (ended trans t.leg (state_of self.old))) }
     {
-        let Some(opened) = self.journal.get(trans) else {
+        let Some(opened) = self.accounts.get(trans.0) else {
             unreachable!();
         };
         pass_on(
             &mut self.locks,
             trans,
             opened.leg(),
-            self.journal.open_number(),
+            self.accounts.open_number(),
         );
-        self.journal.roll(trans, &mut self.frames);
+        self.accounts.roll(trans.0, &mut self.frames);
     }
 
     /// A transaction ends, and its leg is given up. It takes no memory.
-    pub fn close_aborted(&mut self, trans: u64)
+    pub fn close_aborted(&mut self, trans: TransNo)
         requires sound { IsSound (state_of self.old) }
-        requires there { is_in trans self.old.journal.transactions ≡ true }
-        ensures { IfSome (at trans self.old.journal.transactions) (λ t. state_of self.new ≡ closed trans (aborted trans t.leg (state_of self.old))) }
+        requires there { is_in trans self.old.accounts.transactions ≡ true }
+        ensures { IfSome (at trans self.old.accounts.transactions) (λ t. state_of self.new ≡ closed trans (aborted trans t.leg (state_of self.old))) }
     {
-        let Some(opened) = self.journal.get(trans) else {
+        let Some(opened) = self.accounts.get(trans.0) else {
             unreachable!();
         };
         pass_held(&mut self.locks, trans, opened.leg());
-        self.journal.cancel(trans, &mut self.frames);
+        self.accounts.cancel(trans.0, &mut self.frames);
     }
 
     /// A leg is given up, and its transaction stays with no leg left. It takes no memory.
-    pub fn give_up_leg(&mut self, trans: u64)
+    pub fn give_up_leg(&mut self, trans: TransNo)
         requires sound { IsSound (state_of self.old) }
-        requires there { is_in trans self.old.journal.transactions ≡ true }
-        ensures { IfSome (at trans self.old.journal.transactions) (λ t. state_of self.new ≡ with_legs trans 0 t (aborted trans t.leg (state_of self.old))) }
+        requires there { is_in trans self.old.accounts.transactions ≡ true }
+        ensures { IfSome (at trans self.old.accounts.transactions) (λ t. state_of self.new ≡ with_legs trans 0 t (aborted trans t.leg (state_of self.old))) }
     {
-        let Some(opened) = self.journal.get(trans) else {
+        let Some(opened) = self.accounts.get(trans.0) else {
             unreachable!();
         };
         pass_held(&mut self.locks, trans, opened.leg());
-        self.journal.give_up(trans, &mut self.frames);
+        self.accounts.give_up(trans.0, &mut self.frames);
     }
 }
 
 /// Who has a block of a leg that was committed: an invalidated one waits for the open checkpoint, one with the hold mark is
 /// held, another is free.
-fn owner_left(leg: &TransRec, number: u64, block: u64) -> Option<Owner>
+fn owner_left(leg: &TransRec, number: CkptNo, block: u64) -> Option<Owner>
     ensures { result ≡ owner_left leg.now number block }
 {
     if leg.is_stale(block) {
-        Some(Owner::Stale(CkptNo(number)))
+        Some(Owner::Stale(number))
     } else {
         owner_kept(leg, block)
     }
@@ -105,17 +105,17 @@ fn owner_kept(leg: &TransRec, block: u64) -> Option<Owner>
 }
 
 /// The blocks of a leg that was committed pass on.
-fn pass_on(locks: &mut Locks, trans: u64, leg: &TransRec, number: u64)
+fn pass_on(locks: &mut Locks, trans: TransNo, leg: &TransRec, number: CkptNo)
     ensures { locks.new ≡ filter_map (owner_after trans leg.now number) locks.old }
 {
-    locks.end_leg(TransNo(trans), |block| owner_left(leg, number, block));
+    locks.end_leg(trans, |block| owner_left(leg, number, block));
 }
 
 /// The blocks of a leg that was given up pass on.
-fn pass_held(locks: &mut Locks, trans: u64, leg: &TransRec)
+fn pass_held(locks: &mut Locks, trans: TransNo, leg: &TransRec)
     ensures { locks.new ≡ filter_map (owner_aborted trans leg.now) locks.old }
 {
-    locks.end_leg(TransNo(trans), |block| owner_kept(leg, block));
+    locks.end_leg(trans, |block| owner_kept(leg, block));
 }
 
 /// The edits of a leg are committed, and its marks joined to the commit list. It takes no memory.

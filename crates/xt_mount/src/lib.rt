@@ -1,15 +1,19 @@
 //! One mount, step by step: transactions over locked buffers, the committed item list, checkpoints.
 #![tactic(auto)]
 
+mod accounts;
 mod alloc;
 mod busy;
+mod cancel;
 mod ckpt;
 mod commit;
 mod flush;
 mod force;
+mod freeze;
 mod get;
 mod hold;
-mod journal;
+mod inval;
+mod join;
 mod leg_end;
 mod log;
 mod machine;
@@ -21,6 +25,8 @@ mod roll;
 mod serve;
 mod settle;
 pub mod slot;
+mod unmount;
+mod view;
 
 pub use mount::{Mount, Stage};
 pub use slot::MountSlot;

@@ -1,8 +1,8 @@
-//! What a transaction sees of its blocks, and writing bytes in its leg.
+//! Writing bytes in the leg of a transaction.
 
 ghost use Rattle.std.specs.Prelude.{◌≡◌, ◌+◌, ◌<◌, ◌≤◌, ◌||◌, [], None, false, true, length, IfOk, OnErr, IfSome};
 ghost use Rattle.xt_base.specs.Alone.{is_refusal};
-ghost use Rattle.xt_base.specs.Calls.{edited, first_of, gives, is_fresh, is_own, log as log_step, log_refusals, not_fresh, seen, view as view_step, with_leg, with_trans};
+ghost use Rattle.xt_base.specs.Calls.{edited, first_of, gives, is_fresh, is_own, log as log_step, log_refusals, not_fresh, seen, with_leg, with_trans};
 ghost use Rattle.xt_base.specs.Chunks.{marks};
 ghost use Rattle.xt_base.specs.Legs.{is_stale};
 ghost use Rattle.xt_base.specs.Maps.{at, is_in};
@@ -15,71 +15,38 @@ use crate::open_trans::OpenTrans;
 use std::alloc::AllocError;
 use xt_base::chunks::Chunks;
 use xt_base::content::{Content, Data};
+use xt_base::names::{Block, TransNo};
 use xt_base::sizes::{BLOCK_BYTES, ROOM};
 use xt_base::steps::{Errno, Reply};
 use xt_trans::trans::TransRec;
 
 impl Machine {
-    /// A copy of what a leg sees of a block, which may take the place of a spare content.
-    fn seen(
-        &self,
-        leg: &TransRec,
-        block: u64,
-        spare: Option<Content>,
-    ) -> Result<Content, AllocError>
-        ensures { IfOk result (λ content. content ≡ seen self.now.journal.form.size block leg.now self.now.frames) }
-    {
-        leg.seen(
-            self.alloc,
-            self.journal.form(),
-            spare,
-            block,
-            self.frames.is_fresh(block),
-            self.frames.content(block),
-        )
-    }
-
-    /// What a transaction sees of its block. The one error is want of memory for the copy.
-    pub fn view(&self, trans: u64, block: u64) -> Result<Reply, AllocError>
-        ensures ok { IfOk result (λ reply. gives reply (state_of self.now) ≡ with_trans (at trans self.now.journal.transactions) (state_of self.now) (view_step trans block (state_of self.now))) }
-        ensures want { OnErr result (is_refusal (with_trans (at trans self.now.journal.transactions) (state_of self.now) (view_step trans block (state_of self.now))).reply ≡ false) }
-    {
-        let Some(opened) = self.journal.get(trans) else {
-            return Ok(Reply::Refused(Errno::Invalid));
-        };
-        if !self.is_own(trans, block) {
-            return Ok(Reply::Refused(Errno::Invalid));
-        }
-        let content = self.seen(opened.leg(), block, None)?;
-        Ok(Reply::Data(content))
-    }
-
     /// Whether a block shows zeros until it is written whole.
-    fn is_unread(&self, leg: &TransRec, block: u64) -> bool
+    fn is_unread(&self, leg: &TransRec, block: Block) -> bool
         ensures { result ≡ (is_fresh (state_of self.now) block || is_stale block leg.now) }
     {
-        self.frames.is_fresh(block) || leg.is_stale(block)
+        self.frames.is_fresh(block.0) || leg.is_stale(block.0)
     }
 
     /// What refuses a log request.
     fn log_refusal(
         &self,
         opened: &OpenTrans,
-        trans: u64,
-        block: u64,
+        trans: TransNo,
+        block: Block,
         first: u32,
         bytes: &Data,
     ) -> Option<Errno>
         ensures refusal { result ≡ first_of (log_refusals trans block first bytes.now opened.now (state_of self.now)) }
         ensures room { result ≡ None → first + length bytes.now ≤ BLOCK_BYTES }
         ensures own { result ≡ None → is_own (state_of self.now) trans block ≡ true }
-        ensures fits { result ≡ None → charge self.now.journal.form.ends (edited block [] (marks first (length bytes.now)) opened.now.leg).changes ≤ opened.now.unit }
+        ensures fits { result ≡ None → charge self.now.accounts.form.ends (edited block [] (marks first (length bytes.now)) opened.now.leg).changes ≤ opened.now.unit }
     {
         if !self.is_own(trans, block) {
             return Some(Errno::Invalid);
         }
         let len = bytes.bytes().len();
-        let size = self.journal.form().size() as usize;
+        let size = self.accounts.form().size() as usize;
         if len == 0 || first as usize + len > size {
             return Some(Errno::Invalid);
         }
@@ -87,39 +54,39 @@ impl Machine {
             return Some(Errno::Invalid);
         }
         let marked = Chunks::mark(first, len as u32);
-        if !opened.fits_logged(self.journal.form(), block, marked) {
+        if !opened.fits_logged(self.accounts.form(), block, marked) {
             return Some(Errno::NoSpace);
         }
         None
     }
 
     /// A transaction's leg has these bytes of a block, which is fresh no more. It takes no memory.
-    fn keep_edit(&mut self, trans: u64, block: u64, content: Content, marked: Chunks)
-        requires there { is_in trans self.old.journal.transactions ≡ true }
-        requires rising { IsRising self.old.journal.transactions }
-        requires few { IfSome (at trans self.old.journal.transactions) (λ t. is_in block t.leg.changes ≡ false → length t.leg.changes + length t.leg.holds < ROOM) }
-        requires fits { IfSome (at trans self.old.journal.transactions) (λ t. charge self.old.journal.form.ends (edited block [] marked t.leg).changes ≤ t.unit) }
-        ensures { IfSome (at trans self.old.journal.transactions) (λ t. state_of self.new ≡ not_fresh block (with_leg trans t (edited block content marked t.leg) (state_of self.old))) }
+    fn keep_edit(&mut self, trans: TransNo, block: Block, content: Content, marked: Chunks)
+        requires there { is_in trans self.old.accounts.transactions ≡ true }
+        requires rising { IsRising self.old.accounts.transactions }
+        requires few { IfSome (at trans self.old.accounts.transactions) (λ t. is_in block t.leg.changes ≡ false → length t.leg.changes + length t.leg.holds < ROOM) }
+        requires fits { IfSome (at trans self.old.accounts.transactions) (λ t. charge self.old.accounts.form.ends (edited block [] marked t.leg).changes ≤ t.unit) }
+        ensures { IfSome (at trans self.old.accounts.transactions) (λ t. state_of self.new ≡ not_fresh block (with_leg trans t (edited block content marked t.leg) (state_of self.old))) }
     {
-        self.journal.log(trans, block, content, marked);
-        self.frames.leave_fresh(block);
+        self.accounts.log(trans.0, block.0, content, marked);
+        self.frames.leave_fresh(block.0);
     }
 
     /// Writes bytes in the leg of a transaction, from `first` on, and marks their chunks.
     pub fn log(
         &mut self,
-        trans: u64,
-        block: u64,
+        trans: TransNo,
+        block: Block,
         first: u32,
         bytes: &Data,
     ) -> Result<Reply, AllocError>
         requires { IsSound (state_of self.old) }
-        ensures ok { IfOk result (λ reply. gives reply (state_of self.new) ≡ with_trans (at trans self.old.journal.transactions) (state_of self.old) (log_step trans block first bytes.now (state_of self.old))) }
+        ensures ok { IfOk result (λ reply. gives reply (state_of self.new) ≡ with_trans (at trans self.old.accounts.transactions) (state_of self.old) (log_step trans block first bytes.now (state_of self.old))) }
         ensures err { OnErr result (state_of self.new ≡ state_of self.old) }
-        ensures want { OnErr result (is_refusal (with_trans (at trans self.old.journal.transactions) (state_of self.old) (log_step trans block first bytes.now (state_of self.old))).reply ≡ false) }
+        ensures want { OnErr result (is_refusal (with_trans (at trans self.old.accounts.transactions) (state_of self.old) (log_step trans block first bytes.now (state_of self.old))).reply ≡ false) }
     {
         let spare = self.frames.take_spare();
-        let Some(opened) = self.journal.get(trans) else {
+        let Some(opened) = self.accounts.get(trans.0) else {
             return Ok(Reply::Refused(Errno::Invalid));
         };
         if let Some(errno) = self.log_refusal(opened, trans, block, first, bytes) {

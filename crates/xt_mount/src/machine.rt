@@ -8,8 +8,8 @@ ghost use Rattle.xt_base.specs.Space.{busy_count, is_busy};
 ghost use Rattle.xt_base.specs.State.{mount_of};
 ghost use Rattle.xt_mount.specs.Machines.{state_of};
 
+use crate::accounts::Accounts;
 use crate::busy::{beside_ail, beside_cil, beside_flight};
-use crate::journal::Journal;
 use std::alloc::{AllocError, Global};
 use xt_base::form::Form;
 use xt_base::names::{Block, JobKind, Life, Slot, TransNo};
@@ -26,9 +26,11 @@ pub struct Machine {
     pub blocks: u64,
     pub frames: Frames,
     pub locks: Locks,
-    pub journal: Journal,
+    pub accounts: Accounts,
     pub last_trans: u64,
     pub jobs: JobTable,
+    /// Whether new transactions are refused.
+    pub frozen: bool,
     pub shut: Option<Reason>,
 }
 
@@ -47,15 +49,16 @@ impl Machine {
     {
         let frames = Frames::new(alloc)?;
         let locks = Locks::new(alloc)?;
-        let journal = Journal::new(alloc, form, log_bytes)?;
+        let accounts = Accounts::new(alloc, form, log_bytes)?;
         Ok(Machine {
             alloc,
             blocks,
             frames,
             locks,
-            journal,
+            accounts,
             last_trans: 0,
             jobs: JobTable::new(slot, life),
+            frozen: false,
             shut: None,
         })
     }
@@ -68,10 +71,10 @@ impl Machine {
     }
 
     /// Whether a block is locked, held or on a list.
-    pub fn is_busy(&self, block: u64) -> bool
+    pub fn is_busy(&self, block: Block) -> bool
         ensures { result ≡ is_busy (state_of self.now) block }
     {
-        self.locks.is_locked(Block(block)) || self.journal.is_listed(block)
+        self.locks.is_locked(block) || self.accounts.is_listed(block.0)
     }
 
     /// How many blocks are busy.
@@ -79,30 +82,30 @@ impl Machine {
         ensures { result ≡ busy_count (state_of self.now) }
     {
         self.locks.owners().len()
-            + beside_cil(&self.locks, &self.journal)
-            + beside_flight(&self.locks, &self.journal)
-            + beside_ail(&self.locks, &self.journal)
+            + beside_cil(&self.locks, &self.accounts)
+            + beside_flight(&self.locks, &self.accounts)
+            + beside_ail(&self.locks, &self.accounts)
     }
 
     /// The recursion count of a block that a transaction has.
-    pub fn own_count(&self, trans: u64, block: u64) -> Option<u32>
+    pub fn own_count(&self, trans: TransNo, block: Block) -> Option<u32>
         ensures { result ≡ own_count trans (at block self.now.locks) }
     {
-        self.locks.own_count(TransNo(trans), Block(block))
+        self.locks.own_count(trans, block)
     }
 
     /// Whether a transaction has a block.
-    pub fn is_own(&self, trans: u64, block: u64) -> bool
+    pub fn is_own(&self, trans: TransNo, block: Block) -> bool
         ensures { result ≡ is_own (state_of self.now) trans block }
     {
         self.own_count(trans, block).is_some()
     }
 
     /// Whether somebody else has a block.
-    pub fn is_elsewhere(&self, trans: u64, block: u64) -> bool
+    pub fn is_elsewhere(&self, trans: TransNo, block: Block) -> bool
         ensures { result ≡ is_elsewhere (state_of self.now) trans block }
     {
-        self.locks.is_locked(Block(block)) && !self.is_own(trans, block)
+        self.locks.is_locked(block) && !self.is_own(trans, block)
     }
 
     /// A flush is asked.
@@ -125,7 +128,7 @@ impl Machine {
     pub fn ask_ckpt(&mut self)
         ensures { state_of self.new ≡ asks_ckpt (state_of self.old) }
     {
-        if !self.journal.cil().is_empty() {
+        if !self.accounts.cil().is_empty() {
             self.jobs.ask(JobKind::Ckpt);
         }
     }

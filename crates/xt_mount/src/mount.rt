@@ -51,7 +51,7 @@ impl Model for Mount {
 
     ghost view = { λ m. state_of m.machine };
 
-    ghost invariant = { λ m. IsSound (state_of m.machine) × ArePieces (flight_pieces m.machine.journal.items.flight) };
+    ghost invariant = { λ m. IsSound (state_of m.machine) × ArePieces (flight_pieces m.machine.accounts.items.flight) };
 }
 
 impl Mount {
@@ -98,7 +98,7 @@ impl Mount {
     pub fn form(&self) -> Form
         ensures { result ≡ self.now.form }
     {
-        self.machine.journal.form()
+        self.machine.accounts.form()
     }
 
     /// Why the mount is shut, if it is; the first reason is kept.
@@ -116,7 +116,7 @@ impl Mount {
         ensures some { All (λ piece. 1 ≤ length piece) result.now }
         ensures short { All (λ piece. length piece ≤ PIECE_BYTES) result.now }
     {
-        self.machine.journal.pieces()
+        self.machine.accounts.pieces()
     }
 
     /// The block that a request must ask the home device for, if there is one: a read's, where nothing refuses it and

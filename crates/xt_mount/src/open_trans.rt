@@ -4,7 +4,7 @@ ghost use Rattle.std.specs.Prelude.{◌≡◌, ◌+◌, ◌<◌, ◌≤◌, [], 
 ghost use Rattle.xt_base.specs.Calls.{edited, invalidated, without_hold};
 ghost use Rattle.xt_base.specs.Maps.{has, is_in, with_member};
 ghost use Rattle.xt_base.specs.Space.{change_cost, charge};
-ghost use Rattle.xt_mount.specs.Journals.{opened_with};
+ghost use Rattle.xt_mount.specs.Accounts.{opened_with};
 ghost use Rattle.xt_resv.specs.Ledgers.{charged_with, is_fitting};
 ghost use Rattle.xt_resv.specs.Mounts.{grant_of};
 
@@ -12,6 +12,7 @@ use std::marker::Model;
 use xt_base::chunks::Chunks;
 use xt_base::content::Content;
 use xt_base::form::Form;
+use xt_base::names::Block;
 use xt_base::newly::Newly;
 use xt_base::sizes::{CHUNKS, ROOM};
 use xt_resv::space::{LogSpace, Ticket};
@@ -83,17 +84,17 @@ impl OpenTrans {
     }
 
     /// Whether the charge would keep within the unit, were these chunks of a block changed too.
-    pub fn fits_logged(&self, form: Form, block: u64, marked: Chunks) -> bool
+    pub fn fits_logged(&self, form: Form, block: Block, marked: Chunks) -> bool
         ensures { result ≡ nat_le (charge form.ends (edited block [] marked self.now.leg).changes) self.now.unit }
     {
-        LogSpace::fits(form, &self.ticket, self.leg.newly_logged(block, marked))
+        LogSpace::fits(form, &self.ticket, self.leg.newly_logged(block.0, marked))
     }
 
     /// Whether the charge would keep within the unit, were a block invalidated too.
-    pub fn fits_invalidated(&self, form: Form, block: u64) -> bool
+    pub fn fits_invalidated(&self, form: Form, block: Block) -> bool
         ensures { result ≡ nat_le (charge form.ends (invalidated block self.now.leg).changes) self.now.unit }
     {
-        LogSpace::fits(form, &self.ticket, self.leg.newly_invalidated(block))
+        LogSpace::fits(form, &self.ticket, self.leg.newly_invalidated(block.0))
     }
 
     /// A block has these bytes in the leg, and these chunks are marked and charged too.

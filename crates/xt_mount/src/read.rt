@@ -23,19 +23,19 @@ use xt_trans::trans::TransRec;
 
 impl Machine {
     /// Whether a block is the transaction's own, and fresh or stale.
-    fn is_unreadable(&self, leg: &TransRec, trans: u64, block: u64) -> bool
+    fn is_unreadable(&self, leg: &TransRec, trans: TransNo, block: Block) -> bool
         ensures { result ≡ (is_own (state_of self.now) trans block && (is_fresh (state_of self.now) block || is_stale block leg.now)) }
     {
-        self.is_own(trans, block) && (self.frames.is_fresh(block) || leg.is_stale(block))
+        self.is_own(trans, block) && (self.frames.is_fresh(block.0) || leg.is_stale(block.0))
     }
 
     /// What refuses a read before its device is asked.
-    fn read_refusal(&self, leg: &TransRec, trans: u64, block: u64) -> Option<Errno>
+    fn read_refusal(&self, leg: &TransRec, trans: TransNo, block: Block) -> Option<Errno>
         ensures refusal { result ≡ first_of (read_refusals trans block leg.now (state_of self.now)) }
         ensures room { result ≡ None → at_end (own_count trans (at block self.now.locks)) ≡ false }
         ensures free { result ≡ None → is_elsewhere (state_of self.now) trans block ≡ false }
     {
-        if block >= self.blocks {
+        if block.0 >= self.blocks {
             return Some(Errno::Invalid);
         }
         if self.is_shut() {
@@ -54,14 +54,14 @@ impl Machine {
     }
 
     /// Whether a block is resident: busy and not fresh, or idle.
-    fn is_resident(&self, block: u64) -> bool
+    fn is_resident(&self, block: Block) -> bool
         ensures { result ≡ is_resident (state_of self.now) block }
     {
-        (self.is_busy(block) && !self.frames.is_fresh(block)) || self.frames.is_idle(block)
+        (self.is_busy(block) && !self.frames.is_fresh(block.0)) || self.frames.is_idle(block.0)
     }
 
     /// Whether a block is neither the transaction's own nor resident.
-    fn is_absent(&self, trans: u64, block: u64) -> bool
+    fn is_absent(&self, trans: TransNo, block: Block) -> bool
         ensures { result ≡ is_absent trans block (state_of self.now) }
     {
         !self.is_own(trans, block) && !self.is_resident(block)
@@ -74,20 +74,18 @@ impl Machine {
         ensures block { IfSome result (λ block. read_block request.now ≡ Some block) }
     {
         match request {
-            Request::Read { trans, block } => self.needs_block(trans.0, *block),
+            Request::Read { trans, block } => self.needs_block(*trans, *block),
             _ => None,
         }
     }
 
     /// The same for a read.
-    fn needs_block(&self, trans: u64, block: Block) -> Option<Block>
-        ensures asked { is_some result ≡ read_asks trans block (state_of self.now) (at trans self.now.journal.transactions) }
+    fn needs_block(&self, trans: TransNo, block: Block) -> Option<Block>
+        ensures asked { is_some result ≡ read_asks trans block (state_of self.now) (at trans self.now.accounts.transactions) }
         ensures block { IfSome result (λ asked. asked ≡ block) }
     {
-        let opened = self.journal.get(trans)?;
-        if self.read_refusal(opened.leg(), trans, block.0).is_none()
-            && self.is_absent(trans, block.0)
-        {
+        let opened = self.accounts.get(trans.0)?;
+        if self.read_refusal(opened.leg(), trans, block).is_none() && self.is_absent(trans, block) {
             Some(block)
         } else {
             None
@@ -95,20 +93,20 @@ impl Machine {
     }
 
     /// A block that nobody has is the transaction's, with the content that the device gave.
-    fn take_content(&mut self, trans: u64, block: u64, content: Content)
+    fn take_content(&mut self, trans: TransNo, block: Block, content: Content)
         requires sound { IsSound (state_of self.old) }
         requires free { is_in block self.old.locks ≡ false }
         ensures { state_of self.new ≡ with_owner block (OwnedBy trans 0) (busied block content (state_of self.old)) }
     {
-        self.frames.bring_content(block, content);
-        let _locked = self.locks.try_lock(TransNo(trans), Block(block));
+        self.frames.bring_content(block.0, content);
+        let _locked = self.locks.try_lock(trans, block);
     }
 
     /// What the device answered to a read. A failure is EIO, and shuts the mount where the leg is dirty.
     fn take_answer(
         &mut self,
-        trans: u64,
-        block: u64,
+        trans: TransNo,
+        block: Block,
         dirty: bool,
         answer: &Answer,
     ) -> Result<Reply, AllocError>
@@ -132,13 +130,18 @@ impl Machine {
 
     /// Locks a block with its content. The home device is asked where the block is neither own nor resident, and its
     /// answer handed in.
-    pub fn read(&mut self, trans: u64, block: u64, answer: &Answer) -> Result<Reply, AllocError>
+    pub fn read(
+        &mut self,
+        trans: TransNo,
+        block: Block,
+        answer: &Answer,
+    ) -> Result<Reply, AllocError>
         requires { IsSound (state_of self.old) }
-        ensures ok { IfOk result (λ reply. gives reply (state_of self.new) ≡ with_trans (at trans self.old.journal.transactions) (state_of self.old) (read_step trans block answer.now (state_of self.old))) }
+        ensures ok { IfOk result (λ reply. gives reply (state_of self.new) ≡ with_trans (at trans self.old.accounts.transactions) (state_of self.old) (read_step trans block answer.now (state_of self.old))) }
         ensures err { OnErr result (state_of self.new ≡ state_of self.old) }
-        ensures want { OnErr result (is_refusal (with_trans (at trans self.old.journal.transactions) (state_of self.old) (read_step trans block answer.now (state_of self.old))).reply ≡ false) }
+        ensures want { OnErr result (is_refusal (with_trans (at trans self.old.accounts.transactions) (state_of self.old) (read_step trans block answer.now (state_of self.old))).reply ≡ false) }
     {
-        let Some(opened) = self.journal.get(trans) else {
+        let Some(opened) = self.accounts.get(trans.0) else {
             return Ok(Reply::Refused(Errno::Invalid));
         };
         if let Some(errno) = self.read_refusal(opened.leg(), trans, block) {

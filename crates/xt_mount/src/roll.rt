@@ -12,19 +12,20 @@ ghost use Rattle.xt_mount.specs.Machines.{state_of};
 use crate::commit::{committed_of, io_of};
 use crate::machine::Machine;
 use std::alloc::AllocError;
+use xt_base::names::TransNo;
 use xt_base::steps::{Errno, Reply};
 
 impl Machine {
     /// Commits a leg and goes on; the last leg asks one new unit. On a shut mount the leg is given up, which is EIO. EAGAIN
     /// where no space is left, and then a checkpoint and a flush are asked, and nothing is committed. The one error is want
     /// of memory to name the held blocks, and then nothing changes.
-    pub fn roll(&mut self, trans: u64) -> Result<Reply, AllocError>
+    pub fn roll(&mut self, trans: TransNo) -> Result<Reply, AllocError>
         requires { IsSound (state_of self.old) }
-        ensures ok { IfOk result (λ reply. gives reply (state_of self.new) ≡ with_trans (at trans self.old.journal.transactions) (state_of self.old) (roll_step [] trans (state_of self.old))) }
+        ensures ok { IfOk result (λ reply. gives reply (state_of self.new) ≡ with_trans (at trans self.old.accounts.transactions) (state_of self.old) (roll_step [] trans (state_of self.old))) }
         ensures err { OnErr result (state_of self.new ≡ state_of self.old) }
-        ensures want { OnErr result (names_held (with_trans (at trans self.old.journal.transactions) (state_of self.old) (roll_step [] trans (state_of self.old))).reply ≡ true) }
+        ensures want { OnErr result (names_held (with_trans (at trans self.old.accounts.transactions) (state_of self.old) (roll_step [] trans (state_of self.old))).reply ≡ true) }
     {
-        let Some(opened) = self.journal.get(trans) else {
+        let Some(opened) = self.accounts.get(trans.0) else {
             return Ok(Reply::Refused(Errno::Invalid));
         };
         if !opened.perm() {
@@ -33,7 +34,7 @@ impl Machine {
         if self.is_shut() {
             return self.roll_shut(trans);
         }
-        if self.journal.finds_no_room(opened) {
+        if self.accounts.finds_no_room(opened) {
             self.ask_space();
             return Ok(Reply::Refused(Errno::Again));
         }
@@ -45,14 +46,14 @@ impl Machine {
     }
 
     /// The same on a shut mount: the leg is given up.
-    fn roll_shut(&mut self, trans: u64) -> Result<Reply, AllocError>
-        requires there { is_in trans self.old.journal.transactions ≡ true }
+    fn roll_shut(&mut self, trans: TransNo) -> Result<Reply, AllocError>
+        requires there { is_in trans self.old.accounts.transactions ≡ true }
         requires sound { IsSound (state_of self.old) }
-        ensures ok { IfOk result (λ reply. IfSome (at trans self.old.journal.transactions) (λ t. gives reply (state_of self.new) ≡ gives (io_reply (held_of t.leg.holds)) (settled [] (with_legs trans 0 t (aborted trans t.leg (state_of self.old)))))) }
+        ensures ok { IfOk result (λ reply. IfSome (at trans self.old.accounts.transactions) (λ t. gives reply (state_of self.new) ≡ gives (io_reply (held_of t.leg.holds)) (settled [] (with_legs trans 0 t (aborted trans t.leg (state_of self.old)))))) }
         ensures err { OnErr result (state_of self.new ≡ state_of self.old) }
-        ensures want { OnErr result (IfSome (at trans self.old.journal.transactions) (λ t. 0 < length t.leg.holds)) }
+        ensures want { OnErr result (IfSome (at trans self.old.accounts.transactions) (λ t. 0 < length t.leg.holds)) }
     {
-        let Some(opened) = self.journal.get(trans) else {
+        let Some(opened) = self.accounts.get(trans.0) else {
             unreachable!();
         };
         let held = opened.leg().held(self.alloc)?;

@@ -26,24 +26,24 @@ impl Machine {
     {
         match request {
             Request::Alloc { unit, count, perm } => self.alloc(*unit, *count, *perm),
-            Request::Get { trans, block } => Ok(self.get(trans.0, block.0)),
-            Request::Read { trans, block } => self.read(trans.0, block.0, answer),
-            Request::View { trans, block } => self.view(trans.0, block.0),
+            Request::Get { trans, block } => Ok(self.get(*trans, *block)),
+            Request::Read { trans, block } => self.read(*trans, *block, answer),
+            Request::View { trans, block } => self.view(*trans, *block),
             Request::Log {
                 first,
                 trans,
                 block,
                 bytes,
-            } => self.log(trans.0, block.0, *first, bytes),
-            Request::Hold { trans, block } => Ok(self.hold(trans.0, block.0)),
-            Request::Unhold { trans, block } => Ok(self.unhold(trans.0, block.0)),
-            Request::Relse { trans, block } => Ok(self.relse(trans.0, block.0)),
-            Request::Join { trans, block } => Ok(self.join(trans.0, block.0)),
-            Request::Release { block } => Ok(self.release(block.0)),
-            Request::Inval { trans, block } => Ok(self.inval(trans.0, block.0)),
-            Request::Commit { trans } => self.commit(trans.0),
-            Request::Roll { trans } => self.roll(trans.0),
-            Request::Cancel { trans } => self.cancel(trans.0),
+            } => self.log(*trans, *block, *first, bytes),
+            Request::Hold { trans, block } => Ok(self.hold(*trans, *block)),
+            Request::Unhold { trans, block } => Ok(self.unhold(*trans, *block)),
+            Request::Relse { trans, block } => Ok(self.relse(*trans, *block)),
+            Request::Join { trans, block } => Ok(self.join(*trans, *block)),
+            Request::Release { block } => Ok(self.release(*block)),
+            Request::Inval { trans, block } => Ok(self.inval(*trans, *block)),
+            Request::Commit { trans } => self.commit(*trans),
+            Request::Roll { trans } => self.roll(*trans),
+            Request::Cancel { trans } => self.cancel(*trans),
             _ => Ok(self.serve_mount(request)),
         }
     }
@@ -55,9 +55,11 @@ impl Machine {
     {
         match request {
             Request::Force => self.force(),
-            Request::ForceTo { number } => self.force_to(number.0),
+            Request::ForceTo { number } => self.force_to(*number),
             Request::Push => self.push(),
             Request::Shutdown => self.shutdown(),
+            Request::Freeze => self.freeze(),
+            Request::Thaw => self.thaw(),
             Request::Unmount => self.unmount(),
             _ => unreachable!(),
         }
@@ -68,10 +70,10 @@ impl Machine {
     fn is_worth(&self, least: u64) -> bool
         ensures { result ≡ is_worth (state_of self.now).form.ends least (state_of self.now).items }
     {
-        !self.journal.is_flying()
-            && self.journal.open_number() != u64::MAX
-            && !self.journal.cil().is_empty()
-            && least <= self.journal.cil_cost()
+        !self.accounts.is_flying()
+            && self.accounts.open_number().0 != u64::MAX
+            && !self.accounts.cil().is_empty()
+            && least <= self.accounts.cil_cost()
     }
 
     /// The least cost of a commit list that is to be written: any, where a checkpoint was asked, else an eighth of the log.
@@ -81,7 +83,7 @@ impl Machine {
         if self.jobs.asked(JobKind::Ckpt) {
             0
         } else {
-            u64::from(self.journal.log_bytes() / 8)
+            u64::from(self.accounts.log_bytes() / 8)
         }
     }
 
@@ -120,7 +122,7 @@ impl Machine {
         if name.slot != self.jobs.slot() || !self.jobs.is_outstanding(&name) {
             return None;
         }
-        if name.kind.is_ckpt() && self.journal.is_flying() {
+        if name.kind.is_ckpt() && self.accounts.is_flying() {
             Some(Stage::Begun)
         } else {
             Some(Stage::Waiting)

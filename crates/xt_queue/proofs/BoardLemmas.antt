@@ -24,12 +24,6 @@ both_set low high slot l h in_low in_high rises below j = dite (ℕ_discrete j s
     (λ here. rw here (rw (get_or-set_same low slot l 0 in_low, get_or-set_same high slot h 0 in_high) below))
     (λ apart. rw (get_or-set_other low slot j l 0 apart, get_or-set_other high slot j h 0 apart) (rises j))
 
--- a number that is no higher than the list's may be set
-low_set : (low high : List ℕ) (slot l : ℕ) → slot < length low → Rises low high → l ≤ slice_index high slot → Rises (set low slot l) high
-low_set low high slot l in_low rises below j = dite (ℕ_discrete j slot)
-    (λ here. rw here (rw (get_or-set_same low slot l 0 in_low) below))
-    (λ apart. rw (get_or-set_other low slot j l 0 apart) (rises j))
-
 -- the place of a view lies among them
 at_within : (views : List BoardView) (place : ℕ) (v : BoardView) → get_elem? views place ≡ some v → place < length views
 at_within [] place v at = absurd (some-ne-none v (sym at))

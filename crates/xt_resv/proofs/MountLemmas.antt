@@ -1,20 +1,18 @@
 -- The ledger of a mount beside the mount's definitions: the numbers of each step, and the conditions of each call.
-use Rattle.std.proofs.Common.{◌≡◌, ◌∙◌, ◌+◌, ◌-◌, ◌*◌, ◌≤◌, ◌<◌, ℕ, List, [], ◌∷◌, Option, Some, None, Bool, true, false, inl, inr, sym, ap, refl, arith}
-use Rattle.std.specs.Prelude.{◌||◌, ◌&&◌, ◌==◌, filter, if◌then◌else◌, length, nat_le, nat_lt, not, sum_by}
-use Rattle.std.proofs.lemmas.List.Sums.{sum_by-cons, sum_by_push}
-use Rattle.std.proofs.lemmas.Bool.{cases_Bool}
+use Rattle.std.proofs.Common.{◌≡◌, ◌∙◌, ◌+◌, ◌-◌, ◌*◌, ◌≤◌, ℕ, List, [], ◌∷◌, Option, Some, None, Bool, false, sym, ap, refl, arith}
+use Rattle.std.specs.Prelude.{◌&&◌, ◌==◌, if◌then◌else◌, nat_lt, sum_by}
+use Rattle.std.proofs.lemmas.List.Sums.{sum_by-cons}
 use Rattle.std.proofs.lemmas.Bool.Decides.{nat_tests}
 use Rattle.xt_base.proofs.CostLemmas.{charge-cons}
-use Rattle.xt_base.proofs.RisingLemmas.{each_map, filter_drop, filter_pass, put_last}
-use Rattle.xt_base.proofs.SoundParts.{cost_added, granted_less, granted_rolled}
-use Rattle.xt_base.specs.Calls.{allocated, closed, new_trans, legs_after, with_legs, is_no_room as finds_no_room}
-use Rattle.xt_base.specs.Jobs.{activated, cleaned, flown, landed_items}
-use Rattle.xt_base.specs.Legs.{clean_leg, ended, is_dirty, with_marks}
-use Rattle.xt_base.specs.Maps.{at, put, set_at, without}
+use Rattle.xt_base.proofs.DeviceLemmas.{kept_since}
+use Rattle.xt_base.proofs.SoundParts.{cost_added, granted_less}
+use Rattle.xt_base.specs.Calls.{closed, is_no_room as finds_no_room}
+use Rattle.xt_base.specs.Legs.{ended, with_marks}
+use Rattle.xt_base.specs.Maps.{at, without}
 use Rattle.xt_base.specs.Sound.{IsSound}
-use Rattle.xt_base.specs.Space.{change_cost, charge, cost, flight_items, granted, is_needed, least_number, lesser, still_needed, used as used_of}
-use Rattle.xt_base.specs.State.{Change, Flight, Leg, State, Transaction}
-use Rattle.xt_resv.specs.Ledgers.{Ledger, flight_cost, is_counted, is_no_room, new_grant, next_grant, regranted, still_counted, ungranted, used, whole_charge}
+use Rattle.xt_base.specs.Space.{change_cost, charge, cost, flight_items, granted, least_number, still_needed, used as used_of}
+use Rattle.xt_base.specs.State.{Change, Flight, State, Transaction}
+use Rattle.xt_resv.specs.Ledgers.{flight_cost, is_no_room, still_counted, ungranted, used, whole_charge}
 use Rattle.xt_resv.specs.Mounts.{flight_of, grant_of, ledger_of}
 
 -- ---- the space in use
@@ -26,20 +24,6 @@ flight_is ends (Some f) = refl
 -- the ledger has the space in use
 pub used_is : (s : State) → used (ledger_of s) ≡ used_of s
 used_is s = ap (λ n. granted s.transactions + cost s.form.ends s.items.cil + n + sum_by (λ e. e.1) s.items.landed) (flight_is s.form.ends s.items.flight)
-
--- what is granted with a new transaction
-granted_new : (s : State) → IsSound s → (trans : Transaction) → granted (put (s.last_trans + 1) trans s.transactions) ≡ granted s.transactions + trans.unit * trans.legs
-granted_new s h trans =
-    let below = each_map (λ e. e.0 ≤ s.last_trans) (λ e. e.0 < s.last_trans + 1) s.transactions (λ e le. omega arith) h.numbers in
-    ap granted (put_last (s.last_trans + 1) trans s.transactions below) ∙ sum_by_push (λ e. e.1.unit * e.1.legs) s.transactions (s.last_trans + 1, trans)
-
--- a transaction begins
-pub ledger_allocated : (unit count : ℕ) (perm : Bool) (s : State) → IsSound s → ledger_of (allocated unit count perm s).state ≡ record (ledger_of s) { granted = granted s.transactions + unit * count }
-ledger_allocated unit count perm s h = ap (λ n. record (ledger_of s) { granted = n }) (granted_new s h (new_trans unit count perm))
-
--- with its grant
-pub grant_allocated : (unit count : ℕ) (perm : Bool) → grant_of (new_trans unit count perm) ≡ new_grant unit count perm
-grant_allocated unit count perm = refl
 
 -- ---- a leg
 -- a number from 1 on is not 0
@@ -79,10 +63,6 @@ module _ (s : State) (h : IsSound s) (t : ℕ) (trans : Transaction) (is : at t 
   granted_closed : granted (without t s.transactions) ≡ granted s.transactions - trans.unit * trans.legs
   granted_closed = omega (arith, less)
 
-  -- the transaction is given up and closed
-  pub ledger_closed : ledger_of (closed t s) ≡ ungranted (grant_of trans) (cost s.form.ends s.items.cil) (ledger_of s)
-  ledger_closed = ap (λ n. record (ledger_of s) { granted = n }) granted_closed
-
   -- the leg is committed and its transaction closed
   pub ledger_ended : ledger_of (closed t (ended t trans.leg s)) ≡ ungranted (grant_of trans) cost_after (ledger_of s)
   ledger_ended = ap (λ n. record (ledger_of s) { granted = n; cil = cost_after }) granted_closed
@@ -92,71 +72,9 @@ module _ (s : State) (h : IsSound s) (t : ℕ) (trans : Transaction) (is : at t 
   no_room_is =
       ap (λ n. (trans.legs == 1) && nat_lt s.log_bytes (n + trans.unit)) (sym (used_is (closed t (ended t trans.leg s))) ∙ ap used ledger_ended)
 
-  -- what is granted with so many legs left
-  granted_legs : (legs : ℕ) → granted (set_at t (record trans { legs = legs; leg = clean_leg }) s.transactions) ≡ granted s.transactions - trans.unit * trans.legs + trans.unit * legs
-  granted_legs legs = omega (arith, less, granted_rolled s.form.ends s.log_bytes s.owners s.transactions s.items h.parts t trans is legs)
-
-  -- the leg is committed and the next one begins
-  pub ledger_rolled : ledger_of (with_legs t (legs_after trans.legs) trans (ended t trans.leg s)) ≡ regranted (grant_of trans) cost_after (ledger_of s)
-  ledger_rolled = ap (λ n. record (ledger_of s) { granted = n; cil = cost_after }) (granted_legs (legs_after trans.legs))
-
-  -- a roll is given up
-  pub ledger_lost : ledger_of (with_legs t 0 trans s) ≡ ungranted (grant_of trans) (cost s.form.ends s.items.cil) (ledger_of s)
-  ledger_lost = ap (λ n. record (ledger_of s) { granted = n }) (omega (arith, granted_legs 0))
-
--- the grant of the next leg
-pub grant_rolled : (trans : Transaction) → grant_of (record trans { legs = legs_after trans.legs; leg = clean_leg }) ≡ next_grant (grant_of trans)
-grant_rolled trans = refl
-
 -- ---- landed checkpoints
--- a number is no less than the lesser of two where it is no less than one of them
-le_lesser : (n m k : ℕ) → (nat_le n k || nat_le m k) ≡ nat_le (if nat_le n m then n else m) k
-le_lesser n m k = grind (arith, nat_tests)
-
--- what nothing asks for
-or_none : (b : Bool) → (b || false) ≡ b
-or_none true = refl
-or_none false = refl
-
--- with one block more on the active list
-needed_more : (n k : ℕ) (o : Option ℕ) → (nat_le n k || is_counted o k) ≡ is_counted (Some (lesser n o)) k
-needed_more n k None = or_none (nat_le n k)
-needed_more n k (Some m) = le_lesser n m k
-
--- a checkpoint counts where it is no older than the least number of the active list
-pub needed_is : (ail : List (ℕ × ℕ)) (k : ℕ) → is_needed ail k ≡ is_counted (least_number ail) k
-needed_is [] k = refl
-needed_is (e ∷ es) k = ap (λ b. nat_le e.1 k || b) (needed_is es k) ∙ needed_more e.1 k (least_number es)
-
--- filters by tests that agree
-filter_is : (p q : ℕ × ℕ → Bool) (xs : List (ℕ × ℕ)) → ((x : ℕ × ℕ) → p x ≡ q x) → filter p xs ≡ filter q xs
-filter_is p q [] same = refl
-filter_is p q (x ∷ xs) same =
-    elim (cases_Bool (q x)) [
-      | inl passes ↦ filter_pass p x xs (same x ∙ passes) ∙ ap (λ ys. x ∷ ys) (filter_is p q xs same) ∙ sym (filter_pass q x xs passes)
-      | inr other ↦ filter_drop p x xs (same x ∙ other) ∙ filter_is p q xs same ∙ sym (filter_drop q x xs other)
-    ]
-
 -- the landed checkpoints that still count
 pub still_is : (ail landed : List (ℕ × ℕ)) → still_needed ail landed ≡ still_counted (least_number ail) landed
-still_is ail landed = filter_is (λ e. is_needed ail e.0) (λ e. is_counted (least_number ail) e.0) landed (λ e. needed_is ail e.0)
+still_is ail landed = kept_since ail landed
 
 -- ---- checkpoints
--- a checkpoint is begun
-pub ledger_flown : (ps : List (List ℕ)) (s : State) → ledger_of (flown ps s) ≡ record (ledger_of s) { cil = 0; flight = Some (cost s.form.ends s.items.cil) }
-ledger_flown ps s = refl
-
--- a checkpoint has landed
-pub ledger_landed : (f : Flight) (s : State) → s.items.flight ≡ Some f
-    → ledger_of (record s { items = landed_items s.form.ends f s.items })
-    ≡ record (ledger_of s) { flight = None; landed = still_counted (least_number (activated f.number f.items s.items.ail)) (put f.number (flight_cost (flight_of s.form.ends s.items.flight)) s.items.landed) }
-ledger_landed f s flying =
-    let ail = activated f.number f.items s.items.ail in
-    let landed : List (ℕ × ℕ) → Ledger = λ xs. record (ledger_of s) { flight = None; landed = xs } in
-    ap landed (still_is ail (put f.number (cost s.form.ends f.items) s.items.landed))
-    ∙ ap (λ (o : Option Flight). landed (still_counted (least_number ail) (put f.number (flight_cost (flight_of s.form.ends o)) s.items.landed))) (sym flying)
-
--- blocks were written home
-pub ledger_cleaned : (blocks : List ℕ) (s : State)
-    → ledger_of (record s { items = cleaned blocks s.items }) ≡ record (ledger_of s) { landed = still_counted (least_number (cleaned blocks s.items).ail) s.items.landed }
-ledger_cleaned blocks s = ap (λ xs. record (ledger_of s) { landed = xs }) (still_is (cleaned blocks s.items).ail s.items.landed)

@@ -1,6 +1,7 @@
 -- The ledger of a mount's log space, and what a transaction was granted.
-use Rattle.std.specs.Prelude.{Bool, Err, List, None, Ok, Option, Result, Some, [], false, filter, if◌then◌else◌, nat_le, nat_lt, not, sum_by, ℕ, ◌&&◌, ◌*◌, ◌+◌, ◌-◌, ◌==◌, ◌||◌, ◌∷◌, ◌≡◌, ◌≤◌}
+use Rattle.std.specs.Prelude.{Bool, Err, List, None, Ok, Option, Result, Some, [], false, if◌then◌else◌, nat_le, nat_lt, not, sum_by, ℕ, ◌&&◌, ◌*◌, ◌+◌, ◌-◌, ◌==◌, ◌||◌, ◌∷◌, ◌≡◌, ◌≤◌}
 use Rattle.xt_base.specs.Calls.{legs_after}
+use Rattle.xt_base.specs.Laws.{is_since, landed_since}
 use Rattle.xt_base.specs.Sound.{IsRising}
 use Rattle.xt_base.specs.declared.newly.Newly.{Newly}
 use Rattle.xt_base.specs.declared.sizes.TheConstants.{CHUNK_COST, GRANTED_LEGS, ITEM_COST, MOST_LOG}
@@ -94,12 +95,11 @@ regranted t cil s = record (ungranted t cil s) { granted = (ungranted t cil s).g
 -- ---- landed
 -- whether a landed checkpoint still counts, where this is the least number of the active list; none does where that is empty
 abbrev pub is_counted : Option ℕ → ℕ → Bool
-is_counted None number = false
-is_counted (Some least) number = nat_le least number
+is_counted least number = is_since least number
 
 -- the landed checkpoints that still count
 abbrev pub still_counted : Option ℕ → List (ℕ × ℕ) → List (ℕ × ℕ)
-still_counted least landed = filter (λ e. is_counted least e.0) landed
+still_counted least landed = landed_since least landed
 
 -- whether there is a first landed checkpoint, and it counts no more
 abbrev pub is_front_uncounted : Option ℕ → List (ℕ × ℕ) → Bool

@@ -37,13 +37,6 @@ impl Model for Ticket {
 }
 
 impl Ticket {
-    /// The log bytes of a leg.
-    pub fn unit(&self) -> u32
-        ensures { result ≡ self.now.unit }
-    {
-        self.unit
-    }
-
     /// The legs left, the present one counted; 0 after a roll that was given up.
     pub fn legs(&self) -> u32
         ensures { result ≡ self.now.legs }
@@ -213,7 +206,8 @@ impl LogSpace {
         requires chunks { newly.chunks ≤ CHUNKS }
         ensures { result ≡ is_fitting form.ends newly ticket.now }
     {
-        whole_charge(form, ticket.charged_with(newly)) <= u64::from(ticket.unit)
+        let unit = u64::from(ticket.unit);
+        whole_charge(form, ticket.charged_with(newly)) <= unit
     }
 
     /// Charges the present leg. It is refused with `NoSpace` where `fits` says no, and then nothing changes.

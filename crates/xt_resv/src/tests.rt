@@ -15,14 +15,16 @@ const TWO: Newly = Newly {
 #[test]
 fn legs_are_counted(rt: HostRuntime) {
     let mut space = LogSpace::new(rt.alloc(), 2000);
-    assert_eq!(rt; space.refusal(512, 3, false), Some(Errno::Invalid));
+    let refused = space.refusal(512, 3, false);
+    assert_eq!(rt; refused, Some(Errno::Invalid));
+    assert_eq!(rt; refused.map(|errno| errno.number()), Some(22));
     let Ok(mut ticket) = space.grant(512, 3, true) else {
         return;
     };
     assert_eq!(rt; space.used(), 1536);
     let is_charged = LogSpace::charge(Form::one(), &mut ticket, TWO).is_ok();
     assert_eq!(rt; ticket.charged(Form::one()), 304);
-    let fits_more = LogSpace::fits(&ticket, TWO);
+    let fits_more = LogSpace::fits(Form::one(), &ticket, TWO);
     let used = space.used();
     space.give_back(ticket);
     assert!(rt; is_charged && !fits_more);

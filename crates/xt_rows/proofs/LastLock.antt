@@ -2,6 +2,7 @@
 use Rattle.std.proofs.Common.{◌≡◌, ◌∷◌, ℕ, [], false, refl}
 use Rattle.std.specs.Prelude.{replicate}
 use Rattle.xt_base.specs.Calls.{alone_with, gives, new_trans}
+use Rattle.xt_base.specs.Form.{form_one}
 use Rattle.xt_base.specs.State.{State, mount_of}
 use Rattle.xt_base.specs.declared.steps.Answer.TheVariants as Answer
 use Rattle.xt_base.specs.declared.steps.Errno.TheVariants as Errno
@@ -11,7 +12,7 @@ use Rattle.xt_base.specs.declared.steps.Request.TheVariants as Request
 
 -- a mount whose one transaction has locked block 7 so many times more than once, with its content
 abbrev locked : ℕ → State
-locked count = record (mount_of 0 1 65536 1024) {
+locked count = record (mount_of 0 1 65536 1024 form_one) {
   frames = record { committed = (7, replicate 4096 0) ∷ []; fresh = []; idle = [] };
   owners = (7, Owner.Trans 1 count) ∷ [];
   transactions = (1, new_trans 176 1 false) ∷ [];

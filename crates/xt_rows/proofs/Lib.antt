@@ -1,5 +1,6 @@
 mod RowsBuffers
 mod RowsEdges
+mod RowsFrozen
 mod RowsIdleAsked
 mod RowsIdleCut
 mod RowsJobs

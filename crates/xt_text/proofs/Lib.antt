@@ -1,6 +1,7 @@
 pub mod BufferLemmas
 pub mod HomeAgain
 pub mod Lengths
+pub mod OneLine
 pub mod ParseLemmas
 pub mod ReadAgain
 pub mod RunLemmas

@@ -1,15 +1,18 @@
 -- What follows where a line is the line of a step.
-use Rattle.std.proofs.Common.{Bool, Err, true, false, leb, List, None, Option, Some, ap, arith, length, subst, sym, ℕ, ◌<◌, ◌∙◌, ◌≡◌, ◌≤◌, [], cond}
-use Rattle.std.proofs.lemmas.Bool.{le-leb}
+use Rattle.std.proofs.Common.{Bool, Err, true, false, leb, List, None, Option, Some, ap, arith, length, refl, subst, sym, ℕ, ◌<◌, ◌∙◌, ◌≡◌, ◌≤◌, [], cond}
+use Rattle.std.proofs.lemmas.Bool.{false_from_ne_true, le-leb, lt-leb}
 use Rattle.std.proofs.lemmas.Option.{same_Some}
+use Rattle.std.proofs.lemmas.Slice.Eq.{bytes_eq-Decides}
+use Rattle.std.specs.Str.{bytes_eq}
 use Rattle.xt_base.specs.declared.steps.Step.{Step}
 use Rattle.xt_text.proofs.Lengths.{line_fits}
 use Rattle.xt_text.proofs.StepAgain.{step_again}
 use Rattle.xt_text.specs.Buffer.{put}
-use Rattle.xt_text.specs.LineReading.{step_of}
+use Rattle.xt_text.specs.LineReading.{parsed, step_of}
 use Rattle.xt_text.specs.Lines.{IsStep, line_of}
 use Rattle.xt_text.specs.Reading.{Gives}
 use Rattle.xt_text.specs.declared.bad_line.BadLine.{BadLine}
+use Rattle.xt_text.specs.declared.bad_line.BadLine.TheVariants.{Memory, Spelling}
 
 -- the line of a step is read as that step
 pub line_gives : (line : List ℕ) (step : Step) → IsStep step → line ≡ line_of step → step_of line ≡ Some step
@@ -41,3 +44,34 @@ printed_is_line line text e = printed_when line text (leb (length text) 8448) e
 -- a line that is read as a step and is the line of some step is the line of the step read
 pub other_line : (line : List ℕ) (step read : Step) → IsStep step → line ≡ line_of step → step_of line ≡ Some read → line ≡ line_of read
 other_line line step read is e gives = e ∙ ap line_of (same_Some step read (sym (line_gives line step is e) ∙ gives))
+
+-- ---- what a line is parsed as
+-- a line that is too long is parsed as no step
+pub long_parsed : (line : List ℕ) → 8400 < length line → parsed line ≡ None
+unfolding parsed
+long_parsed line long = rw (lt-leb (length line) 8400 long) refl
+
+-- a line that gives no step is parsed as none
+pub none_parsed : (line : List ℕ) → length line ≤ 8400 → step_of line ≡ None → parsed line ≡ None
+unfolding parsed
+none_parsed line short none = rw (le-leb (length line) 8400 short, none) refl
+
+-- where a reader failed, the line is parsed as no step, or there was no memory
+pub error_parsed : (line : List ℕ) (e : BadLine) → length line ≤ 8400 → Gives (Err e) (step_of line) → Gives (Err e) (parsed line)
+error_parsed line Spelling short gives = none_parsed line short gives
+error_parsed line Memory short gives = tt
+
+-- the line of the step that it gives is parsed as that step
+pub same_parsed : (line : List ℕ) (step : Step) → length line ≤ 8400 → step_of line ≡ Some step → line ≡ line_of step → parsed line ≡ Some step
+unfolding parsed
+same_parsed line step short gives same = rw (le-leb (length line) 8400 short, gives, (bytes_eq-Decides line (line_of step)).1 same) refl
+
+-- a line that gives a step of another line is parsed as none
+pub other_parsed : (line : List ℕ) (step : Step) → length line ≤ 8400 → step_of line ≡ Some step → (line ≡ line_of step → ⊥) → parsed line ≡ None
+unfolding parsed
+other_parsed line step short gives other =
+    rw (le-leb (length line) 8400 short, gives, false_from_ne_true (bytes_eq line (line_of step)) (λ same. other ((bytes_eq-Decides line (line_of step)).0 same))) refl
+
+-- a step that has a line is parsed from it
+pub parsed_again : (step : Step) → IsStep step → parsed (line_of step) ≡ Some step
+parsed_again step is = same_parsed (line_of step) step (line_fits step is) (step_again step is) refl

@@ -3,13 +3,13 @@ use Rattle.std.proofs.Common.{Bool, List, Some, [], add-one, ap, append-nil, app
 use Rattle.std.specs.Fmt.{decimal}
 use Rattle.std.specs.List.{AllByRecursion}
 use Rattle.std.specs.Str.{bytes_eq}
-use Rattle.std.proofs.lemmas.Bool.{cond_both, eqb-true, le-leb, lt-ltb, ne_eqb}
+use Rattle.std.proofs.lemmas.Bool.{cond_both, eqb-true, false_from_ne_true, le-leb, lt-ltb, ne_eqb}
 use Rattle.std.proofs.lemmas.Fmt.{decimal_by_steps}
 use Rattle.std.proofs.lemmas.Grind.{common_steps}
 use Rattle.std.proofs.lemmas.List.Elements.{recursion_from_All}
-use Rattle.std.proofs.lemmas.Option.{same_Some}
+use Rattle.std.proofs.lemmas.Option.{none-some, same_Some}
 use Rattle.std.proofs.lemmas.List.{length-replicate, replicate_more}
-use Rattle.xt_text.specs.DataReading.{byte_value, hex_value, read_data, reads}
+use Rattle.xt_text.specs.DataReading.{byte_value, hex_value, is_count, read_data, reads}
 use Rattle.xt_text.specs.DataText.{IsData, after_run, hex, hex_digit, onto_runs, run_text, runs, runs_text, spelling}
 use Rattle.xt_text.specs.Reading.{number_on}
 use Rattle.xt_text.specs.declared.data_text.Place.TheVariants.{Count, Front, Whole}
@@ -43,6 +43,16 @@ hex_again xs b more small = rw (digit_no_dot (b / 16), byte_again b small) refl
 -- at the first digit of the next byte the byte before it is taken
 pub whole_then_hex : (xs : List ℕ) (b d : ℕ) (more : List ℕ) → length xs < 4096 → reads xs (Whole b) (hex_digit d ∷ more) ≡ reads (xs ++ b ∷ []) Front (hex_digit d ∷ more)
 whole_then_hex xs b d more room = rw (digit_no_star d, le-leb 1 (4096 - length xs) (omega arith)) refl
+
+-- a character that begins a byte is no dot
+pub no_dot : (high low b : ℕ) → byte_value high low ≡ Some b → eqb high 46 ≡ false
+no_dot high low b gives = false_from_ne_true (eqb high 46) (λ same. none-some b (sym (ap (λ h. byte_value h low) (eqb-true high 46 same)) ∙ gives))
+
+-- a byte that no count follows is taken
+pub plain_more : (high low b : ℕ) (after : List ℕ) → byte_value high low ≡ Some b → is_count after ≡ false → (xs : List ℕ) → length xs < 4096 →
+    reads xs Front (high ∷ low ∷ after) ≡ reads (xs ++ b ∷ []) Front after
+plain_more high low b [] gives plain xs room = rw (no_dot high low b gives, gives, le-leb 1 (4096 - length xs) (omega arith)) refl
+plain_more high low b (c ∷ cs) gives plain xs room = rw (no_dot high low b gives, gives, plain, le-leb 1 (4096 - length xs) (omega arith)) refl
 
 -- ---- runs
 -- a run that data can have

@@ -1,5 +1,5 @@
 -- Data read from its text, loosely: more texts are read than are spellings, and each spelling gives its bytes.
-use Rattle.std.specs.Prelude.{List, None, Option, Some, [], if◌then◌else◌, length, nat_le, replicate, ℕ, ◌&&◌, ◌*◌, ◌++◌, ◌+◌, ◌-◌, ◌==◌, ◌∷◌}
+use Rattle.std.specs.Prelude.{Bool, List, None, Option, Some, [], false, if◌then◌else◌, length, nat_le, replicate, ℕ, ◌&&◌, ◌*◌, ◌++◌, ◌+◌, ◌-◌, ◌==◌, ◌∷◌}
 use Rattle.std.specs.Str.{bytes_eq}
 use Rattle.xt_base.specs.declared.sizes.TheConstants.{BLOCK_BYTES, DATA_BYTES}
 use Rattle.xt_text.specs.Reading.{number_on, ◌>>=◌}
@@ -40,6 +40,11 @@ at_end bytes Front = Some bytes
 at_end bytes (Half high) = None
 at_end bytes (Whole byte) = with_run bytes byte 1
 at_end bytes (Count byte count) = with_run bytes byte count
+
+-- a count stands at the front of a text
+abbrev pub is_count : List ℕ → Bool
+is_count [] = false
+is_count (c ∷ cs) = c == 42
 
 -- what the rest of a text gives
 abbrev pub reads : List ℕ → Place → List ℕ → Option (List ℕ)

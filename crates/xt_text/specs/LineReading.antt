@@ -1,6 +1,6 @@
 -- Lines read loosely: more lines are read than are lines of steps, and the line of each step gives that step.
 use Rattle.std.specs.List.{after_first, before_first}
-use Rattle.std.specs.Prelude.{Bool, List, None, Option, Some, [], codes, false, if◌then◌else◌, length, true, ℕ, ◌==◌, ◌∷◌}
+use Rattle.std.specs.Prelude.{Bool, List, None, Option, Some, [], codes, false, if◌then◌else◌, length, nat_le, true, ℕ, ◌==◌, ◌∷◌}
 use Rattle.std.specs.Str.{bytes_eq}
 use Rattle.xt_base.specs.declared.names.JobKind.{JobKind}
 use Rattle.xt_base.specs.declared.names.JobKind.TheVariants.{Ckpt}
@@ -8,12 +8,14 @@ use Rattle.xt_base.specs.declared.names.JobName.{JobName}
 use Rattle.xt_base.specs.declared.sizes.TheConstants.{SLOTS, WORKERS}
 use Rattle.xt_base.specs.declared.steps.Answer.{Answer}
 use Rattle.xt_base.specs.declared.steps.Request.{Request}
-use Rattle.xt_base.specs.declared.steps.Request.TheVariants.{Alloc, Cancel, Commit, Force, ForceTo, Get, Hold, Inval, Join, Log, Push, Read, Release, Relse, Roll, Shutdown, Unhold, Unmount, View}
+use Rattle.xt_base.specs.declared.steps.Request.TheVariants.{Alloc, Cancel, Commit, Force, ForceTo, Freeze, Get, Hold, Inval, Join, Log, Push, Read, Release, Relse, Roll, Shutdown, Thaw, Unhold, Unmount, View}
 use Rattle.xt_base.specs.declared.steps.Step.{Step}
 use Rattle.xt_base.specs.declared.steps.Step.TheVariants.{Begin, Call, End, Flush, Mount, Peek, Post, Show, Take}
+use Rattle.xt_text.specs.declared.parse.TheConstants.{LINE_BYTES}
 use Rattle.xt_text.specs.declared.words.TheConstants.{BLANK}
 use Rattle.xt_text.specs.DataReading.{read_content, read_data}
 use Rattle.xt_text.specs.HomeReading.{home_of}
+use Rattle.xt_text.specs.Lines.{line_of}
 use Rattle.xt_text.specs.Reading.{below, number_of, ◌>>=◌}
 
 -- what stands before the first separator of a text, all of it where there is none
@@ -100,6 +102,8 @@ mount_request verb words =
     else if bytes_eq verb (codes "forceto") then (lettered words >>= λ number. Some (ForceTo number))
     else if bytes_eq verb (codes "push") then Some Push
     else if bytes_eq verb (codes "shutdown") then Some Shutdown
+    else if bytes_eq verb (codes "freeze") then Some Freeze
+    else if bytes_eq verb (codes "thaw") then Some Thaw
     else if bytes_eq verb (codes "unmount") then Some Unmount
     else None
 
@@ -232,3 +236,8 @@ words_step word words =
 -- what a line gives
 unfoldable pub step_of : List ℕ → Option Step
 step_of line = words_step (before BLANK line) (behind BLANK line)
+
+-- ---- parsing
+-- the step that a line is parsed as: the one that it gives, if this is that step's own line, and not too long
+unfoldable pub parsed : List ℕ → Option Step
+parsed line = if nat_le (length line) LINE_BYTES then (step_of line >>= λ step. if bytes_eq line (line_of step) then Some step else None) else None

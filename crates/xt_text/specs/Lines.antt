@@ -10,7 +10,7 @@ use Rattle.xt_base.specs.declared.sizes.TheConstants.{BLOCK_BYTES, FLUSH_BLOCKS,
 use Rattle.xt_base.specs.declared.steps.Answer.{Answer}
 use Rattle.xt_base.specs.declared.steps.HomeAnswers.{HomeAnswers}
 use Rattle.xt_base.specs.declared.steps.Request.{Request}
-use Rattle.xt_base.specs.declared.steps.Request.TheVariants.{Alloc, Cancel, Commit, Force, ForceTo, Get, Hold, Inval, Join, Log, Push, Read, Release, Relse, Roll, Shutdown, Unhold, Unmount, View}
+use Rattle.xt_base.specs.declared.steps.Request.TheVariants.{Alloc, Cancel, Commit, Force, ForceTo, Freeze, Get, Hold, Inval, Join, Log, Push, Read, Release, Relse, Roll, Shutdown, Thaw, Unhold, Unmount, View}
 use Rattle.xt_base.specs.declared.steps.Step.{Step}
 use Rattle.xt_base.specs.declared.steps.Step.TheVariants.{Begin, Call, End, Flush, Mount, Peek, Post, Show, Take}
 use Rattle.xt_text.specs.DataText.{IsData, spelling}
@@ -88,6 +88,8 @@ request_text Force = codes "force"
 request_text (ForceTo number) = codes "forceto" ␣ ckpt_text number
 request_text Push = codes "push"
 request_text Shutdown = codes "shutdown"
+request_text Freeze = codes "freeze"
+request_text Thaw = codes "thaw"
 request_text Unmount = codes "unmount"
 
 -- what the home device answered, behind a read's text; nothing where it was not asked
@@ -133,6 +135,8 @@ IsRequest Force = Unit {0}
 IsRequest (ForceTo number) = number < 2 ^ 64
 IsRequest Push = Unit {0}
 IsRequest Shutdown = Unit {0}
+IsRequest Freeze = Unit {0}
+IsRequest Thaw = Unit {0}
 IsRequest Unmount = Unit {0}
 
 -- the content of a block

@@ -1,7 +1,7 @@
 -- The texts of replies and of offers.
 use Rattle.std.specs.Fmt.{decimal}
-use Rattle.std.specs.List.{flat_map}
-use Rattle.std.specs.Prelude.{List, None, Option, Some, codes, ℕ, ◌++◌, ◌∷◌}
+use Rattle.std.specs.List.{flat_map, list_all}
+use Rattle.std.specs.Prelude.{Bool, List, None, Option, Some, codes, not, ℕ, ◌++◌, ◌==◌, ◌∷◌}
 use Rattle.xt_base.specs.Errors.{name_of}
 use Rattle.xt_base.specs.declared.steps.HomeOffer.{HomeOffer}
 use Rattle.xt_base.specs.declared.steps.LogOffer.{LogOffer}
@@ -62,3 +62,8 @@ log_offer_text slot (LogOffer.Sync ok) = decimal slot ␣ codes "logsync" ␣ ok
 abbrev pub home_offer_text : ℕ → HomeOffer → List ℕ
 home_offer_text slot (HomeOffer.Write block content ok) = decimal slot ␣ codes "home" ␣ decimal block ␣ spelling content ␣ ok_text ok
 home_offer_text slot (HomeOffer.Sync ok) = decimal slot ␣ codes "homesync" ␣ ok_text ok
+
+-- ---- lines
+-- a text of one line has no newline
+abbrev pub is_one_line : List ℕ → Bool
+is_one_line text = list_all (λ b. not (b == 10)) text

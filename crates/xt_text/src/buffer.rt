@@ -1,6 +1,6 @@
 //! A buffer of fixed room that text is put into.
 
-ghost use Rattle.std.specs.Prelude.{◌≡◌, ◌≢◌, ◌↔◌, ◌∷◌, Some, None, [], IfOk, IsTrue};
+ghost use Rattle.std.specs.Prelude.{◌≡◌, ◌≢◌, ◌↔◌, ◌∷◌, ◌+◌, ◌++◌, ◌≤◌, Some, None, [], IfOk, IsTrue, length, vec_capacity, vec_len};
 ghost use Rattle.xt_text.specs.Buffer.{put};
 
 use std::alloc::{AllocError, Global};
@@ -8,6 +8,9 @@ use std::marker::Model;
 
 /// The room of a `Text` in bytes: any reply and any offer fits.
 pub const TEXT_BYTES: usize = 8448;
+
+/// The most bytes that are put one by one.
+const FEW: usize = 8;
 
 /// Text of at most 8,448 bytes, or full: once a text did not fit, all further ones are left out until it is cleared.
 /// Its room is made when it is made, so nothing that is put into it can fail for memory.
@@ -52,7 +55,7 @@ impl Text {
             return;
         }
         if more.len() <= TEXT_BYTES - self.bytes.len() {
-            self.bytes.extend_from_slice(more).unwrap();
+            append(&mut self.bytes, more);
         } else {
             self.full = true;
         }
@@ -66,7 +69,22 @@ impl Text {
             return;
         }
         if self.bytes.len() < TEXT_BYTES {
-            self.bytes.push(byte).unwrap();
+            self.bytes.push_reserved(byte);
+        } else {
+            self.full = true;
+        }
+    }
+
+    /// Puts two bytes behind what it holds, or is full where they do not fit.
+    pub(crate) fn push_both(&mut self, first: u8, second: u8)
+        ensures { self.new ≡ put self.old (first ∷ second ∷ []) }
+    {
+        if self.full {
+            return;
+        }
+        if self.bytes.len() <= TEXT_BYTES - 2 {
+            self.bytes.push_reserved(first);
+            self.bytes.push_reserved(second);
         } else {
             self.full = true;
         }
@@ -91,5 +109,29 @@ impl Text {
         ensures { self.now ≢ None → self.now ≡ Some result.now }
     {
         &self.bytes
+    }
+}
+
+/// Puts bytes behind others that have room for them: a few one by one, since that costs no call.
+fn append(bytes: &mut Vec<u8>, more: &[u8])
+    requires room { vec_len bytes.old + length more.now ≤ vec_capacity bytes.old }
+    ensures items { bytes.new.items ≡ bytes.old.items ++ more.now }
+    ensures room { vec_capacity bytes.old ≤ vec_capacity bytes.new }
+{
+    if more.len() <= FEW {
+        append_few(bytes, more);
+    } else {
+        bytes.extend_from_slice(more).unwrap();
+    }
+}
+
+/// Puts bytes one by one behind others that have room for them.
+fn append_few(bytes: &mut Vec<u8>, more: &[u8])
+    requires room { vec_len bytes.old + length more.now ≤ vec_capacity bytes.old }
+    ensures items { bytes.new.items ≡ bytes.old.items ++ more.now }
+    ensures room { vec_capacity bytes.new ≡ vec_capacity bytes.old }
+{
+    for byte in more {
+        bytes.push_reserved(*byte);
     }
 }

@@ -1,12 +1,14 @@
 //! Data as text, both ways. A list of bytes is cut into maximal runs of equal bytes. A run of four or more is
 //! `XX*N`, shorter ones are plain digits, and a dot stands between neighbours unless both are short; no bytes are `-`.
 
-ghost use Rattle.std.specs.Prelude.{◌≡◌, ◌==◌, ◌<◌, ◌≤◌, ◌++◌, ◌∷◌, List, ℕ, length, drop, IfSome, IfOk};
+ghost use Rattle.std.specs.Prelude.{◌≡◌, ◌==◌, ◌<◌, ◌≤◌, ◌++◌, ◌∷◌, List, [], ℕ, length, drop, IfErr, IfSome, IfOk};
 ghost use Rattle.std.specs.List.{All, prefix_len};
 ghost use Rattle.xt_text.specs.Buffer.{put};
-ghost use Rattle.xt_text.specs.DataReading.{at_end, byte_value, front_at, hex_value, next, read_content, read_data, with_run};
+ghost use Rattle.xt_text.specs.DataReading.{at_end, byte_value, front_at, hex_value, is_count, next, read_content, read_data, reads, with_run};
 ghost use Rattle.xt_text.specs.Reading.{Gives, GivesAs};
 ghost use Rattle.xt_text.specs.Lines.{IsContent};
+ghost use Rattle.xt_text.specs.declared.bad_line.BadLine.TheVariants.{Memory};
+ghost use Rattle.xt_text.specs.declared.data_text.Place.TheVariants.{Front};
 ghost use Rattle.xt_text.specs.DataText.{IsData, hex, hex_digit, is_short, run_text, runs, spelling};
 
 use crate::bad_line::BadLine;
@@ -138,15 +140,64 @@ fn are_bytes(bytes: &[u8])
     let _count = bytes.len();
 }
 
+/// Whether a text begins with a count.
+fn is_count(text: &[u8]) -> bool
+    ensures { result ≡ is_count text.now }
+{
+    match text {
+        [c, ..] => *c == b'*',
+        [] => false,
+    }
+}
+
+/// The byte at the front of a text, if its two digits stand there and no count behind them, and what stands behind it.
+#[tactic(auto, using(crate::proofs::ReadAgain::plain_more))]
+fn plain_byte(text: &[u8]) -> Option<(u8, &[u8])>
+    ensures more { IfSome result (λ p. (bytes : List ℕ) → length bytes < DATA_BYTES → reads bytes Front text.now ≡ reads (bytes ++ p.0 ∷ []) Front p.1.now) }
+    ensures shorter { IfSome result (λ p. length p.1.now < length text.now) }
+{
+    let [high, low, after @ ..] = text else {
+        return None;
+    };
+    if is_count(after) {
+        return None;
+    }
+    match byte_value(*high, *low) {
+        Ok(byte) => Some((byte, after)),
+        Err(_) => None,
+    }
+}
+
+/// Takes the bytes at the front of a text whose two digits stand there and no count, and gives what stands behind them.
+fn read_plain<'a>(bytes: &mut Vec<u8>, text: &'a [u8]) -> Result<&'a [u8], BadLine>
+    requires { length bytes.old.items ≤ DATA_BYTES }
+    ensures rest { IfOk result (λ rest. reads bytes.new.items Front rest.now ≡ reads bytes.old.items Front text.now) }
+    ensures short { IfOk result (λ rest. length bytes.new.items ≤ DATA_BYTES) }
+    ensures memory { IfErr result (λ e. e ≡ Memory) }
+{
+    let mut rest = text;
+    while let Some((byte, after)) = plain_byte(rest) {
+        if bytes.len() >= DATA_BYTES {
+            return Ok(rest);
+        }
+        if bytes.push(byte).is_err() {
+            return Err(BadLine::Memory);
+        }
+        rest = after;
+    }
+    Ok(rest)
+}
+
 /// Reads bytes from their text, loosely: each spelling gives its bytes, and other texts may give some too.
 fn read_bytes(alloc: Global, text: &[u8]) -> Result<Vec<u8>, BadLine>
     ensures value { GivesAs (λ bytes. bytes.items) result (read_data text.now) }
     ensures valid { IfOk result (λ bytes. IsData bytes.items) }
 {
-    let mut bytes = Vec::new(alloc);
+    let mut bytes = Vec::with_capacity(alloc, text.len() / 2)?;
     if text != b"-".as_slice() {
+        let rest = read_plain(&mut bytes, text)?;
         let mut place = Place::Front;
-        for c in text {
+        for c in rest {
             place = read_character(&mut bytes, place, *c)?;
         }
         read_end(&mut bytes, place)?;
@@ -201,15 +252,15 @@ fn hex_digit(value: u8) -> u8
 }
 
 /// Puts a byte as two digits.
-#[tactic(auto, using(crate::proofs::BufferLemmas::put_put))]
+#[inline(always)]
 fn put_hex(out: &mut Text, byte: u8)
     ensures { out.new ≡ put out.old (hex byte) }
 {
-    out.push(hex_digit(byte / DIGITS));
-    out.push(hex_digit(byte % DIGITS));
+    out.push_both(hex_digit(byte / DIGITS), hex_digit(byte % DIGITS));
 }
 
 /// Puts a run's text.
+#[inline(always)]
 #[tactic(auto, using(crate::proofs::BufferLemmas::put_put, crate::proofs::BufferLemmas::put_none, crate::proofs::RunLemmas::hex_more))]
 fn put_run(out: &mut Text, run: Run)
     ensures { out.new ≡ put out.old (run_text run) }

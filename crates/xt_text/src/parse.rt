@@ -2,6 +2,7 @@
 
 ghost use Rattle.std.specs.Prelude.{◌≡◌, ◌≤◌, ◌↔◌, length, IfOk, IsErrOf, IsTrue, OnOk, Some};
 ghost use Rattle.xt_base.specs.declared.steps.Step.{Step as AnyStep};
+ghost use Rattle.xt_text.specs.LineReading.{parsed};
 ghost use Rattle.xt_text.specs.Lines.{IsStep, line_of};
 ghost use Rattle.xt_text.specs.Reading.{Gives};
 ghost use Rattle.xt_text.specs.SessionLines.{takes_memory};
@@ -31,6 +32,7 @@ fn is_line_of(line: &[u8], step: &Step, text: &mut Text) -> bool
 /// The step that a line spells, without its newline. A line that is not the one spelling of a step is a bad line, and
 /// so is one of more than 8,400 bytes. It is answered Memory only where a growth was refused.
 pub fn parse_line(alloc: Global, line: &[u8]) -> Result<Step, BadLine>
+    ensures parsed { Gives result (parsed line.now) }
     ensures valid { IfOk result IsStep }
     ensures found { IfOk result (λ step. line.now ≡ line_of step) }
     ensures only { (step : AnyStep) → IsStep step → line.now ≡ line_of step → Gives result (Some step) }
@@ -42,6 +44,7 @@ pub fn parse_line(alloc: Global, line: &[u8]) -> Result<Step, BadLine>
 /// `parse_line` in a buffer that serves line after line: whatever it holds, it is written over. Only a line whose
 /// words say that data or answers follow is answered Memory.
 pub fn parse_line_in(alloc: Global, line: &[u8], text: &mut Text) -> Result<Step, BadLine>
+    ensures parsed { Gives result (parsed line.now) }
     ensures valid { IfOk result IsStep }
     ensures found { IfOk result (λ step. line.now ≡ line_of step) }
     ensures only { (step : AnyStep) → IsStep step → line.now ≡ line_of step → Gives result (Some step) }

@@ -1,11 +1,11 @@
 //! Replies and offers printed.
 
 ghost use Rattle.std.specs.Fmt.{decimal};
-ghost use Rattle.std.specs.Prelude.{◌≡◌, ◌≤◌, ◌∷◌, ◌++◌, length};
+ghost use Rattle.std.specs.Prelude.{◌≡◌, ◌≤◌, ◌∷◌, ◌++◌, length, true};
 ghost use Rattle.xt_base.specs.Errors.{name_of};
 ghost use Rattle.xt_text.specs.Buffer.{put};
 ghost use Rattle.xt_text.specs.Lines.{ckpt_text, ◌␣◌};
-ghost use Rattle.xt_text.specs.Replies.{held_text, home_offer_text, log_offer_text, reply_text, seen_text, slot_reply_text};
+ghost use Rattle.xt_text.specs.Replies.{held_text, home_offer_text, is_one_line, log_offer_text, reply_text, seen_text, slot_reply_text};
 
 use crate::buffer::Text;
 use crate::fields::{then_ckpt, then_data, then_number, then_ok, then_word};
@@ -99,9 +99,9 @@ fn put_committed(out: &mut Text, number: CkptNo, held: &HeldBlocks)
     then_held(out, held);
 }
 
-/// Puts a reply, with no slot in front and no newline behind, behind what the buffer holds.
+/// Puts a reply.
 #[tactic(auto, using(crate::proofs::BufferLemmas::put_put, crate::proofs::BufferLemmas::put_none))]
-pub fn print_reply(reply: &Reply, out: &mut Text)
+fn put_reply(reply: &Reply, out: &mut Text)
     ensures text { out.new ≡ put out.old (reply_text reply.now) }
     ensures short { length (reply_text reply.now) ≤ 8300 }
 {
@@ -140,22 +140,34 @@ pub fn print_reply(reply: &Reply, out: &mut Text)
     }
 }
 
-/// Puts a reply with the slot that its step names in front, and no newline behind.
-#[tactic(auto, using(crate::proofs::BufferLemmas::put_put))]
+/// Puts a reply, with no slot in front, behind what the buffer holds. It has no newline, in it or behind it.
+#[tactic(auto, using(crate::proofs::OneLine::reply_one_line))]
+pub fn print_reply(reply: &Reply, out: &mut Text)
+    ensures text { out.new ≡ put out.old (reply_text reply.now) }
+    ensures short { length (reply_text reply.now) ≤ 8300 }
+    ensures line { is_one_line (reply_text reply.now) ≡ true }
+{
+    put_reply(reply, out);
+}
+
+/// Puts a reply with the slot that its step names in front, and no newline in it or behind.
+#[tactic(auto, using(crate::proofs::BufferLemmas::put_put, crate::proofs::OneLine::slot_reply_one_line))]
 pub fn print_slot_reply(slot: Slot, reply: &Reply, out: &mut Text)
     ensures text { out.new ≡ put out.old (slot_reply_text slot reply.now) }
     ensures short { length (slot_reply_text slot reply.now) ≤ 8400 }
+    ensures line { is_one_line (slot_reply_text slot reply.now) ≡ true }
 {
     put_number(out, slot.index() as u64);
     out.push(BLANK);
     print_reply(reply, out);
 }
 
-/// Puts what was offered to a log device, with the slot in front and no newline behind.
-#[tactic(auto, using(crate::proofs::BufferLemmas::put_put))]
+/// Puts what was offered to a log device, with the slot in front and no newline in it or behind.
+#[tactic(auto, using(crate::proofs::BufferLemmas::put_put, crate::proofs::OneLine::log_offer_one_line))]
 pub fn print_log_offer(slot: Slot, offer: &LogOffer, out: &mut Text)
     ensures text { out.new ≡ put out.old (log_offer_text slot offer.now) }
     ensures short { length (log_offer_text slot offer.now) ≤ 8400 }
+    ensures line { is_one_line (log_offer_text slot offer.now) ≡ true }
 {
     put_number(out, slot.index() as u64);
     match offer {
@@ -171,11 +183,12 @@ pub fn print_log_offer(slot: Slot, offer: &LogOffer, out: &mut Text)
     }
 }
 
-/// Puts what was offered to a home device, with the slot in front and no newline behind.
-#[tactic(auto, using(crate::proofs::BufferLemmas::put_put))]
+/// Puts what was offered to a home device, with the slot in front and no newline in it or behind.
+#[tactic(auto, using(crate::proofs::BufferLemmas::put_put, crate::proofs::OneLine::home_offer_one_line))]
 pub fn print_home_offer(slot: Slot, offer: &HomeOffer, out: &mut Text)
     ensures text { out.new ≡ put out.old (home_offer_text slot offer.now) }
     ensures short { length (home_offer_text slot offer.now) ≤ 8400 }
+    ensures line { is_one_line (home_offer_text slot offer.now) ≡ true }
 {
     put_number(out, slot.index() as u64);
     match offer {

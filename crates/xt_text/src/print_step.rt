@@ -1,10 +1,11 @@
 //! Steps printed as their lines.
 
 ghost use Rattle.std.specs.Fmt.{decimal};
-ghost use Rattle.std.specs.Prelude.{◌≡◌, ◌∷◌, ◌++◌, codes};
+ghost use Rattle.std.specs.Prelude.{◌≡◌, ◌∷◌, ◌++◌, Some, codes};
 ghost use Rattle.xt_text.specs.Buffer.{put};
 ghost use Rattle.xt_text.specs.DataText.{spelling};
-ghost use Rattle.xt_text.specs.Lines.{answer_text, line_of, name_text, perm_text, request_text, sync_text, trans_text, ◌·◌, ◌␣◌};
+ghost use Rattle.xt_text.specs.LineReading.{parsed};
+ghost use Rattle.xt_text.specs.Lines.{IsStep, answer_text, line_of, name_text, perm_text, request_text, sync_text, trans_text, ◌·◌, ◌␣◌};
 
 use crate::buffer::Text;
 use crate::fields::{then_ckpt, then_data, then_name, then_number, then_ok, then_trans, then_word};
@@ -110,6 +111,8 @@ fn put_request(out: &mut Text, request: &Request)
         }
         Request::Push => out.put(b"push"),
         Request::Shutdown => out.put(b"shutdown"),
+        Request::Freeze => out.put(b"freeze"),
+        Request::Thaw => out.put(b"thaw"),
         Request::Unmount => out.put(b"unmount"),
     }
 }
@@ -171,9 +174,9 @@ fn put_with_slot(out: &mut Text, word: &[u8], slot: Slot)
     then_number(out, slot.index() as u64);
 }
 
-/// Puts the line of a step, without a newline, behind what the buffer holds.
+/// Puts the line of a step.
 #[tactic(auto, using(crate::proofs::BufferLemmas::put_put, crate::proofs::BufferLemmas::put_none))]
-pub fn print_step(step: &Step, out: &mut Text)
+fn put_step(step: &Step, out: &mut Text)
     ensures { out.new ≡ put out.old (line_of step.now) }
 {
     match step {
@@ -214,4 +217,14 @@ pub fn print_step(step: &Step, out: &mut Text)
         Step::Show(slot) => put_with_slot(out, b"show", *slot),
         Step::Peek(slot) => put_with_slot(out, b"peek", *slot),
     }
+}
+
+/// Puts the line of a step, without a newline, behind what the buffer holds. A step that has a line of its own, as every
+/// parsed step has, is parsed from it again.
+#[tactic(auto, using(crate::proofs::ParseLemmas::parsed_again))]
+pub fn print_step(step: &Step, out: &mut Text)
+    ensures text { out.new ≡ put out.old (line_of step.now) }
+    ensures again { IsStep step.now → parsed (line_of step.now) ≡ Some step.now }
+{
+    put_step(step, out);
 }

@@ -12,8 +12,8 @@ use crate::data_text::{read_content, read_data};
 use crate::home_answers::home_of;
 use crate::numbers::number_of;
 use crate::words::{
-    BLANK, block_of, ckpt_of, cut, life_of, name_of, perm_of, slot_of, sync_of, trans_of, u32_of,
-    worker_of,
+    BLANK, block_of, ckpt_of, cut, is_word, life_of, name_of, perm_of, slot_of, sync_of, trans_of,
+    u32_of, worker_of,
 };
 use std::alloc::Global;
 use xt_base::names::{Block, Life, Slot, TransNo};
@@ -86,16 +86,20 @@ fn mount_request(verb: &[u8], words: &[u8]) -> Result<Request, BadLine>
     ensures valid { IfOk result IsRequest }
     ensures spelling { IfErr result (λ e. e ≡ Spelling) }
 {
-    if verb == b"force".as_slice() {
+    if is_word(verb, b"force") {
         Ok(Request::Force)
-    } else if verb == b"forceto".as_slice() {
+    } else if is_word(verb, b"forceto") {
         let number = ckpt_of(words)?;
         Ok(Request::ForceTo { number })
-    } else if verb == b"push".as_slice() {
+    } else if is_word(verb, b"push") {
         Ok(Request::Push)
-    } else if verb == b"shutdown".as_slice() {
+    } else if is_word(verb, b"shutdown") {
         Ok(Request::Shutdown)
-    } else if verb == b"unmount".as_slice() {
+    } else if is_word(verb, b"freeze") {
+        Ok(Request::Freeze)
+    } else if is_word(verb, b"thaw") {
+        Ok(Request::Thaw)
+    } else if is_word(verb, b"unmount") {
         Ok(Request::Unmount)
     } else {
         Err(BadLine::Spelling)
@@ -109,13 +113,13 @@ fn trans_request(verb: &[u8], words: &[u8]) -> Result<Request, BadLine>
     ensures valid { IfOk result IsRequest }
     ensures spelling { IfErr result (λ e. e ≡ Spelling) }
 {
-    if verb == b"commit".as_slice() {
+    if is_word(verb, b"commit") {
         let trans = trans_of(words)?;
         Ok(Request::Commit { trans })
-    } else if verb == b"roll".as_slice() {
+    } else if is_word(verb, b"roll") {
         let trans = trans_of(words)?;
         Ok(Request::Roll { trans })
-    } else if verb == b"cancel".as_slice() {
+    } else if is_word(verb, b"cancel") {
         let trans = trans_of(words)?;
         Ok(Request::Cancel { trans })
     } else {
@@ -130,25 +134,25 @@ fn own_request(verb: &[u8], words: &[u8]) -> Result<Request, BadLine>
     ensures valid { IfOk result IsRequest }
     ensures spelling { IfErr result (λ e. e ≡ Spelling) }
 {
-    if verb == b"get".as_slice() {
+    if is_word(verb, b"get") {
         let (trans, block) = own_of(words)?;
         Ok(Request::Get { trans, block })
-    } else if verb == b"view".as_slice() {
+    } else if is_word(verb, b"view") {
         let (trans, block) = own_of(words)?;
         Ok(Request::View { trans, block })
-    } else if verb == b"hold".as_slice() {
+    } else if is_word(verb, b"hold") {
         let (trans, block) = own_of(words)?;
         Ok(Request::Hold { trans, block })
-    } else if verb == b"unhold".as_slice() {
+    } else if is_word(verb, b"unhold") {
         let (trans, block) = own_of(words)?;
         Ok(Request::Unhold { trans, block })
-    } else if verb == b"relse".as_slice() {
+    } else if is_word(verb, b"relse") {
         let (trans, block) = own_of(words)?;
         Ok(Request::Relse { trans, block })
-    } else if verb == b"join".as_slice() {
+    } else if is_word(verb, b"join") {
         let (trans, block) = own_of(words)?;
         Ok(Request::Join { trans, block })
-    } else if verb == b"inval".as_slice() {
+    } else if is_word(verb, b"inval") {
         let (trans, block) = own_of(words)?;
         Ok(Request::Inval { trans, block })
     } else {
@@ -163,11 +167,11 @@ fn request_of(alloc: Global, verb: &[u8], words: &[u8]) -> Result<Request, BadLi
     ensures valid { IfOk result IsRequest }
     ensures memory { IsErrOf result Memory → IsTrue (takes_data verb.now) }
 {
-    if verb == b"alloc".as_slice() {
+    if is_word(verb, b"alloc") {
         alloc_of(words)
-    } else if verb == b"log".as_slice() {
+    } else if is_word(verb, b"log") {
         log_of(alloc, words)
-    } else if verb == b"drop".as_slice() {
+    } else if is_word(verb, b"drop") {
         drop_of(words)
     } else {
         own_request(verb, words)
@@ -184,7 +188,7 @@ fn answer_of(alloc: Global, words: &[u8]) -> Result<Answer, BadLine>
         return Ok(Answer::None);
     }
     let (_equals, given) = cut(words, BLANK);
-    if given == b"fail".as_slice() {
+    if is_word(given, b"fail") {
         Ok(Answer::Failed)
     } else {
         let content = read_content(alloc, given)?;
@@ -265,7 +269,7 @@ fn asked_of(
     ensures valid { IfOk result IsStep }
     ensures memory { IsErrOf result Memory → IsTrue (takes_data verb.now) }
 {
-    if verb == b"read".as_slice() {
+    if is_word(verb, b"read") {
         return read_of(alloc, slot, life, words);
     }
     let request = request_of(alloc, verb, words)?;
@@ -374,21 +378,21 @@ fn words_step(alloc: Global, word: &[u8], words: &[u8]) -> Result<Step, BadLine>
     ensures valid { IfOk result IsStep }
     ensures memory { IsErrOf result Memory → IsTrue (takes_words word.now words.now) }
 {
-    if word == b"mount".as_slice() {
+    if is_word(word, b"mount") {
         mount_of(words)
-    } else if word == b"post".as_slice() {
+    } else if is_word(word, b"post") {
         post_of(words)
-    } else if word == b"take".as_slice() {
+    } else if is_word(word, b"take") {
         take_of(words)
-    } else if word == b"begin".as_slice() {
+    } else if is_word(word, b"begin") {
         begin_of(words)
-    } else if word == b"end".as_slice() {
+    } else if is_word(word, b"end") {
         end_of(words)
-    } else if word == b"flush".as_slice() {
+    } else if is_word(word, b"flush") {
         flush_of(alloc, words)
-    } else if word == b"show".as_slice() {
+    } else if is_word(word, b"show") {
         show_of(words)
-    } else if word == b"peek".as_slice() {
+    } else if is_word(word, b"peek") {
         peek_of(words)
     } else {
         call_of(alloc, word, words)

@@ -5,6 +5,7 @@
 
 use crate::bad_line::BadLine;
 use crate::buffer::Text;
+use crate::line::Line;
 use crate::parse::parse_line;
 use crate::print_reply::{print_home_offer, print_log_offer, print_reply, print_slot_reply};
 use crate::print_step::print_step;
@@ -52,6 +53,10 @@ const STEPS: &[&str] = &[
     "0.1 forceto c0",
     "15.4294967295 forceto c18446744073709551615",
     "0.1 push",
+    "0.1 freeze",
+    "15.4294967295 freeze",
+    "0.1 thaw",
+    "15.4294967295 thaw",
     "0.1 shutdown",
     "0.1 unmount",
     "post 0.1.ckpt.1",
@@ -124,6 +129,19 @@ fn is_first_alone(bytes: &[u8], first: u8) -> bool {
         }
         [] => false,
     }
+}
+
+/// Whether a line is one that a session may have.
+fn is_in_session(alloc: Global, line: &str) -> Option<bool> {
+    let step = parse_line(alloc, line.as_bytes()).ok()?;
+    Some(Line(step).in_session())
+}
+
+#[test]
+fn sessions_freeze_and_thaw_and_do_not_unmount(rt: HostRuntime) {
+    assert!(rt; is_in_session(rt.alloc(), "0.1 freeze") == Some(true));
+    assert!(rt; is_in_session(rt.alloc(), "0.1 thaw") == Some(true));
+    assert!(rt; is_in_session(rt.alloc(), "0.1 unmount") == Some(false));
 }
 
 /// What a read was answered, where it is of block 7 in transaction 5: a content that is 11 and then 0, a failure, nothing, or another content.
@@ -269,6 +287,14 @@ const BAD_MOUNT_WORDS: &[&str] = &[
     "peek",
     "peek 16",
     "peek 0 0",
+    "0.1 freeze ",
+    "0.1 freeze t1",
+    "0.1 frozen",
+    "0.1 unfreeze",
+    "0.1 thaw 0",
+    "0.1 Thaw",
+    "freeze 0",
+    "thaw",
 ];
 
 /// Lines with other spaces, numbers and words.

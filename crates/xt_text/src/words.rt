@@ -3,6 +3,7 @@
 
 ghost use Rattle.std.specs.List.{position_or_len};
 ghost use Rattle.std.specs.Prelude.{◌≡◌, ◌==◌, ◌<◌, ◌^◌, IfErr, IfOk};
+ghost use Rattle.std.specs.Str.{bytes_eq};
 ghost use Rattle.xt_text.specs.LineReading.{before, behind, kind_of, lettered, name_of, perm_of, sync_of, u32_of};
 ghost use Rattle.xt_text.specs.Lines.{IsName};
 ghost use Rattle.xt_text.specs.Reading.{Gives, below, number_of};
@@ -15,6 +16,14 @@ use xt_base::sizes::{SLOTS, WORKERS};
 
 /// What stands between the words of a line.
 pub const BLANK: u8 = b' ';
+
+/// Whether a word is spelled so. The lengths are compared first, since that costs no call.
+#[inline(always)]
+pub(crate) fn is_word(word: &[u8], spelled: &[u8]) -> bool
+    ensures { result ≡ bytes_eq word.now spelled.now }
+{
+    word.len() == spelled.len() && word == spelled
+}
 
 /// The place of the first separator; the length of a text that has none.
 fn place_of(text: &[u8], separator: u8) -> usize
@@ -123,9 +132,9 @@ fn kind_of(word: &[u8]) -> Result<JobKind, BadLine>
     ensures value { Gives result (kind_of word.now) }
     ensures spelling { IfErr result (λ e. e ≡ Spelling) }
 {
-    if word == b"ckpt".as_slice() {
+    if is_word(word, b"ckpt") {
         Ok(JobKind::Ckpt)
-    } else if word == b"flush".as_slice() {
+    } else if is_word(word, b"flush") {
         Ok(JobKind::Flush)
     } else {
         Err(BadLine::Spelling)
@@ -160,9 +169,9 @@ pub(crate) fn perm_of(word: &[u8]) -> Result<bool, BadLine>
     ensures value { Gives result (perm_of word.now) }
     ensures spelling { IfErr result (λ e. e ≡ Spelling) }
 {
-    if word == b"plain".as_slice() {
+    if is_word(word, b"plain") {
         Ok(false)
-    } else if word == b"perm".as_slice() {
+    } else if is_word(word, b"perm") {
         Ok(true)
     } else {
         Err(BadLine::Spelling)
@@ -175,11 +184,11 @@ pub(crate) fn sync_of(word: &[u8]) -> Result<Option<bool>, BadLine>
     ensures value { Gives result (sync_of word.now) }
     ensures spelling { IfErr result (λ e. e ≡ Spelling) }
 {
-    if word == b"ok".as_slice() {
+    if is_word(word, b"ok") {
         Ok(Some(true))
-    } else if word == b"fail".as_slice() {
+    } else if is_word(word, b"fail") {
         Ok(Some(false))
-    } else if word == b"none".as_slice() {
+    } else if is_word(word, b"none") {
         Ok(None)
     } else {
         Err(BadLine::Spelling)

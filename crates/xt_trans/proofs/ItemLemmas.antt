@@ -3,7 +3,6 @@ use Rattle.std.proofs.Common.{◌≡◌, ◌∙◌, ◌+◌, ◌<◌, ◌≤◌,
 use Rattle.std.proofs.lemmas.Bool.{eq-eqb, false≢true, ne_eqb, or_parts}
 use Rattle.std.specs.List.{cons_option}
 use Rattle.std.specs.Prelude.{if◌then◌else◌, is_none, is_some, not, option_map, unwrap_or, ◌&&◌, ◌==◌, ◌||◌}
-use Rattle.xt_base.proofs.MapLemmas.{at_first, without_first}
 use Rattle.xt_base.proofs.RisingLemmas.{each_at, each_put, each_without, filter_pass, rises_put, rises_without}
 use Rattle.xt_base.proofs.ViewLemmas.{at_view, has_keys, keys_put, keys_put_none, keys_put_same, keys_without, put_without, view_put, view_put_none, view_put_same, view_without, without_none}
 use Rattle.xt_base.specs.Calls.{edited, invalidated, without_hold}
@@ -264,26 +263,8 @@ stale_dirty b i es are is dirty =
     let fits : IsItem i = each_at (λ e. IsItem e.1) b i es (sym is) are.fit in
     fits.stale ∙ ap (λ d. d && is_none i.edit) dirty
 
--- changes that begin with one have it at its block, and the others without the block
-pub first_is : (b : ℕ) (x : Change) (cs ds : List (ℕ × Change)) → cs ≡ (b, x) ∷ ds → cs ≡ (b, unwrap_or (at b cs) no_change) ∷ without b cs
-first_is b x cs ds is =
-    let there : at b cs ≡ Some x = ap (at b) is ∙ at_first b (b, x) ds refl in
-    let rest : without b cs ≡ ds = ap (without b) is ∙ without_first b (b, x) ds refl in
-    is ∙ ap (λ (y : Change). (b, y) ∷ ds) (sym (ap (λ o. unwrap_or o no_change) there)) ∙ ap (λ m. (b, unwrap_or (at b cs) no_change) ∷ m) (sym rest)
-
--- the first of the changes from a dirty entry on
-pub first_change : (e : ℕ × BufItem) (es : List (ℕ × BufItem)) → is_item_dirty e.1 ≡ true → (leg_of (e ∷ es)).changes ≡ (e.0, change_in e.1) ∷ (leg_of es).changes
-first_change e es dirty = ap (λ x. cons_option (option_map (λ (w : Change). (e.0, w)) (if x then Some (change_in e.1) else None)) (leg_of es).changes) dirty
-
 -- a leg before its first change was taken
 pub taken_leg : (old new : Leg) (b : ℕ) (x y : Change) → old.changes ≡ (b, x) ∷ without b old.changes → new ≡ record old { changes = without b old.changes } → x ≡ y
     → old ≡ record new { changes = (b, y) ∷ new.changes }
 taken_leg old new b x y first is same =
     leg_is first refl ∙ ap (λ (z : Change). leg ((b, z) ∷ without b old.changes) old.holds) same ∙ sym (ap (λ (n : Leg). record n { changes = (b, y) ∷ n.changes }) is)
-
--- a block with an entry that says something has one
-pub dirty_there : (b : ℕ) (es : List (ℕ × BufItem)) → is_item_dirty (item_at b es) ≡ true → is_in b es ≡ false → ⊥
-dirty_there b es dirty absent = false≢true (sym (ap is_item_dirty (item_absent b es absent)) ∙ dirty)
-
-pub held_there : (b : ℕ) (es : List (ℕ × BufItem)) → is_item_held (item_at b es) ≡ true → is_in b es ≡ false → ⊥
-held_there b es held absent = false≢true (sym (ap is_item_held (item_absent b es absent)) ∙ held)

@@ -5,4 +5,4 @@
 mod tests;
 pub mod trans;
 
-pub use trans::{BufItem, Change, TransRec};
+pub use trans::{Change, TransRec};

@@ -26,7 +26,7 @@ use xt_base::sizes::{BUSY_BLOCKS, CHUNK_COST, CHUNKS, ITEM_COST, MOST_ENDS, ROOM
 /// What a leg did to one block, after `xfs_buf_log_item`: its marks, the bytes, if it was changed, the chunks marked, and
 /// the chunks charged.
 #[derive(Debug, Drop)]
-pub struct BufItem {
+struct BufItem {
     marks: ItemMarks,
     edit: Option<Content>,
     chunks: Chunks,
@@ -156,7 +156,8 @@ impl TransRec {
         ensures range { result ≤ MOST_ENDS + 2 * ROOM * (ITEM_COST + CHUNK_COST * CHUNKS) }
     {
         let entries = self.items.entries();
-        let total = standing(list.entries()) + gained(entries, list) - lost(entries, list);
+        let (gained, lost) = gained_and_lost(entries, list);
+        let total = standing(list.entries()) + gained - lost;
         if total == 0 {
             0
         } else {
@@ -172,11 +173,9 @@ impl TransRec {
         ensures charge { (ends : ℕ) → charge ends (edited block [] marked self.now).changes ≡ charge ends self.now.changes + (if is_dirty self.now then 0 else ends) + ITEM_COST * result.blocks + CHUNK_COST * result.chunks }
     {
         let _ = &self.items;
+        let blocks = self.new_blocks(block);
         let chunks = self.charged_of(block).lacks(marked);
-        Newly {
-            blocks: if self.is_changed(block) { 0 } else { 1 },
-            chunks,
-        }
+        Newly { blocks, chunks }
     }
 
     /// What the leg would charge anew, were a block invalidated too.
@@ -186,10 +185,15 @@ impl TransRec {
         ensures charge { (ends : ℕ) → charge ends (invalidated_leg block self.now).changes ≡ charge ends self.now.changes + (if is_dirty self.now then 0 else ends) + ITEM_COST * result.blocks + CHUNK_COST * result.chunks }
     {
         let _ = &self.items;
-        Newly {
-            blocks: if self.is_changed(block) { 0 } else { 1 },
-            chunks: 0,
-        }
+        let blocks = self.new_blocks(block);
+        Newly { blocks, chunks: 0 }
+    }
+
+    /// How many blocks the leg would charge anew, were this one changed too: none that it changed or invalidated before.
+    fn new_blocks(&self, block: u64) -> u32
+        ensures { result ≡ (if is_in block self.now.changes then 0 else 1) }
+    {
+        if self.is_changed(block) { 0 } else { 1 }
     }
 
     /// The chunks charged for a block.
@@ -341,30 +345,22 @@ fn loss(item: &BufItem, old: Option<&Chunks>) -> u64
     }
 }
 
-/// What the items of changed blocks cost on a commit list with the marks of these entries.
-fn gained(items: &[(u64, BufItem)], list: &NumberMap<Chunks>) -> u64
+/// What the items of changed blocks cost on a commit list, with the marks of these entries and without them.
+fn gained_and_lost(items: &[(u64, BufItem)], list: &NumberMap<Chunks>) -> (u64, u64)
     requires { length items.now ≤ ROOM }
-    ensures value { result ≡ sum_by (gain_in list.now) items.now }
-    ensures range { result ≤ ROOM * (ITEM_COST + CHUNK_COST * CHUNKS) }
+    ensures gained { result.0 ≡ sum_by (gain_in list.now) items.now }
+    ensures lost { result.1 ≡ sum_by (loss_in list.now) items.now }
+    ensures most_gained { result.0 ≤ ROOM * (ITEM_COST + CHUNK_COST * CHUNKS) }
+    ensures most_lost { result.1 ≤ ROOM * (ITEM_COST + CHUNK_COST * CHUNKS) }
 {
-    let mut total = 0;
+    let mut gained = 0;
+    let mut lost = 0;
     for e in items {
-        total += gain(&e.1, list.get(e.0));
+        let old = list.get(e.0);
+        gained += gain(&e.1, old);
+        lost += loss(&e.1, old);
     }
-    total
-}
-
-/// What the items of changed blocks cost on a commit list without them.
-fn lost(items: &[(u64, BufItem)], list: &NumberMap<Chunks>) -> u64
-    requires { length items.now ≤ ROOM }
-    ensures value { result ≡ sum_by (loss_in list.now) items.now }
-    ensures range { result ≤ ROOM * (ITEM_COST + CHUNK_COST * CHUNKS) }
-{
-    let mut total = 0;
-    for e in items {
-        total += loss(&e.1, list.get(e.0));
-    }
-    total
+    (gained, lost)
 }
 
 /// The block of a number.

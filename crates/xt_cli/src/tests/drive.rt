@@ -1,6 +1,6 @@
 //! One mount, driven call by call over devices in memory.
 
-ghost use Rattle.std.specs.Prelude.{◌≡◌, All, length, true, IfOk};
+ghost use Rattle.std.specs.Prelude.{◌≡◌, ◌<◌, ◌≤◌, All, length, true, IfOk};
 ghost use Rattle.xt_base.specs.Calls.{asks};
 ghost use Rattle.xt_base.specs.Jobs.{fits_plan, flush_plan, is_begun, is_waiting};
 ghost use Rattle.xt_base.specs.Maps.{is_in};
@@ -11,6 +11,7 @@ use std::alloc::Global;
 use std::test::Fail;
 use xt_base::content::Content;
 use xt_base::names::{Block, JobName, Life, Slot};
+use xt_base::outcomes::Outcomes;
 use xt_base::steps::{Answer, HomeAnswers, LogOffer, Reply, Request, Step};
 use xt_dev::call::HomeCall;
 use xt_dev::home::HomeDevice;
@@ -84,6 +85,30 @@ pub fn home_lines(alloc: Global, slot: Slot, calls: &[HomeCall]) -> Result<Vec<u
             print_home_offer(slot, offer, &mut text);
             put_line(&mut lines, &text)?;
         }
+    }
+    Ok(lines)
+}
+
+/// The lines of what a run tells that a slot offered to its log device.
+pub fn told_log_lines(alloc: Global, slot: Slot, told: &Outcomes) -> Result<Vec<u8>, Fail> {
+    let mut lines = Vec::new(alloc);
+    let mut text = Text::new(alloc)?;
+    for offer in told.log_offers(alloc, slot)? {
+        text.clear();
+        print_log_offer(slot, offer, &mut text);
+        put_line(&mut lines, &text)?;
+    }
+    Ok(lines)
+}
+
+/// The same of its home device.
+pub fn told_home_lines(alloc: Global, slot: Slot, told: &Outcomes) -> Result<Vec<u8>, Fail> {
+    let mut lines = Vec::new(alloc);
+    let mut text = Text::new(alloc)?;
+    for offer in told.home_offers(alloc, slot)? {
+        text.clear();
+        print_home_offer(slot, offer, &mut text);
+        put_line(&mut lines, &text)?;
     }
     Ok(lines)
 }
@@ -174,48 +199,57 @@ fn end(mount: &mut Mount, log: &mut dyn LogDevice, name: JobName) -> Result<Repl
     Ok(mount.end(name, answers))
 }
 
-/// The writes of these blocks, each with its committed content.
-fn writes_of<'a>(
-    alloc: Global,
-    mount: &'a Mount,
-    blocks: &[Block],
-) -> Result<Vec<(Block, &'a [u8])>, Fail>
-    requires { All (λ b. is_in b mount.now.frames.committed ≡ true) blocks.now }
-    ensures count { IfOk result (λ writes. length writes.items ≡ length blocks.now) }
-    ensures whole { IfOk result (λ writes. All (λ w. length w.1.now ≡ 4096) writes.items) }
+/// The write at a place of a plan: its block with the committed content. Behind its end it is the last write again.
+fn write_at<'a>(mount: &'a Mount, blocks: &[Block], place: usize) -> (Block, &'a [u8])
+    requires some { 0 < length blocks.now }
+    requires committed { All (λ b. is_in b mount.now.frames.committed ≡ true) blocks.now }
+    ensures { length result.1.now ≡ 4096 }
 {
-    let mut writes = Vec::new(alloc);
-    for block in blocks {
-        match mount.committed(*block) {
-            Some(content) => writes.push((*block, content))?,
-            None => unreachable!(),
-        }
+    let block = blocks[place.min(blocks.len() - 1)];
+    match mount.committed(block) {
+        Some(content) => (block, content),
+        None => unreachable!(),
     }
-    Ok(writes)
 }
 
-/// What the home device answers to the writes of a flush: each block of its plan with the committed content.
-fn written(alloc: Global, mount: &Mount, home: &mut dyn HomeDevice) -> Result<HomeAnswers, Fail>
-    ensures { IfOk result (λ answers. fits_plan answers (flush_plan mount.now) ≡ true) }
+/// What the home device answers to the writes of these blocks, at most 8, each with its committed content.
+fn written_blocks(mount: &Mount, home: &mut dyn HomeDevice, blocks: &[Block]) -> HomeAnswers
+    requires few { length blocks.now ≤ 8 }
+    requires committed { All (λ b. is_in b mount.now.frames.committed ≡ true) blocks.now }
+    ensures { result.count ≡ length blocks.now }
+{
+    if blocks.is_empty() {
+        return offer_home(home, &[]);
+    }
+    let writes = [
+        write_at(mount, blocks, 0),
+        write_at(mount, blocks, 1),
+        write_at(mount, blocks, 2),
+        write_at(mount, blocks, 3),
+        write_at(mount, blocks, 4),
+        write_at(mount, blocks, 5),
+        write_at(mount, blocks, 6),
+        write_at(mount, blocks, 7),
+    ];
+    offer_home(home, &writes[..blocks.len()])
+}
+
+/// What the home device answers to the writes of a flush.
+fn written(mount: &Mount, home: &mut dyn HomeDevice) -> HomeAnswers
+    ensures { fits_plan result (flush_plan mount.now) ≡ true }
 {
     let Ok(plan) = mount.flush_plan() else {
         unreachable!();
     };
-    let writes = writes_of(alloc, mount, plan.blocks())?;
-    Ok(offer_home(home, &writes))
+    written_blocks(mount, home, plan.blocks())
 }
 
 /// Ends a flush by what the home device answers.
-fn flush(
-    alloc: Global,
-    mount: &mut Mount,
-    home: &mut dyn HomeDevice,
-    name: JobName,
-) -> Result<Reply, Fail> {
+fn flush(mount: &mut Mount, home: &mut dyn HomeDevice, name: JobName) -> Result<Reply, Fail> {
     if name.kind.is_ckpt() || !is_waiting(mount, &name) {
         return Err(Fail::from("no such flush waits"));
     }
-    let answers = written(alloc, mount, home)?;
+    let answers = written(mount, home);
     Ok(mount.flush(name, answers))
 }
 
@@ -233,7 +267,7 @@ fn take(
         Step::Take { .. } => Ok(Reply::Okay),
         Step::Begin { name, .. } => begin(mount, name),
         Step::End { name, .. } => end(mount, log, name),
-        Step::Flush { name, .. } => flush(alloc, mount, home, name),
+        Step::Flush { name, .. } => flush(mount, home, name),
         Step::Mount { .. } | Step::Show(_) | Step::Peek(_) => Err(Fail::from("no step of a mount")),
     }
 }

@@ -2,6 +2,7 @@
 
 use super::asked::*;
 use super::buffers::*;
+use super::frozen::*;
 use super::home::*;
 use super::idle::{BUSY_IN, BUSY_OUT};
 use super::longest::*;
@@ -163,6 +164,34 @@ pub const GIVEN_UP: &[Script] = &[
         BEGIN_CLEARS_IN,
         BEGIN_CLEARS_OUT,
         3,
+    ),
+];
+
+/// Mounts that are frozen and thawed.
+pub const FROZEN: &[Script] = &[
+    (
+        "a frozen mount opens no transaction and ends the open ones",
+        FROZEN_IN,
+        FROZEN_OUT,
+        0,
+    ),
+    (
+        "a mount is frozen beside one that is not",
+        FROZEN_BESIDE_IN,
+        FROZEN_BESIDE_OUT,
+        0,
+    ),
+    (
+        "what a frozen mount refuses asks for no job",
+        FROZEN_ASKS_NOTHING_IN,
+        FROZEN_ASKS_NOTHING_OUT,
+        3,
+    ),
+    (
+        "a shutdown keeps the mark, and a thaw or an unmount ends it",
+        FROZEN_LIFE_IN,
+        FROZEN_LIFE_OUT,
+        0,
     ),
 ];
 

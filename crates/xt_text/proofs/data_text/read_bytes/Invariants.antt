@@ -5,6 +5,6 @@ use Rattle.xt_text.proofs.data_text.read_bytes.Given as goal
 
 abbrev pub invariant-loop-c : goal.invariant-loop-c
 invariant-loop-c l = record {
-  rest : reads l.bytes.items l.place (drop l.c-index l.text) ≡ reads [] Front l.text;
+  rest : reads l.bytes.items l.place (drop l.c-index l.rest) ≡ reads [] Front l.fn.text;
   short : length l.bytes.items ≤ 4096;
 }

@@ -16,4 +16,4 @@ returns-clause-order c = λ h a n. sym c.if-not-can_take.false ∙ c.can_take.en
 pub returns-clause-reply : goal.returns-clause-reply
 returns-clause-reply c = λ h a n went.
     reply_is h c.args.self.now c.args.step a n c.serve.result c.serve.new.self
-    (by_false (is_no_memory c.serve.result) (IsKept c.serve.new.self c.args.self.now) (IsTaken c.args.step c.serve.result c.serve.new.self c.args.self.now) went c.serve.ensures.stepped.went)
+    (by_false (is_no_memory c.serve.result) (IsKept c.args.step c.serve.new.self c.args.self.now) (IsTaken c.args.step c.serve.result c.serve.new.self c.args.self.now) went c.serve.ensures.stepped.went)

@@ -2,7 +2,8 @@ use Rattle.std.proofs.Common.{ap, arith, length, sym}
 use Rattle.xt_base.proofs.SoundBounds.{few_holds}
 use Rattle.xt_base.specs.State.{Leg}
 use Rattle.xt_mount.specs.Machines.{state_of}
+use Rattle.xt_mount.proofs.EndLemmas.{named}
 use Rattle.xt_mount.proofs.machine.Machine.commit.Goals as goal
 
 pub held-requires : goal.held-requires
-held-requires c = omega (arith, few_holds (state_of c.args.self.now) c.requires c.args.trans c.in-Some.opened.now (sym c.in-Some.ensures), ap (λ (l : Leg). length l.holds) c.leg.ensures)
+held-requires c = omega (arith, few_holds (state_of c.args.self.now) c.requires c.args.trans c.in-Some.opened.now (sym (named (state_of c.args.self.now).transactions c.in-Some.ensures c.trans.view_is)), ap (λ (l : Leg). length l.holds) c.leg.ensures)

@@ -6,7 +6,7 @@ use Rattle.xt_base.specs.declared.names.JobKind.{JobKind}
 use Rattle.xt_base.specs.declared.steps.Reply.{Reply}
 use Rattle.xt_jobs.specs.Tables.{Table}
 use Rattle.xt_mount.proofs.machine.Machine.flushed.Goals as goal
-use Rattle.xt_mount.specs.Journals.{Pages}
+use Rattle.xt_mount.specs.Accounts.{AccountsState}
 use Rattle.xt_mount.specs.Machines.{state_of}
 use Rattle.xt_mount.specs.declared.machine.Machine.{Machine}
 
@@ -16,5 +16,5 @@ returns c =
     let answers = c.args.answers.now in
     ap (λ n. gives (Reply.Flushed n) (state_of c.settle.new.self)) c.flush_done-count.ensures.count
     ∙ ap (gives (Reply.Flushed (length (gone c.args.plan.now answers)))) (c.settle.ensures ∙ ap (settled []) (c.renew_asking.ensures
-    ∙ ap (λ (t : Table). renewed answers (state_of (record machine { journal = c.flush_done-count.new.self; jobs = t }))) c.finish.ensures
-    ∙ ap (λ (j : Pages). renewed answers (finished JobKind.Flush (state_of (record machine { journal = j })))) c.flush_done-count.ensures.pages))
+    ∙ ap (λ (t : Table). renewed answers (state_of (record machine { accounts = c.flush_done-count.new.self; jobs = t }))) c.finish.ensures
+    ∙ ap (λ (j : AccountsState). renewed answers (finished JobKind.Flush (state_of (record machine { accounts = j })))) c.flush_done-count.ensures.accounts))

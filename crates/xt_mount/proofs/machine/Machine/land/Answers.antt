@@ -18,4 +18,4 @@ returns c =
     let s : State = state_of c.args.self.now in
     let machine : Machine = c.args.self.now in
     landed_is s c.args.number c.free_stale.new.self c.land.new.self _ (state_of c.settle.new.self) c.requires.flying c.free_stale.ensures c.land.ensures refl
-    (c.settle.ensures ∙ ap (λ (t : Table). settled [] (state_of (record machine { locks = c.free_stale.new.self; journal = c.land.new.self; jobs = t }))) c.finish.ensures)
+    (c.settle.ensures ∙ ap (λ (t : Table). settled [] (state_of (record machine { locks = c.free_stale.new.self; accounts = c.land.new.self; jobs = t }))) c.finish.ensures)

@@ -16,7 +16,7 @@ write_checkpoint-requires-clause-count c =
 
 pub write_checkpoint-requires-clause-rising : goal.write_checkpoint-requires-clause-rising
 write_checkpoint-requires-clause-rising c =
-    subst BlocksRise (sym c.deref.ensures.value) (blocks_rise c.args.self.now.journal.items.cil c.in_ok-items.items.items c.requires.sound.parts.cil_rises c.in_ok-items.ensures.blocks)
+    subst BlocksRise (sym c.deref.ensures.value) (blocks_rise c.args.self.now.accounts.items.cil c.in_ok-items.items.items c.requires.sound.parts.cil_rises c.in_ok-items.ensures.blocks)
 
-pub items_now-items-requires : goal.items_now-items-requires
-items_now-items-requires c = text_committed (state_of c.args.self.now) c.requires.sound c.requires.live
+pub items_now-requires : goal.items_now-requires
+items_now-requires c = text_committed (state_of c.args.self.now) c.requires.sound c.requires.live

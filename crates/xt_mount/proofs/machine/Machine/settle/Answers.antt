@@ -7,4 +7,4 @@ use Rattle.xt_mount.proofs.machine.Machine.settle.Goals as goal
 pub returns : goal.returns
 returns c =
     settled_is (state_of c.args.self.now) c.settle_fresh.new.frames c.is_none-is_live.result (none_is c.args.self.now.shut c.is_none-is_live.result c.is_none-is_live.ensures)
-    (c.settle_fresh.ensures ∙ ap (settled_fresh (is_busy_in c.args.self.now.locks c.args.self.now.journal.items)) c.settle_contents.ensures)
+    (c.settle_fresh.ensures ∙ ap (settled_fresh (is_busy_in c.args.self.now.locks c.args.self.now.accounts.items)) c.settle_contents.ensures)

@@ -1,7 +1,6 @@
 use Rattle.std.proofs.Common.{subst, sym}
 use Rattle.std.specs.Prelude.{All}
 use Rattle.std.specs.Prelude.{◌≡◌, true}
-use Rattle.xt_base.specs.Jobs.{flush_plan}
 use Rattle.xt_base.specs.Maps.{is_in}
 use Rattle.xt_base.specs.State.{State}
 use Rattle.xt_mount.specs.Machines.{state_of}

@@ -9,5 +9,6 @@ use Rattle.xt_mount.proofs.open_trans.OpenTrans.fits_logged.Goals as goal
 pub returns : goal.returns
 returns c =
     let leg = c.self.inside.leg in
-    c.fits.ensures ∙ fits_anew c.args.form.ends leg (edited c.args.block [] c.args.marked leg) c.self.inside.ticket c.newly_logged.result c.self.invariant c.newly_logged.ensures.charge
-    ∙ ap (λ (t : Transaction). nat_le (charge c.args.form.ends (edited c.args.block [] c.args.marked t.leg).changes) t.unit) c.self.view_is
+    c.fits.ensures ∙ fits_anew c.args.form.ends leg (edited c.block.inside.0 [] c.args.marked leg) c.self.inside.ticket c.newly_logged.result c.self.invariant c.newly_logged.ensures.charge
+    ∙ ap (λ (t : Transaction). nat_le (charge c.args.form.ends (edited c.block.inside.0 [] c.args.marked t.leg).changes) t.unit) c.self.view_is
+    ∙ ap (λ b. nat_le (charge c.args.form.ends (edited b [] c.args.marked c.args.self.now.leg).changes) c.args.self.now.unit) c.block.view_is

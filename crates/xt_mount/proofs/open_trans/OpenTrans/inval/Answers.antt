@@ -1,4 +1,4 @@
-use Rattle.std.proofs.Common.{◌∙◌, ◌≡◌, ◌≤◌, ap, sym, subst}
+use Rattle.std.proofs.Common.{◌∙◌, ◌≤◌, ap, sym, subst}
 use Rattle.std.proofs.lemmas.Bool.{le-leb}
 use Rattle.std.specs.Prelude.{sum_by}
 use Rattle.xt_base.specs.Calls.{invalidated}

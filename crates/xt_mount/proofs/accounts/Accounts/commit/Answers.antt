@@ -1,0 +1,18 @@
+use Rattle.std.proofs.Common.{◌∙◌, ◌*◌, ap, arith, sym}
+use Rattle.xt_items.specs.Lists.{Lists}
+use Rattle.xt_resv.specs.Ledgers.{Grant, Ledger}
+use Rattle.xt_resv.specs.Mounts.{flight_of}
+use Rattle.xt_mount.proofs.AccountsLemmas.{covered, granted_out}
+use Rattle.xt_mount.proofs.accounts.Accounts.commit.Goals as goal
+
+pub commit-requires-clause-granted : goal.commit-requires-clause-granted
+commit-requires-clause-granted c =
+    covered c.args.trans c.in-Some.opened c.self.inside.transactions _ (sym c.remove.ensures.value ∙ c.in-Some.is) c.remove.ensures.rest c.into_parts-ticket.result.0 c.self.inside.space.granted c.into_parts-ticket.ensures.ticket c.self.invariant.0
+
+pub invariant_of-self : goal.invariant_of-self
+invariant_of-self c =
+    let left = granted_out c.args.trans c.in-Some.opened c.self.inside.transactions _ (sym c.remove.ensures.value ∙ c.in-Some.is) c.remove.ensures.rest in (
+      omega (arith, left, c.self.invariant.0, ap (λ (l : Ledger). l.granted) c.commit.ensures, ap (λ (g : Grant). g.unit * g.legs) c.into_parts-ticket.ensures.ticket),
+      ap (λ (l : Ledger). l.cil) c.commit.ensures ∙ c.cil_cost.ensures.value,
+      ap (λ (l : Ledger). l.flight) c.commit.ensures ∙ c.self.invariant.2 ∙ ap (λ (l : Lists). flight_of c.self.inside.form.ends l.flight) (sym c.keep_changes.ensures.cil),
+    )

@@ -1,8 +1,0 @@
-use Rattle.xt_base.specs.Jobs.{gone}
-use Rattle.xt_mount.proofs.JournalLemmas.{cleaned_pages}
-use Rattle.xt_mount.proofs.journal.Journal.flush_done.Goals as goal
-
-pub returns-clause-pages : goal.returns-clause-pages
-returns-clause-pages c =
-    cleaned_pages c.self.inside.form c.self.inside.transactions (gone c.args.plan.now c.args.answers.now) c.self.inside.items c.flush_done-count.new.self c.self.inside.space c.tail.new.self c.least.result c.args.self.now c.self.view_is
-    c.flush_done-count.ensures.lists c.tail.ensures c.least.ensures

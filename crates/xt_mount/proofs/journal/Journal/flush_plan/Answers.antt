@@ -1,8 +1,0 @@
-use Rattle.std.proofs.Common.{◌∙◌, ap, rules}
-use Rattle.xt_base.specs.Maps.{is_in}
-use Rattle.xt_items.specs.Plans.{planned}
-use Rattle.xt_mount.proofs.journal.Journal.flush_plan.Goals as goal
-use Rattle.xt_mount.specs.Journals.{Pages, lists_in}
-
-pub returns : goal.returns
-returns c = c.flush_plan.ensures (λ b. is_in b c.args.locks.now) (λ b o post. search rules) ∙ ap (λ (j : Pages). planned (λ b. is_in b c.args.locks.now) (lists_in j)) c.self.view_is

@@ -1,0 +1,65 @@
+-- A accounts: the size of the log, the form of the mount, the open transactions, and the item lists.
+use Rattle.std.specs.Prelude.{ℕ, List, [], None, Some, ◌+◌, sum_by}
+use Rattle.xt_base.specs.Form.{Form}
+use Rattle.xt_base.specs.Jobs.{cleaned, landed_items}
+use Rattle.xt_base.specs.Legs.{clean_leg, with_marks}
+use Rattle.xt_base.specs.Maps.{put, set_at, without}
+use Rattle.xt_base.specs.Space.{cost, flight_items, granted}
+use Rattle.xt_base.specs.State.{Flight, Items, Leg, Transaction}
+use Rattle.xt_items.specs.Lists.{Lists}
+use Rattle.xt_resv.specs.Ledgers.{Grant}
+
+-- the log bytes, the form, the open transactions by number, and the lists
+pub record AccountsState : Type 0 where
+  pub log_bytes : ℕ
+  pub form : Form
+  pub transactions : List (ℕ × Transaction)
+  pub items : Items
+
+-- a accounts of which nothing is in use
+abbrev pub no_accounts : ℕ → Form → AccountsState
+no_accounts log_bytes form = record { log_bytes = log_bytes; form = form; transactions = []; items = record { open_number = 1; cil = []; flight = None; ail = []; landed = [] } }
+
+-- the log bytes in use
+abbrev pub used_in : AccountsState → ℕ
+used_in j = granted j.transactions + cost j.form.ends j.items.cil + cost j.form.ends (flight_items j.items.flight) + sum_by (λ e. e.1) j.items.landed
+
+-- a transaction with a grant and a leg
+abbrev pub opened_with : Grant → Leg → Transaction
+opened_with t leg = record { unit = t.unit; legs = t.legs; perm = t.perm; leg = leg }
+
+-- one more open transaction
+abbrev pub opened_in : ℕ → Transaction → AccountsState → AccountsState
+opened_in t trans j = record j { transactions = put t trans j.transactions }
+
+-- an open transaction with another leg
+abbrev pub releg : ℕ → Transaction → Leg → AccountsState → AccountsState
+releg t trans leg j = record j { transactions = set_at t (record trans { leg = leg }) j.transactions }
+
+-- a transaction is closed
+abbrev pub closed_in : ℕ → AccountsState → AccountsState
+closed_in t j = record j { transactions = without t j.transactions }
+
+-- the marks of its leg are joined to the commit list
+abbrev pub marked_in : Transaction → AccountsState → AccountsState
+marked_in trans j = record j { items = record j.items { cil = with_marks trans.leg.changes j.items.cil } }
+
+-- a clean leg with so many legs left
+abbrev pub legs_in : ℕ → ℕ → Transaction → AccountsState → AccountsState
+legs_in t legs trans j = record j { transactions = set_at t (record trans { legs = legs; leg = clean_leg }) j.transactions }
+
+-- the commit list becomes the flight, with these pieces, and the next number opens
+abbrev pub flown_in : List (List ℕ) → AccountsState → AccountsState
+flown_in ps j = record j { items = record j.items { open_number = j.items.open_number + 1; cil = []; flight = Some (record { number = j.items.open_number; items = j.items.cil; pieces = ps }) } }
+
+-- the flight has landed
+abbrev pub landed_in : Flight → AccountsState → AccountsState
+landed_in f j = record j { items = landed_items j.form.ends f j.items }
+
+-- the lists without what landed checkpoints cost
+abbrev pub lists_in : AccountsState → Lists
+lists_in j = record { open_number = j.items.open_number; cil = j.items.cil; flight = j.items.flight; ail = j.items.ail }
+
+-- these blocks were written home
+abbrev pub cleaned_in : List ℕ → AccountsState → AccountsState
+cleaned_in blocks j = record j { items = cleaned blocks j.items }

@@ -1,0 +1,510 @@
+//! The accounts of a mount: its open transactions with their tickets, its item lists, and the log space that both use.
+
+ghost use Rattle.std.specs.Prelude.{◌≡◌, ◌+◌, ◌*◌, ◌≤◌, ◌<◌, ◌||◌, [], Some, None, false, true, is_none, is_some, length, nat_le, nat_lt, not, ◌==◌, IfOk, IfSome, OnOk, OnErr, option_copied};
+ghost use Rattle.xt_base.specs.Calls.{edited, invalidated, legs_after, new_trans, without_hold};
+ghost use Rattle.xt_base.specs.Jobs.{fits_plan, flight_pieces, gone};
+ghost use Rattle.xt_base.specs.Legs.{clean_leg, with_marks};
+ghost use Rattle.xt_base.specs.Maps.{at, has, is_in, with_member};
+ghost use Rattle.xt_base.specs.Sound.{AllBelow, IsRising};
+ghost use Rattle.xt_base.specs.Space.{charge, cost, flight_items, granted, is_listed};
+ghost use Rattle.xt_mount.specs.Ending.{edits_kept, leg_lost};
+ghost use Rattle.xt_mount.specs.Accounts.{cleaned_in, closed_in, flown_in, landed_in, legs_in, lists_in, marked_in, no_accounts, opened_in, releg, used_in};
+ghost use Rattle.xt_items.specs.Lists.{flight_number};
+ghost use Rattle.xt_items.specs.Plans.{due, planned};
+ghost use Rattle.xt_resv.specs.Ledgers.{is_invalid, is_no_room};
+ghost use Rattle.xt_resv.specs.Mounts.{grant_of, ledger};
+
+use crate::leg_end::{keep_changes, lose_leg};
+use crate::open_trans::OpenTrans;
+use bytes::Bytes;
+use std::alloc::{AllocError, Global};
+use std::marker::Model;
+use xt_base::chunks::Chunks;
+use xt_base::content::Content;
+use xt_base::form::Form;
+use xt_base::map::NumberMap;
+use xt_base::names::{Block, CkptNo};
+use xt_base::sizes::{MOST_LOG, ROOM};
+use xt_base::steps::HomeAnswers;
+use xt_frames::frames::Frames;
+use xt_items::items::Items;
+use xt_items::plan::FlushPlan;
+use xt_locks::locks::Locks;
+use xt_resv::space::LogSpace;
+use xt_trans::trans::TransRec;
+
+/// The open transactions of a mount, its item lists, and its log space, which has what both use: what each ticket was
+/// granted, and what each list costs. Clauses see the transactions and the lists.
+#[derive(Debug)]
+pub struct Accounts {
+    transactions: NumberMap<OpenTrans>,
+    items: Items,
+    space: LogSpace,
+    form: Form,
+    /// The leg of a transaction that ended, for a later one.
+    spare: Option<TransRec>,
+}
+
+impl Model for Accounts {
+    ghost use Rattle.std.specs.Prelude.{◌≡◌};
+    ghost use Rattle.xt_base.specs.Space.{cost, granted};
+    ghost use Rattle.xt_mount.specs.Accounts.{AccountsState};
+    ghost use Rattle.xt_items.specs.Lists.{with_landed};
+    ghost use Rattle.xt_resv.specs.Mounts.{flight_of};
+
+    ghost Value = { AccountsState };
+
+    ghost view = { λ j. record { log_bytes = j.space.size; form = j.form; transactions = j.transactions; items = with_landed j.space.landed j.items } };
+
+    ghost invariant = { λ j. (j.space.granted ≡ granted j.transactions) × (j.space.cil ≡ cost j.form.ends j.items.cil) × (j.space.flight ≡ flight_of j.form.ends j.items.flight) };
+}
+
+impl Drop for Accounts {
+    fn drop(self) {
+        let Accounts {
+            mut transactions,
+            items: _items,
+            mut space,
+            form: _form,
+            spare: _spare,
+        } = self;
+        give_all_back(&mut transactions, &mut space);
+        transactions.destroy_empty();
+    }
+}
+
+/// Gives the tickets of all open transactions back.
+fn give_all_back(transactions: &mut NumberMap<OpenTrans>, space: &mut LogSpace)
+    requires { granted transactions.old ≤ space.old.granted }
+    ensures { transactions.new ≡ [] }
+{
+    while let Some((_, opened)) = transactions.pop_first() {
+        let (ticket, _leg) = opened.into_parts();
+        space.give_back(ticket);
+    }
+}
+
+/// A leg that did nothing: the spare one, or a new one. The one error is want of memory.
+fn clean_leg_of(spare: &mut Option<TransRec>, alloc: Global) -> Result<TransRec, AllocError>
+    ensures { IfOk result (λ leg. leg ≡ clean_leg) }
+{
+    match spare.take() {
+        Some(mut leg) => {
+            leg.next_leg();
+            Ok(leg)
+        }
+        None => TransRec::new(alloc),
+    }
+}
+
+impl Accounts {
+    /// A accounts of a log of so many bytes, at most 16,777,216, of which nothing is in use, in a mount of this form. The one
+    /// error is want of memory.
+    pub fn new(alloc: Global, form: Form, log_bytes: u32) -> Result<Self, AllocError>
+        requires { log_bytes ≤ MOST_LOG }
+        ensures { IfOk result (λ accounts. accounts ≡ no_accounts log_bytes form) }
+    {
+        let items = Items::new(alloc)?;
+        let transactions = NumberMap::new(alloc)?;
+        Ok(Accounts {
+            transactions,
+            items,
+            space: LogSpace::new(alloc, log_bytes),
+            form,
+            spare: None,
+        })
+    }
+
+    // ---- what it has
+    /// The log bytes.
+    pub fn log_bytes(&self) -> u32
+        ensures { result ≡ self.now.log_bytes }
+    {
+        self.space.size()
+    }
+
+    /// The form of the mount.
+    pub fn form(&self) -> Form
+        ensures { result ≡ self.now.form }
+    {
+        self.form
+    }
+
+    /// The open transaction of a number.
+    pub fn get(&self, trans: u64) -> Option<&OpenTrans>
+        ensures { option_copied result ≡ at trans self.now.transactions }
+    {
+        self.transactions.get(trans)
+    }
+
+    /// Whether a transaction is open.
+    pub fn is_open(&self, trans: u64) -> bool
+        ensures { result ≡ is_in trans self.now.transactions }
+    {
+        self.transactions.contains(trans)
+    }
+
+    /// How many transactions are open.
+    pub fn open_count(&self) -> usize
+        ensures { result ≡ length self.now.transactions }
+    {
+        self.transactions.len()
+    }
+
+    /// The number of the open checkpoint.
+    pub fn open_number(&self) -> CkptNo
+        ensures { result ≡ self.now.items.open_number }
+    {
+        CkptNo(self.items.open_number())
+    }
+
+    /// The committed items, by rising block.
+    pub fn cil(&self) -> &[(u64, Chunks)]
+        ensures value { result.now ≡ self.now.items.cil }
+        ensures small { length result.now ≤ ROOM }
+    {
+        self.items.cil()
+    }
+
+    /// The active list: each block with the number of its checkpoint.
+    pub fn ail(&self) -> &[(u64, u64)]
+        ensures value { result.now ≡ self.now.items.ail }
+        ensures small { length result.now ≤ ROOM }
+    {
+        self.items.ail()
+    }
+
+    /// The items in flight, by rising block.
+    pub fn flight_items(&self) -> Option<&[(u64, Chunks)]>
+        ensures some { IfSome result (λ items. (items.now ≡ flight_items self.now.items.flight) × (length items.now ≤ ROOM)) }
+        ensures none { is_some result ≡ is_some self.now.items.flight }
+    {
+        self.items.flight_items()
+    }
+
+    /// Whether a block is on the commit list.
+    pub fn is_committed(&self, block: u64) -> bool
+        ensures { result ≡ is_in block self.now.items.cil }
+    {
+        self.items.is_committed(block)
+    }
+
+    /// Whether a block is in flight.
+    pub fn is_in_flight(&self, block: u64) -> bool
+        ensures { result ≡ is_in block (flight_items self.now.items.flight) }
+    {
+        self.items.is_in_flight(block)
+    }
+
+    /// Whether a block is on a list.
+    pub fn is_listed(&self, block: u64) -> bool
+        ensures { result ≡ is_listed self.now.items block }
+    {
+        self.items.is_listed(block)
+    }
+
+    /// Whether a block is on a list, for blocks that are asked in rising order: `near` is where to look first on the active
+    /// list, and then where to look first for the next block.
+    #[inline(always)]
+    pub fn is_listed_near(&self, near: &mut usize, block: u64) -> bool
+        ensures { result ≡ is_listed self.now.items block }
+    {
+        self.items.is_listed_near(near, block)
+    }
+
+    /// Whether a checkpoint is in flight.
+    pub fn is_flying(&self) -> bool
+        ensures { result ≡ is_some self.now.items.flight }
+    {
+        self.items.is_flying()
+    }
+
+    /// The number of the checkpoint in flight.
+    pub fn flight_number(&self) -> Option<CkptNo>
+        ensures { result ≡ flight_number self.now.items.flight }
+    {
+        Some(CkptNo(self.items.flight_number()?))
+    }
+
+    /// The pieces of the flight's text; none where nothing is in flight.
+    pub fn pieces(&self) -> &[Bytes]
+        ensures { result.now ≡ flight_pieces self.now.items.flight }
+    {
+        self.items.pieces()
+    }
+
+    // ---- log space
+    /// What the commit list costs.
+    pub fn cil_cost(&self) -> u64
+        ensures { result ≡ cost self.now.form.ends self.now.items.cil }
+    {
+        self.items.cil_cost(self.form)
+    }
+
+    /// Whether this can't be granted, however much space is left.
+    pub fn is_invalid(&self, unit: u32, count: u32, perm: bool) -> bool
+        ensures { result ≡ is_invalid unit count perm self.now.log_bytes }
+    {
+        self.space.refusal(unit, count, perm).is_some()
+    }
+
+    /// Whether so many legs of so many log bytes find space.
+    pub fn has_room(&self, unit: u32, count: u32) -> bool
+        ensures { result ≡ not (nat_lt self.now.log_bytes (used_in self.now + unit * count)) }
+    {
+        let left = u64::from(self.space.size()) - self.space.used();
+        u64::from(unit) * u64::from(count) <= left
+    }
+
+    /// Whether the last leg of a transaction finds no space for one new unit, once its leg was committed.
+    pub fn finds_no_room(&self, opened: &OpenTrans) -> bool
+        requires rising { IsRising opened.now.leg.changes }
+        requires list { IsRising self.now.items.cil }
+        requires granted { opened.now.unit * opened.now.legs ≤ granted self.now.transactions }
+        requires paid { cost self.now.form.ends (with_marks opened.now.leg.changes self.now.items.cil) ≤ cost self.now.form.ends self.now.items.cil + opened.now.unit }
+        ensures { result ≡ is_no_room (grant_of opened.now) (cost self.now.form.ends (with_marks opened.now.leg.changes self.now.items.cil)) (ledger self.now.form.ends self.now.log_bytes self.now.transactions self.now.items) }
+    {
+        let cost = opened.leg().cost_with(self.form, self.items.list());
+        self.space.is_no_room(opened.ticket(), cost)
+    }
+
+    // ---- transactions
+    /// Opens a transaction of `count` legs of `unit` log bytes under a number above those that are open. The one error is want
+    /// of memory, and then nothing changes.
+    pub fn begin(
+        &mut self,
+        alloc: Global,
+        trans: u64,
+        unit: u32,
+        count: u32,
+        perm: bool,
+    ) -> Result<(), AllocError>
+        requires valid { is_invalid unit count perm self.old.log_bytes ≡ false }
+        requires space { nat_lt self.old.log_bytes (used_in self.old + unit * count) ≡ false }
+        requires rising { IsRising self.old.transactions }
+        requires free { is_in trans self.old.transactions ≡ false }
+        requires few { length self.old.transactions < ROOM }
+        ensures ok { OnOk result (self.new ≡ opened_in trans (new_trans unit count perm) self.old) }
+        ensures err { OnErr result (self.new ≡ self.old) }
+    {
+        let leg = clean_leg_of(&mut self.spare, alloc)?;
+        match self.space.grant(unit, count, perm) {
+            Ok(ticket) => self
+                .transactions
+                .put_new(trans, OpenTrans::new(ticket, leg)),
+            Err(_) => unreachable!(),
+        }
+        Ok(())
+    }
+
+    /// The leg of a transaction has these bytes of a block, and these chunks are marked and charged. It takes no memory.
+    pub fn log(&mut self, trans: u64, block: u64, edit: Content, marked: Chunks)
+        requires there { is_in trans self.old.transactions ≡ true }
+        requires rising { IsRising self.old.transactions }
+        requires few { IfSome (at trans self.old.transactions) (λ t. is_in block t.leg.changes ≡ false → length t.leg.changes + length t.leg.holds < ROOM) }
+        requires fits { IfSome (at trans self.old.transactions) (λ t. charge self.old.form.ends (edited block [] marked t.leg).changes ≤ t.unit) }
+        ensures { IfSome (at trans self.old.transactions) (λ t. self.new ≡ releg trans t (edited block edit marked t.leg) self.old) }
+    {
+        let Some(mut opened) = self.transactions.remove(trans) else {
+            unreachable!();
+        };
+        opened.log(self.form, block, edit, marked);
+        self.transactions.put_new(trans, opened);
+    }
+
+    /// The leg of a transaction invalidates a block. It takes no memory.
+    pub fn inval(&mut self, trans: u64, block: u64)
+        requires there { is_in trans self.old.transactions ≡ true }
+        requires rising { IsRising self.old.transactions }
+        requires few { IfSome (at trans self.old.transactions) (λ t. is_in block t.leg.changes ≡ false → length t.leg.changes + length t.leg.holds < ROOM) }
+        requires fits { IfSome (at trans self.old.transactions) (λ t. charge self.old.form.ends (invalidated block t.leg).changes ≤ t.unit) }
+        ensures { IfSome (at trans self.old.transactions) (λ t. self.new ≡ releg trans t (invalidated block t.leg) self.old) }
+    {
+        let Some(mut opened) = self.transactions.remove(trans) else {
+            unreachable!();
+        };
+        opened.inval(self.form, block);
+        self.transactions.put_new(trans, opened);
+    }
+
+    /// A block has the hold mark in the leg of a transaction. It takes no memory.
+    pub fn hold(&mut self, trans: u64, block: u64)
+        requires there { is_in trans self.old.transactions ≡ true }
+        requires rising { IsRising self.old.transactions }
+        requires few { IfSome (at trans self.old.transactions) (λ t. has t.leg.holds block ≡ false → length t.leg.changes + length t.leg.holds < ROOM) }
+        ensures { IfSome (at trans self.old.transactions) (λ t. self.new ≡ releg trans t (record t.leg { holds = with_member block t.leg.holds }) self.old) }
+    {
+        let Some(mut opened) = self.transactions.remove(trans) else {
+            unreachable!();
+        };
+        opened.hold(block);
+        self.transactions.put_new(trans, opened);
+    }
+
+    /// A block has no hold mark in the leg of a transaction. It takes no memory.
+    pub fn unhold(&mut self, trans: u64, block: u64)
+        requires there { is_in trans self.old.transactions ≡ true }
+        requires rising { IsRising self.old.transactions }
+        ensures { IfSome (at trans self.old.transactions) (λ t. self.new ≡ releg trans t (without_hold block t.leg) self.old) }
+    {
+        let Some(mut opened) = self.transactions.remove(trans) else {
+            unreachable!();
+        };
+        opened.unhold(block);
+        self.transactions.put_new(trans, opened);
+    }
+
+    // ---- ends of legs
+    /// A transaction ends, and its leg is committed: its edits are the committed contents, and its marks are joined to the
+    /// commit list. It takes no memory.
+    pub fn commit(&mut self, trans: u64, frames: &mut Frames)
+        requires there { is_in trans self.old.transactions ≡ true }
+        requires contents { IfSome (at trans self.old.transactions) (λ t. length frames.old.committed + length t.leg.changes ≤ ROOM) }
+        requires list { IfSome (at trans self.old.transactions) (λ t. length self.old.items.cil + length t.leg.changes ≤ ROOM) }
+        requires paid { IfSome (at trans self.old.transactions) (λ t. cost self.old.form.ends (with_marks t.leg.changes self.old.items.cil) ≤ cost self.old.form.ends self.old.items.cil + t.unit * t.legs) }
+        ensures accounts { IfSome (at trans self.old.transactions) (λ t. self.new ≡ closed_in trans (marked_in t self.old)) }
+        ensures frames { IfSome (at trans self.old.transactions) (λ t. frames.new ≡ edits_kept t.leg.changes frames.old) }
+    {
+        let Some(opened) = self.transactions.remove(trans) else {
+            unreachable!();
+        };
+        let (ticket, mut leg) = opened.into_parts();
+        keep_changes(frames, &mut self.items, &mut leg);
+        self.spare = Some(leg);
+        self.space.commit(ticket, self.items.cil_cost(self.form));
+    }
+
+    /// A leg is committed, and the next one of its transaction begins. It takes no memory.
+    pub fn roll(&mut self, trans: u64, frames: &mut Frames)
+        requires there { is_in trans self.old.transactions ≡ true }
+        requires rising { IsRising self.old.transactions }
+        requires contents { IfSome (at trans self.old.transactions) (λ t. length frames.old.committed + length t.leg.changes ≤ ROOM) }
+        requires list { IfSome (at trans self.old.transactions) (λ t. length self.old.items.cil + length t.leg.changes ≤ ROOM) }
+        requires legs { IfSome (at trans self.old.transactions) (λ t. 1 ≤ t.legs) }
+        requires paid { IfSome (at trans self.old.transactions) (λ t. cost self.old.form.ends (with_marks t.leg.changes self.old.items.cil) ≤ cost self.old.form.ends self.old.items.cil + t.unit) }
+        requires room { IfSome (at trans self.old.transactions) (λ t. is_no_room (grant_of t) (cost self.old.form.ends (with_marks t.leg.changes self.old.items.cil)) (ledger self.old.form.ends self.old.log_bytes self.old.transactions self.old.items) ≡ false) }
+        ensures accounts { IfSome (at trans self.old.transactions) (λ t. self.new ≡ legs_in trans (legs_after t.legs) t (marked_in t self.old)) }
+        ensures frames { IfSome (at trans self.old.transactions) (λ t. frames.new ≡ edits_kept t.leg.changes frames.old) }
+    {
+        let Some(opened) = self.transactions.remove(trans) else {
+            unreachable!();
+        };
+        let (mut ticket, mut leg) = opened.into_parts();
+        keep_changes(frames, &mut self.items, &mut leg);
+        leg.next_leg();
+        match self
+            .space
+            .next_leg(&mut ticket, self.items.cil_cost(self.form))
+        {
+            Ok(()) => {}
+            Err(_) => unreachable!(),
+        }
+        self.transactions
+            .put_new(trans, OpenTrans::new(ticket, leg));
+    }
+
+    /// A transaction ends, and its leg is given up. It takes no memory.
+    pub fn cancel(&mut self, trans: u64, frames: &mut Frames)
+        requires there { is_in trans self.old.transactions ≡ true }
+        requires fresh { IfSome (at trans self.old.transactions) (λ t. length frames.old.fresh + length t.leg.changes ≤ ROOM) }
+        ensures accounts { IfSome (at trans self.old.transactions) (λ t. self.new ≡ closed_in trans self.old) }
+        ensures frames { IfSome (at trans self.old.transactions) (λ t. frames.new ≡ leg_lost t.leg frames.old) }
+    {
+        let Some(opened) = self.transactions.remove(trans) else {
+            unreachable!();
+        };
+        let (ticket, mut leg) = opened.into_parts();
+        lose_leg(frames, &mut leg);
+        self.spare = Some(leg);
+        self.space.give_back(ticket);
+    }
+
+    /// A leg is given up, and its transaction stays with no leg left. It takes no memory.
+    pub fn give_up(&mut self, trans: u64, frames: &mut Frames)
+        requires there { is_in trans self.old.transactions ≡ true }
+        requires rising { IsRising self.old.transactions }
+        requires fresh { IfSome (at trans self.old.transactions) (λ t. length frames.old.fresh + length t.leg.changes ≤ ROOM) }
+        ensures accounts { IfSome (at trans self.old.transactions) (λ t. self.new ≡ legs_in trans 0 t self.old) }
+        ensures frames { IfSome (at trans self.old.transactions) (λ t. frames.new ≡ leg_lost t.leg frames.old) }
+    {
+        let Some(opened) = self.transactions.remove(trans) else {
+            unreachable!();
+        };
+        let (mut ticket, mut leg) = opened.into_parts();
+        lose_leg(frames, &mut leg);
+        leg.next_leg();
+        self.space.give_up(&mut ticket);
+        self.transactions
+            .put_new(trans, OpenTrans::new(ticket, leg));
+    }
+
+    // ---- checkpoints
+    /// The committed items become the flight, with these pieces, and the next number opens. The one error is want of memory,
+    /// and then nothing changes. Room for the landing is made here.
+    pub fn fly(&mut self, alloc: Global, pieces: Vec<Bytes>) -> Result<(), AllocError>
+        requires none { is_none self.old.items.flight ≡ true }
+        requires number { self.old.items.open_number < 18446744073709551615 }
+        ensures ok { OnOk result (self.new ≡ flown_in pieces.items self.old) }
+        ensures err { OnErr result (self.new ≡ self.old) }
+    {
+        let next = self.items.next_list(alloc)?;
+        self.space.fly()?;
+        self.items.fly(next, pieces);
+        Ok(())
+    }
+
+    /// The flight has landed. It takes no memory.
+    pub fn land(&mut self)
+        requires below { IfSome self.old.items.flight (λ f. AllBelow f.number self.old.items.landed) }
+        requires room { length self.old.items.ail + length (flight_items self.old.items.flight) ≤ ROOM }
+        ensures { IfSome self.old.items.flight (λ f. self.new ≡ landed_in f self.old) }
+    {
+        if let Some(number) = self.items.flight_number() {
+            self.items.land();
+            self.space.land(number, self.items.least());
+        }
+    }
+
+    /// The flight is given up. It takes no memory.
+    pub fn fail(&mut self)
+        ensures { self.new ≡ record self.old { items = record self.old.items { flight = None } } }
+    {
+        self.items.fail();
+        self.space.fail();
+    }
+
+    // ---- flushes
+    /// The blocks that a flush writes home: the first 8 of the active list, in the order of (number, block), that are neither
+    /// committed nor in flight and that nobody owns. It takes no memory.
+    pub fn flush_plan(&self, locks: &Locks) -> FlushPlan
+        ensures { result ≡ planned (λ b. is_in b locks.now) (lists_in self.now) }
+    {
+        self.items.flush_plan(&|block| is_owned(locks, block))
+    }
+
+    /// Whether a flush has something to write.
+    pub fn has_due(&self, locks: &Locks) -> bool
+        ensures { result ≡ not (length (due (λ b. is_in b locks.now) (lists_in self.now)) == 0) }
+    {
+        self.items.has_due(&|block| is_owned(locks, block))
+    }
+
+    /// A flush of this plan was answered so: where the sync was Ok, the blocks whose write was Ok leave the active list, and landed
+    /// checkpoints that nothing needs any more leave the log. How many blocks they are. It takes no memory.
+    pub fn flush_done(&mut self, plan: &FlushPlan, answers: &HomeAnswers) -> u32
+        requires { fits_plan answers.now plan.now ≡ true }
+        ensures count { result ≡ length (gone plan.now answers.now) }
+        ensures accounts { self.new ≡ cleaned_in (gone plan.now answers.now) self.old }
+    {
+        let count = self.items.flush_done(plan, answers);
+        self.space.tail(self.items.least());
+        count
+    }
+}
+
+/// Whether somebody owns a block.
+fn is_owned(locks: &Locks, block: u64) -> bool
+    ensures { result ≡ is_in block locks.now }
+{
+    locks.is_locked(Block(block))
+}
