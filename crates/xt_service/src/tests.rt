@@ -187,7 +187,10 @@ const PLENTY: u64 = 1_000_000;
 fn says(rt: &impl Abort, alloc: Global, input: &[u8], want: &[u8], end: SessionEnd, calls: usize) {
     for size in [1, 7, 4096, 8401] {
         let told = Told::by(alloc, &mut Pieces::of(input, size), PLENTY);
-        assert!(rt; told.is(want, end) && told.table.calls == calls, "pieces of {size}");
+        assert!(rt;
+            told.is(want, end) && told.table.calls == calls,
+            "pieces of {size}"
+        );
     }
 }
 
@@ -302,8 +305,14 @@ fn reader_fails(alloc: Global, turn: usize, error: ErrorKind, end: SessionEnd) -
 fn a_reader_that_fails_leaves_whole_lines(rt: HostRuntime) {
     let (reset, retry) = (ErrorKind::ConnectionReset, ErrorKind::Interrupted);
     for turn in 0..=ROW_IN.len() {
-        assert!(rt; reader_fails(rt.alloc(), turn, reset, SessionEnd::ReadFault), "turn {turn}");
-        assert!(rt; reader_fails(rt.alloc(), turn, retry, SessionEnd::End), "turn {turn}");
+        assert!(rt;
+            reader_fails(rt.alloc(), turn, reset, SessionEnd::ReadFault),
+            "turn {turn}"
+        );
+        assert!(rt;
+            reader_fails(rt.alloc(), turn, retry, SessionEnd::End),
+            "turn {turn}"
+        );
     }
 }
 
