@@ -269,12 +269,13 @@ impl CoreCalls {
         }
     }
 
-    /// Answers a step that a session reads.
+    /// Answers a step that sessions read; another is answered `nothing`, which is no reply to a session.
     fn answer(&mut self, step: Step) -> Reply {
         let slot = step.slot();
         match step {
             Step::Call { life, request, .. } => self.serve(slot, life, request),
-            other => self.take(other),
+            Step::Peek(_) => self.take(Step::Peek(slot)),
+            _ => Reply::Nothing,
         }
     }
 
