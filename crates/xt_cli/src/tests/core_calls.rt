@@ -142,7 +142,10 @@ impl CoreCalls {
     }
 
     /// Makes a request that asks no device.
-    fn ask(&mut self, slot: Slot, life: Life, request: Request) -> Reply {
+    fn ask(&mut self, slot: Slot, life: Life, request: &Request) -> Reply {
+        let Ok(request) = request.copy(self.alloc) else {
+            return Reply::Refused(Errno::NoMemory);
+        };
         let step = Step::Call {
             slot,
             life,
@@ -244,13 +247,13 @@ impl CoreCalls {
     }
 
     /// Serves a request of the session.
-    fn serve(&mut self, slot: Slot, life: Life, request: Request) -> Reply {
-        if !self.holds(slot, life, &request) {
+    fn serve(&mut self, slot: Slot, life: Life, request: &Request) -> Reply {
+        if !self.holds(slot, life, request) {
             return Reply::Refused(Errno::Invalid);
         }
-        let (ended, taken) = (ended_by(&request), taken_by(&request));
+        let (ended, taken) = (ended_by(request), taken_by(request));
         let reply = match request {
-            Request::Read { trans, block } => self.read(slot, life, trans, block),
+            Request::Read { trans, block } => self.read(slot, life, *trans, *block),
             other => self.ask(slot, life, other),
         };
         if let Some(number) = ended {
@@ -266,15 +269,6 @@ impl CoreCalls {
         match self.note(slot, life, &reply) {
             Ok(()) => reply,
             Err(_) => Reply::Refused(Errno::NoMemory),
-        }
-    }
-
-    /// Answers a step that a session reads.
-    fn answer(&mut self, step: Step) -> Reply {
-        let slot = step.slot();
-        match step {
-            Step::Call { life, request, .. } => self.serve(slot, life, request),
-            other => self.take(other),
         }
     }
 
@@ -328,8 +322,16 @@ impl Calls for CoreCalls {
     ghost ends = { λ old new. Unit {0} };
 
     fn call(&mut self, line: Line) -> Reply {
-        let Line(step) = line;
-        self.answer(step)
+        match &line.0 {
+            Step::Call {
+                slot,
+                life,
+                request,
+                ..
+            } => self.serve(*slot, *life, request),
+            Step::Peek(slot) => self.take(Step::Peek(*slot)),
+            _ => Reply::Nothing,
+        }
     }
 
     fn end(&mut self) {
