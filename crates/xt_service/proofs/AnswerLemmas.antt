@@ -1,5 +1,5 @@
 -- One line answered.
-use Rattle.std.proofs.Common.{Err, List, None, Option, Some, [], ap, codes, false, length, refl, subst, sym, true, true≢false, ℕ, ◌-◌, ◌≡◌, ◌≤◌, ◌∙◌}
+use Rattle.std.proofs.Common.{Err, List, None, Option, Some, [], ap, codes, false, length, refl, subst, sym, true≢false, ℕ, ◌≡◌, ◌≤◌, ◌∙◌}
 use Rattle.std.proofs.lemmas.Bool.{le-leb}
 use Rattle.std.proofs.lemmas.Option.{same_Some}
 use Rattle.std.specs.Prelude.{IsTrue}

@@ -1,5 +1,5 @@
 -- Lines answered one after another.
-use Rattle.std.proofs.Common.{List, Option, [], ap, append-nil, append_assoc, refl, subst, sym, take, ℕ, ◌++◌, ◌≡◌, ◌∙◌, ◌∷◌}
+use Rattle.std.proofs.Common.{List, Option, [], ap, append-nil, append_assoc, refl, subst, sym, take, ℕ, ◌++◌, ◌∙◌, ◌∷◌}
 use Rattle.std.specs.Io.KnownBytes.{Appends}
 use Rattle.xt_base.specs.declared.steps.Reply.{Reply}
 use Rattle.xt_base.specs.declared.steps.Step.{Step}

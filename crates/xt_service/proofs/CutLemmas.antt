@@ -2,7 +2,7 @@
 use Rattle.std.proofs.Common.{Bool, List, [], add-one, ap, ap₂, arith, cond, false, le_of_suc-le-suc, length, not-suc-le-zero, one-add, refl, subst, suc, sym, take, drop, true, ℕ, ◌++◌, ◌+◌, ◌-◌, ◌<◌, ◌≡◌, ◌≤◌, ◌∙◌, ◌∷◌, length-append}
 use Rattle.std.proofs.Math.Seq.{drop-append_seam}
 use Rattle.std.proofs.lemmas.List.{take_rest}
-use Rattle.std.specs.List.{AllByRecursion, position_or_len}
+use Rattle.std.specs.List.{AllByRecursion}
 use Rattle.std.specs.Prelude.{not, ◌==◌}
 use Rattle.xt_service.specs.Cut.{Cut, byte_before, cut, line_end}
 use Rattle.xt_service.specs.Turns.{IsFirst}

@@ -1,5 +1,5 @@
 -- Bytes that come behind those that are held.
-use Rattle.std.proofs.Common.{List, ap, arith, length, length-drop, take, drop, ℕ, ◌++◌, ◌+◌, ◌-◌, ◌≡◌, ◌≤◌, ◌∙◌}
+use Rattle.std.proofs.Common.{List, ap, arith, length, length-drop, take, drop, ℕ, ◌++◌, ◌+◌, ◌≡◌, ◌≤◌, ◌∙◌}
 use Rattle.std.proofs.Math.Seq.{take-add}
 use Rattle.std.proofs.lemmas.List.{length-take, length-take-le}
 

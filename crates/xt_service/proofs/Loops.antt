@@ -10,7 +10,7 @@ use Rattle.xt_base.specs.declared.steps.Step.{Step}
 use Rattle.xt_service.proofs.ChainLemmas.{breaks_more, breaks_one, writes_more, writes_none, writes_one}
 use Rattle.xt_service.proofs.CutLemmas.{counted, cut_append, last_bytes, plain_append, plain_rest, rest_plain, shorter}
 use Rattle.xt_service.proofs.StreamLemmas.{consumes_end, consumes_kept, consumes_more, consumes_none}
-use Rattle.xt_service.specs.Cut.{cut, ended, last_line}
+use Rattle.xt_service.specs.Cut.{cut, last_line}
 use Rattle.xt_service.specs.Intake.{Grows}
 use Rattle.xt_service.specs.Session.{Breaks, Ran, Reads, Writes}
 use Rattle.xt_service.specs.Turns.{HeldLines, IsFirst, IsPartial, IsWhole, Last, Turns}
