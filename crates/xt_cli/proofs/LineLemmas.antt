@@ -1,13 +1,9 @@
 -- Where the first line of a text ends.
 use Rattle.std.proofs.Common.{Bool, Option, Some, None, List, arith, false, length, refl, sym, ap, subst, true, ℕ, ◌≡◌, ◌≤◌}
 use Rattle.std.proofs.lemmas.List.Sums.{prefix_len_is, prefix_len-le-length}
-use Rattle.std.specs.List.{prefix_len}
 use Rattle.std.specs.Prelude.{not, slice_index, unwrap_or, ◌==◌}
+use Rattle.xt_cli.proofs.ScriptLemmas.{line_end}
 use Rattle.memchr.specs.Find.{IsFirstByte, is_byte}
-
--- how many bytes stand before the first newline
-abbrev pub line_end : List ℕ → ℕ
-line_end text = prefix_len (λ b. not (b == 10)) text
 
 -- what a search for the first newline finds, or the length where it finds none
 pub found_end : (text : List ℕ) (found : Option ℕ) → IsFirstByte (is_byte 10) text found → unwrap_or found (length text) ≡ line_end text
