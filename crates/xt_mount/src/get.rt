@@ -6,6 +6,7 @@ ghost use Rattle.xt_base.specs.Legs.{own_count};
 ghost use Rattle.xt_base.specs.Maps.{at};
 ghost use Rattle.xt_base.specs.Sound.{IsSound};
 ghost use Rattle.xt_mount.specs.Machines.{state_of};
+ghost use Rattle.xt_mount.specs.Reads.{place_refusals};
 
 use crate::machine::Machine;
 use xt_base::names::{Block, TransNo};
@@ -28,6 +29,14 @@ impl Machine {
         if is_at_end(self.own_count(trans, block)) {
             return Some(Errno::Invalid);
         }
+        self.place_refusal(trans, block)
+    }
+
+    /// What refuses a block that may be locked otherwise: somebody else has it, or there is no room for one more that is busy.
+    pub fn place_refusal(&self, trans: TransNo, block: Block) -> Option<Errno>
+        ensures refusal { result ≡ first_of (place_refusals trans block (state_of self.now)) }
+        ensures free { result ≡ None → is_elsewhere (state_of self.now) trans block ≡ false }
+    {
         if self.is_elsewhere(trans, block) {
             return Some(Errno::Again);
         }

@@ -17,7 +17,6 @@ use crate::machine::Machine;
 use std::alloc::AllocError;
 use xt_base::content::Content;
 use xt_base::names::{Block, TransNo};
-use xt_base::sizes::BUSY_BLOCKS;
 use xt_base::steps::{Answer, Errno, Reason, Reply, Request};
 use xt_trans::trans::TransRec;
 
@@ -44,13 +43,7 @@ impl Machine {
         if is_at_end(self.own_count(trans, block)) || self.is_unreadable(leg, trans, block) {
             return Some(Errno::Invalid);
         }
-        if self.is_elsewhere(trans, block) {
-            return Some(Errno::Again);
-        }
-        if !self.is_busy(block) && self.busy_count() >= BUSY_BLOCKS {
-            return Some(Errno::NoBufs);
-        }
-        None
+        self.place_refusal(trans, block)
     }
 
     /// Whether a block is resident: busy and not fresh, or idle.
