@@ -1,10 +1,10 @@
 -- A host after any history: a step may come exactly where it fits the steps that happened.
 use Rattle.std.proofs.Common.{◌≡◌, ◌∙◌, ◌<◌, ◌++◌, ◌∷◌, Bool, List, None, Option, [], ap, arith, false, inl, inr, length, refl, subst, sym, true, ℕ}
-use Rattle.std.proofs.lemmas.Bool.{cases_Bool, eq-eqb, false≢true, ne_eqb}
+use Rattle.std.proofs.lemmas.Bool.{cases_Bool, eq-eqb, ne_eqb}
 use Rattle.std.proofs.lemmas.List.{append-nil, get_or-set_other, get_or-set_same}
 use Rattle.std.proofs.lemmas.List.Elements.{filter-append}
 use Rattle.std.proofs.lemmas.List.Folds.{list_any-append}
-use Rattle.std.specs.Prelude.{MatchBool, cond, is_none, not, option_to_list, ◌&&◌, ◌==◌, ◌||◌}
+use Rattle.std.specs.Prelude.{cond, is_none, not, option_to_list, ◌&&◌, ◌==◌, ◌||◌}
 use Rattle.xt_base.specs.Alone.{Said, alone, reason_of, said_of}
 use Rattle.xt_base.specs.Isolation.{Told, is_no_memory, is_refused, told_refused, told_taken, untold}
 use Rattle.xt_base.specs.Order.{Event, fits, is_first, suits, told}
@@ -14,28 +14,11 @@ use Rattle.xt_base.specs.declared.steps.Reason.{Reason}
 use Rattle.xt_base.specs.declared.steps.Reply.{Reply}
 use Rattle.xt_base.specs.declared.steps.Step.{Step}
 use Rattle.xt_base.specs.declared.steps.Step.TheVariants.{Begin, Call, End, Flush, Mount, Peek, Post, Show, Take}
+use Rattle.xt_core.proofs.CellLemmas.{by_false, by_true}
 use Rattle.xt_core.proofs.FitsLemmas.{fits_is}
 use Rattle.xt_core.proofs.RunLemmas.{IsAfter as IsRun, after_none, after_refused, after_taken, by_slot, none_refused, run_alike, run_hands}
 use Rattle.xt_core.specs.Host.{Host, IsAfter, IsKept, IsNew, IsSharedAlike, IsStepped, IsTaken, happened, hand_at, lone_of, may_come, was_refused}
 use Rattle.xt_core.specs.Turns.{held_in, queue_after}
-
--- ---- by the reply
--- what follows of a choice, and what makes it
-pub by_true : (b : Bool) (P Q : Type 0) → b ≡ true → MatchBool b P Q → P
-by_true true P Q e h = h
-by_true false P Q e h = absurd (false≢true e)
-
-pub by_false : (b : Bool) (P Q : Type 0) → b ≡ false → MatchBool b P Q → Q
-by_false true P Q e h = absurd (false≢true (sym e))
-by_false false P Q e h = h
-
-pub to_true : (b : Bool) (P Q : Type 0) → b ≡ true → P → MatchBool b P Q
-to_true true P Q e h = h
-to_true false P Q e h = absurd (false≢true e)
-
-pub to_false : (b : Bool) (P Q : Type 0) → b ≡ false → Q → MatchBool b P Q
-to_false true P Q e h = absurd (false≢true (sym e))
-to_false false P Q e h = h
 
 -- ---- one more event
 -- that happened

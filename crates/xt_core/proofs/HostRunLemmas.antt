@@ -15,7 +15,7 @@ use Rattle.xt_base.specs.declared.steps.Reason.{Reason}
 use Rattle.xt_base.specs.declared.steps.Reply.{Reply}
 use Rattle.xt_base.specs.declared.steps.Step.{Step}
 use Rattle.xt_core.proofs.FitsLemmas.{fits_is}
-use Rattle.xt_core.proofs.HostLemmas.{by_false, by_true}
+use Rattle.xt_core.proofs.CellLemmas.{by_false, by_true}
 use Rattle.xt_core.proofs.OrderLemmas.{events_more, of_slot_other, of_slot_own, orderly_more, strike_other, strike_own, told_more}
 use Rattle.xt_core.proofs.RunLemmas.{IsAfter, after_none, after_refused, after_taken, after_tells, breaks_fits, breaks_whole, by_slot, happened_now, run_alike, run_hands, still}
 use Rattle.xt_core.proofs.StruckLemmas.{fits_of_slot, of_slot_twice, orderly_take, strike_twice}

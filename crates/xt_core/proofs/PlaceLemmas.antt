@@ -14,7 +14,7 @@ use Rattle.xt_base.specs.declared.steps.Reply.{Reply}
 use Rattle.xt_base.specs.declared.steps.Reply.TheVariants.{Okay}
 use Rattle.xt_base.specs.declared.steps.Step.{Step}
 use Rattle.xt_base.specs.declared.steps.Step.TheVariants.{Begin, Call, End, Flush, Mount, Peek, Post, Show, Take}
-use Rattle.xt_core.proofs.HostLemmas.{by_false, by_true, to_false, to_true}
+use Rattle.xt_core.proofs.CellLemmas.{by_false, by_true, to_false, to_true}
 use Rattle.xt_core.proofs.RunLemmas.{by_slot}
 use Rattle.xt_core.specs.Cells.{Cell, IsTurned, IsUnturned, with_lone}
 use Rattle.xt_core.specs.Host.{Host, IsKept, IsStepped, IsTaken, may_come}

@@ -1,6 +1,7 @@
 use Rattle.std.proofs.Common.{◌∙◌, sym}
 use Rattle.xt_base.specs.Isolation.{is_no_memory}
-use Rattle.xt_core.proofs.HostLemmas.{by_false, may_come_is, reply_is}
+use Rattle.xt_core.proofs.CellLemmas.{by_false}
+use Rattle.xt_core.proofs.HostLemmas.{may_come_is, reply_is}
 use Rattle.xt_core.proofs.host.HostCore.step.Goals as goal
 use Rattle.xt_core.specs.Host.{IsAfter, IsKept, IsTaken}
 
