@@ -223,10 +223,6 @@ module _ (ends log_bytes : ℕ) (owners : List (ℕ × Owner)) (transactions : L
   few_busy_keys ks r all =
       omega (arith, length-marked ks, few_busy (marked ks) (rises_marked 0 ks r) (each_marked (λ b. is_busy_in owners l b ≡ true) ks all))
 
-  -- at most 64 blocks have an owner
-  pub few_owners : length owners ≤ 64
-  few_owners = let busy = sound.busy in omega (arith, busy)
-
   -- at most 64 items are committed
   pub few_committed : length l.cil ≤ 64
   few_committed =

@@ -92,10 +92,6 @@ length-union_within a b c within =
     λ k h. elim (or_cases (has a k) (has b k) h) [ inl first ↦ inl first | inr second ↦ inr (within k second) ] in
     omega (arith, length-chunks_where (λ k. has a k || has b k), count_by_either (λ k. has a k || has b k) (has a) (has c) (below 32) either, count_has-le a 32, count_has-le c 32)
 
--- a union has at most as many chunks as both sets
-pub length-union : (a b : List ℕ) → length (union a b) ≤ length a + length b
-length-union a b = length-union_within a b b (λ k h. h)
-
 -- the chunks of a set that another lacks
 abbrev pub newly : List ℕ → List ℕ → List ℕ
 newly old more = chunks_where (λ k. has more k && not (has old k))

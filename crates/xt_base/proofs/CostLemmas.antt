@@ -114,11 +114,3 @@ charge_invalidated ends b leg r =
     let whole = charge_step ends leg.changes (put b c leg.changes) (length_put_ge b c leg.changes) (length_put_positive b c leg.changes) in
     omega (arith, step, whole)
 
--- the charge after an edit, where what was charged is a set of chunks: 128 for each chunk newly charged
-pub charge_logged_newly : (ends : ℕ) (b : ℕ) (content marked : List ℕ) (leg : Leg) (p : ℕ → Bool) → IsRising leg.changes → (change_of b leg).charged ≡ chunks_where p
-    → charge ends (edited b content marked leg).changes
-    ≡ (if length leg.changes == 0 then ends else 0) + (if is_in b leg.changes then 0 else 16) + 128 * length (newly (change_of b leg).charged marked) + charge ends leg.changes
-charge_logged_newly ends b content marked leg p r is =
-    let split : length (union (change_of b leg).charged marked) ≡ length (change_of b leg).charged + length (newly (change_of b leg).charged marked) =
-    subst (λ (x : List ℕ). length (union x marked) ≡ length x + length (newly x marked)) (sym is) (length-union_newly p marked) in
-    omega (arith, charge_logged ends b content marked leg r, split)

@@ -162,10 +162,6 @@ module _ {V : Type 0} where
         | inr (inr lt) ↦ omega (arith, ap length (put_more k v e es lt))
       ]
 
-  -- a set value leaves the length
-  pub length_set_at : (k : ℕ) (v : V) (es : List (ℕ × V)) → length (set_at k v es) ≡ length es
-  length_set_at k v es = length-set_value (is_at (nat_cmp k)) es v
-
   -- a removal adds no entry
   pub length_without_le : (k : ℕ) (es : List (ℕ × V)) → length (without k es) ≤ length es
   length_without_le k [] = omega arith

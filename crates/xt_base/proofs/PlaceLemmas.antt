@@ -69,9 +69,6 @@ module _ {V : Type 0} where
             (subst (λ n. (get_or (e ∷ es) n d).0 ≡ k) (is ∙ place_low k e es gt) here)) ∙ sym (put_more k v e es gt))
       ]
 
-  pub put_old : (k : ℕ) (v : V) (m : List (ℕ × V)) (d : ℕ × V) → place k m < length m → (get_or m (place k m) d).0 ≡ k → set {A = ℕ × V} m (place k m) (k, v) ≡ put k v m
-  put_old k v m d lt here = set_is k v m d (place k m) refl lt here
-
   -- the spot, by whether the first key is k
   spot_here : (k : ℕ) (e : ℕ × V) (es : List (ℕ × V)) → e.0 ≡ k → spot k (e ∷ es) ≡ 0
   spot_here k e es h = grind (arith, nat_tests)

@@ -49,15 +49,6 @@ module _ (s : State) (h : IsSound s) where
   pub few_fresh : length s.frames.fresh ≤ 64
   few_fresh = few_busy_keys s.form.ends s.log_bytes s.owners s.transactions s.items h.parts s.frames.fresh h.kept.fresh_rises h.kept.fresh_busy
 
-  -- the cost of what is committed, in flight and landed lies within the log
-  pub cost_within : cost s.form.ends s.items.cil + cost s.form.ends (flight_items s.items.flight) + sum_by (λ e. e.1) s.items.landed ≤ s.log_bytes
-  cost_within = let space = h.parts.space in omega (arith, space)
-
-  -- after the flight has landed, on the active list
-  pub few_activated : (f : Flight) → s.items.flight ≡ Some f → length (activated f.number f.items s.items.ail) ≤ 64
-  few_activated f is =
-      few_active s.form.ends s.log_bytes (filter (λ e. not (waits_on f.number e.1)) s.owners) s.transactions (landed_items s.form.ends f s.items) (parts_landed s.form.ends s.log_bytes s.owners s.transactions s.items h.parts f is)
-
   module _ (t : ℕ) (trans : Transaction) (is : at t s.transactions ≡ Some trans) where
     leg_fair : IsFair s.form.ends s.owners (t, trans)
     leg_fair = each_at (IsFair s.form.ends s.owners) t trans s.transactions is h.parts.fair
@@ -73,13 +64,6 @@ module _ (s : State) (h : IsSound s) where
     -- changes of a leg
     pub few_changes : length trans.leg.changes ≤ 64
     few_changes = few_busy s.form.ends s.log_bytes s.owners s.transactions s.items h.parts trans.leg.changes leg_fair.rising changed_busy
-
-    -- and with one more edit of a block that the transaction has
-    pub few_edited : (b : ℕ) (content marked : List ℕ) → is_own s t b ≡ true → charge s.form.ends (edited b [] marked trans.leg).changes ≤ trans.unit → length (edited b content marked trans.leg).changes ≤ 64
-    few_edited b content marked own room =
-        let fair : IsFair s.form.ends s.owners (t, record trans { leg = edited b content marked trans.leg }) = edit_fair s.form.ends t b content marked s.owners trans leg_fair own room in
-        few_busy s.form.ends s.log_bytes s.owners s.transactions s.items h.parts (edited b content marked trans.leg).changes fair.rising
-        (each_map (λ c. Owns s.owners t c.0) (λ c. is_busy s c.0 ≡ true) (edited b content marked trans.leg).changes (λ c own. busy_owned s.owners s.items c.0 (owned_there t c.0 s.owners own)) fair.owned)
 
     -- changes of a leg, and one of a block that the transaction has and did not change
     pub fewer_changes : (b : ℕ) → is_own s t b ≡ true → is_in b trans.leg.changes ≡ false → length trans.leg.changes < 64
@@ -102,21 +86,3 @@ module _ (s : State) (h : IsSound s) where
         (each_with_member (λ q. is_busy s q ≡ true) b trans.leg.holds (busy_owned s.owners s.items b (owned_there t b s.owners own)) held_busy) in
         omega (arith, more, length_with_member b trans.leg.holds unheld)
 
-    -- fresh blocks with those that a leg lost
-    pub few_with_lost : length (with_lost trans.leg.changes trans.leg s.frames.fresh) ≤ 64
-    few_with_lost =
-        few_busy_keys s.form.ends s.log_bytes s.owners s.transactions s.items h.parts (with_lost trans.leg.changes trans.leg s.frames.fresh) (rises_with_lost trans.leg.changes trans.leg s.frames.fresh h.kept.fresh_rises)
-        (each_with_lost (λ q. is_busy s q ≡ true) trans.leg.changes trans.leg s.frames.fresh changed_busy h.kept.fresh_busy)
-
-    -- contents after the edits of a leg, before they settle
-    pub few_with_edits : length (with_edits trans.leg.changes s.frames.committed) ≤ 64
-    few_with_edits =
-        few_busy s.form.ends s.log_bytes s.owners s.transactions s.items h.parts (with_edits trans.leg.changes s.frames.committed) (rises_with_edits trans.leg.changes s.frames.committed h.kept.committed_rises)
-        (each_with_edits (λ b. is_busy s b ≡ true) trans.leg.changes s.frames.committed changed_busy h.kept.committed_busy)
-
-    -- items after the marks of a leg
-    pub few_with_marks : length (with_marks trans.leg.changes s.items.cil) ≤ 64
-    few_with_marks =
-        few_busy s.form.ends s.log_bytes s.owners s.transactions s.items h.parts (with_marks trans.leg.changes s.items.cil) (rises_with_marks trans.leg.changes s.items.cil h.parts.cil_rises)
-        (each_with_marks (λ b. is_busy s b ≡ true) trans.leg.changes s.items.cil changed_busy
-        (each_map (λ e. is_in e.0 s.items.cil ≡ true) (λ e. is_busy s e.0 ≡ true) s.items.cil (λ e there. busy_committed s.owners s.items e.0 there) (each_own s.items.cil)))

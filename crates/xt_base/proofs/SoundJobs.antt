@@ -29,9 +29,6 @@ sound_force_to number s h =
     (λ other. sound_either (is_flight number s.items.flight) (gives (Wait number) s) (gives Done s) (λ flies. h) (λ lands. h)))
 
 -- ---- flush
--- no flush is outstanding
-pub sound_finished_flush : (s : State) → IsSound s → IsSound (finished JobKind.Flush s)
-sound_finished_flush s h = sound_jobs (record s.jobs { flush = None }) s refl h
 
 -- a flush with nothing to write
 pub sound_unflushed : (s : State) → IsSound s → IsSound (unflushed s)

@@ -246,12 +246,6 @@ sound_settling dropped s form small numbers parts committed fresh ready legs unw
   written = λ live. written_less s.owners s.frames.committed s.items (written live) (is_busy s) (λ b there. or_right (is_in b s.owners) (is_listed s.items b) there);
 }
 
--- a sound mount settles
-pub sound_settled : (dropped : Dropped) (s : State) → IsSound s → IsSound (settled dropped s)
-sound_settled dropped s h =
-    sound_settling dropped s h.form h.log_small h.numbers h.parts h.kept.committed_rises h.kept.fresh_rises h.ready h.legs_left
-    (λ live. each_map (IsUnwritten s.owners s.transactions s.items) (λ b. is_busy s b ≡ true → IsUnwritten s.owners s.transactions s.items b) s.frames.fresh (λ b u busy. u) (h.fresh_owned live)) h.given h.written
-
 -- ---- alloc
 -- a transaction opens, where its grant finds room
 pub sound_allocated : (unit count : ℕ) (perm : Bool) (s : State) → IsSound s → 1 ≤ count → used s + unit * count ≤ s.log_bytes → IsSound (allocated unit count perm s).state

@@ -238,10 +238,6 @@ stale_there n b c (e ∷ cs) m r is none =
       | inr other ↦ stale_there (suc e.0) b c cs (put e.0 j m) r.1 (sym (at_later b e cs other) ∙ is) none
     ]
 
--- what a leg did to a block that is among its changes
-changed_by : (b : ℕ) (leg : Leg) (c : Change) → at b leg.changes ≡ Some c → change_of b leg ≡ c
-changed_by b leg c is = ap (λ o. unwrap_or o (record { edit = None; marks = []; charged = [] })) is
-
 -- ---- a cancelled item leaves the active list
 by_kind : (gone there : Bool) (b k number : ℕ) (ail : List (ℕ × ℕ)) → is_in b (without k ail) ≡ false → is_in b ail ≡ false → is_in b (put k number ail) ≡ false
     → is_in b (if gone then without k ail else (if there then ail else put k number ail)) ≡ false

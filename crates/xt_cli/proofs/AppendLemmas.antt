@@ -74,10 +74,6 @@ begins_kept a b c text begun kept = record { part = begun.part; rest = begun.res
 pub written_none : (a : Option (List ℕ)) (bytes : List ℕ) → IsWrittenUpTo a a bytes bytes
 written_none a bytes = record { part = []; cut = refl; written = appends_none a }
 
--- no byte was written where all stayed
-pub written_kept : (a b : Option (List ℕ)) (bytes : List ℕ) → Keeps a b → IsWrittenUpTo a b bytes bytes
-written_kept a b bytes kept = record { part = []; cut = refl; written = appends_kept_none a b kept }
-
 -- some more bytes were written
 pub written_more : (a b c : Option (List ℕ)) (bytes rest after : List ℕ) → IsWrittenUpTo a b bytes rest → IsWrittenUpTo b c rest after → IsWrittenUpTo a c bytes after
 written_more a b c bytes rest after first more = record {

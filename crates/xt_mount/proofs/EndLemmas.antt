@@ -27,11 +27,6 @@ pub some_if : {A : Type 0} (o : Option A) (P : A → Type 0) (x : A) → Some x 
 some_if o P x is h = subst (λ q. IfSome q P) (sym is) h
 
 -- ---- choices
-pub if_true : {A : Type 0} (b : Bool) (x y : A) → b ≡ true → (if b then x else y) ≡ x
-if_true b x y h = ap (λ t. if t then x else y) h
-
-pub if_false : {A : Type 0} (b : Bool) (x y : A) → b ≡ false → (if b then x else y) ≡ y
-if_false b x y h = ap (λ t. if t then x else y) h
 
 -- ---- owners
 -- two ways to pass entries on that agree
@@ -61,22 +56,6 @@ owners_kept t leg os = passed_alike (passed t (owner_kept leg)) (owner_aborted t
 
 -- ---- the end of an open transaction
 module _ (s : State) (t : ℕ) (trans : Transaction) (there : Some trans ≡ at t s.transactions) where
-  -- it is committed
-  pub commit_kept : (held : Option (List ℕ)) (mid new : State) (number : ℕ) → held ≡ held_of trans.leg.holds → IfSome (at t s.transactions) (λ u. mid ≡ closed t (ended t u.leg s)) → new ≡ settled [] mid
-      → number ≡ commit_number trans.leg s → (is_dirty trans.leg && is_some s.shut) ≡ false → gives (committed_of number held) new ≡ with_trans (at t s.transactions) s (commit [] t s)
-  commit_kept held mid new number named ends settles counted clean =
-      ap (gives (committed_of number held)) (settles ∙ ap (settled []) (some_if (at t s.transactions) (λ u. mid ≡ closed t (ended t u.leg s)) trans there ends))
-      ∙ ap (λ k. gives (committed_of k held) (settled [] (closed t (ended t trans.leg s)))) counted
-      ∙ ap (λ h. gives (committed_of (commit_number trans.leg s) h) (settled [] (closed t (ended t trans.leg s)))) named
-      ∙ sym (if_false (is_dirty trans.leg && is_some s.shut) _ _ clean) ∙ ap (λ o. with_trans o s (commit [] t s)) there
-
-  -- or given up, on a shut mount
-  pub commit_given_up : (held : Option (List ℕ)) (mid new : State) (reply : Reply) → held ≡ held_of trans.leg.holds → IfSome (at t s.transactions) (λ u. mid ≡ closed t (aborted t u.leg s)) → new ≡ settled [] mid
-      → reply ≡ io_of held → (is_dirty trans.leg && is_some s.shut) ≡ true → gives reply new ≡ with_trans (at t s.transactions) s (commit [] t s)
-  commit_given_up held mid new reply named ends settles says dirty =
-      ap (gives reply) (settles ∙ ap (settled []) (some_if (at t s.transactions) (λ u. mid ≡ closed t (aborted t u.leg s)) trans there ends))
-      ∙ ap (λ r. gives r (settled [] (closed t (aborted t trans.leg s)))) (says ∙ ap io_of named)
-      ∙ sym (if_true (is_dirty trans.leg && is_some s.shut) _ _ dirty) ∙ ap (λ o. with_trans o s (commit [] t s)) there
 
   -- it is cancelled
   pub cancelled : (held : Option (List ℕ)) (dirty : Bool) (mid shut new : State) (reply : Reply) → held ≡ held_of trans.leg.holds → dirty ≡ is_dirty trans.leg

@@ -41,13 +41,6 @@ module _ (s : State) (t : ℕ) (f : Leg → Leg) (u v : Transaction) (m ts : Lis
   pub kept : IfSome (at t s.transactions) (λ x. record s { transactions = ts } ≡ with_leg t x (f x.leg) s)
   kept = subst (λ o. IfSome o (λ x. record s { transactions = ts } ≡ with_leg t x (f x.leg) s)) (sym there) (ap (λ xs. record s { transactions = xs }) back)
 
-  -- and its block is fresh no more
-  pub kept_read : (b : ℕ) (frames : Frames) → frames ≡ record s.frames { fresh = without_member b s.frames.fresh }
-      → IfSome (at t s.transactions) (λ x. record s { transactions = ts; frames = frames } ≡ not_fresh b (with_leg t x (f x.leg) s))
-  kept_read b frames left =
-      subst (λ o. IfSome o (λ x. record s { transactions = ts; frames = frames } ≡ not_fresh b (with_leg t x (f x.leg) s))) (sym there)
-      (ap (λ xs. record s { transactions = xs; frames = frames }) back ∙ ap (λ g. record s { transactions = set_at t (record u { leg = f u.leg }) s.transactions; frames = g }) left)
-
 -- there is room for one more change of an own block, and for one more hold mark
 sum_small : (m n : ℕ) → m ≤ 64 → n < 64 → n + m < 128
 sum_small m n few fewer = omega arith

@@ -14,6 +14,3 @@ pub put_none : (o : Option (List ℕ)) → put o [] ≡ o
 put_none None = refl
 put_none (Some held) = grind (arith, common_steps, append-nil held)
 
--- a text that fits is put behind what is held
-pub put_fits : (held more : List ℕ) → length held + length more ≤ 8448 → put (Some held) more ≡ Some (held ++ more)
-put_fits held more fits = rw (le-leb (length more) (8448 - length held) (omega arith)) refl
