@@ -113,4 +113,3 @@ charge_invalidated ends b leg r =
     let step = edit_step (at b leg.changes) b (length (change_of b leg).charged) (sum_by change_cost leg.changes) (sum_by change_cost (put b c leg.changes)) none refl sums in
     let whole = charge_step ends leg.changes (put b c leg.changes) (length_put_ge b c leg.changes) (length_put_positive b c leg.changes) in
     omega (arith, step, whole)
-

@@ -85,4 +85,3 @@ module _ (s : State) (h : IsSound s) where
         few_busy_keys s.form.ends s.log_bytes s.owners s.transactions s.items h.parts (with_member b trans.leg.holds) (rises_keys_with 0 b trans.leg.holds (omega arith) leg_fair.holds_rise)
         (each_with_member (λ q. is_busy s q ≡ true) b trans.leg.holds (busy_owned s.owners s.items b (owned_there t b s.owners own)) held_busy) in
         omega (arith, more, length_with_member b trans.leg.holds unheld)
-

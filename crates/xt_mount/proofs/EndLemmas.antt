@@ -56,7 +56,6 @@ owners_kept t leg os = passed_alike (passed t (owner_kept leg)) (owner_aborted t
 
 -- ---- the end of an open transaction
 module _ (s : State) (t : ℕ) (trans : Transaction) (there : Some trans ≡ at t s.transactions) where
-
   -- it is cancelled
   pub cancelled : (held : Option (List ℕ)) (dirty : Bool) (mid shut new : State) (reply : Reply) → held ≡ held_of trans.leg.holds → dirty ≡ is_dirty trans.leg
       → IfSome (at t s.transactions) (λ u. mid ≡ closed t (aborted t u.leg s)) → shut ≡ shut_if dirty CorruptIncore mid → new ≡ settled [] shut → reply ≡ okay_of held

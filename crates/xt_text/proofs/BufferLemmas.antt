@@ -13,4 +13,3 @@ put_put (Some held) a b = grind (arith, common_steps, append_assoc held a b, len
 pub put_none : (o : Option (List ℕ)) → put o [] ≡ o
 put_none None = refl
 put_none (Some held) = grind (arith, common_steps, append-nil held)
-
