@@ -1,5 +1,6 @@
 pub mod ChunkLemmas
 pub mod PlaceLemmas
+pub mod LendLemmas
 pub mod MapLemmas
 pub mod RisingLemmas
 pub mod KeyLemmas
@@ -24,3 +25,6 @@ pub mod StillLemmas
 pub mod StillCalls
 pub mod CancelLemmas
 pub mod SameLemmas
+pub mod MemoryLemmas
+pub mod EqualityLemmas
+pub mod CarryLemmas

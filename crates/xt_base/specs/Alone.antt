@@ -160,6 +160,11 @@ names_held (Reply.CommittedHeld number held) = true
 names_held (Reply.Aborted held) = true
 names_held other = false
 
+-- whether a reply carries the content of a block
+abbrev pub carries_content : Reply → Bool
+carries_content (Reply.Data content) = true
+carries_content other = false
+
 -- whether a begin found something to do
 abbrev pub has_begun : Reply → Bool
 has_begun (Reply.Begun number pieces) = true

@@ -14,6 +14,7 @@ pub mod Legs
 pub mod Calls
 pub mod Jobs
 pub mod Alone
+pub mod Carried
 pub mod Offers
 pub mod Order
 pub mod Sound
@@ -21,3 +22,4 @@ pub mod Own
 pub mod Marks
 pub mod Isolation
 pub mod Laws
+pub mod Lending

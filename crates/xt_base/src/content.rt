@@ -46,6 +46,18 @@ impl Content {
         Content::of_vec(alloc, copy)
     }
 
+    /// The content of these boxed bytes, which are taken over; None where they are not 4,096. It takes no memory.
+    pub fn of_boxed(bytes: Box<Vec<u8>>) -> Option<Self>
+        ensures whole { IsSome result ↔ (length bytes.value.items ≡ BLOCK_BYTES) }
+        ensures value { IfSome result (λ content. content ≡ bytes.value.items) }
+    {
+        if bytes.len() == BLOCK_BYTES {
+            Some(Content { bytes })
+        } else {
+            None
+        }
+    }
+
     /// The content of these bytes, which are taken over; None where they are not 4,096. The one error is want of memory.
     pub fn of_vec(alloc: Global, bytes: Vec<u8>) -> Result<Option<Self>, AllocError>
         ensures whole { IfOk result (λ found. IsSome found ↔ (length bytes.items ≡ BLOCK_BYTES)) }
@@ -195,5 +207,39 @@ impl HeldBlocks {
         ensures count { (0 < length result.now) × (length result.now ≤ BUSY_BLOCKS) }
     {
         &self.blocks
+    }
+
+    /// A copy, in a room that was made before. It takes no memory.
+    pub fn copy_into(&self, room: HeldRoom) -> HeldBlocks
+        ensures { result ≡ self.now }
+    {
+        let HeldRoom { mut blocks } = room;
+        blocks.extend_from_slice(&self.blocks).unwrap();
+        HeldBlocks { blocks }
+    }
+}
+
+/// Room for a list of held blocks, made before it is known which: 64 blocks, in a box. Clauses see nothing of it but that it is there.
+#[derive(Debug, Drop)]
+pub struct HeldRoom {
+    blocks: Box<Vec<Block>>,
+}
+
+impl Model for HeldRoom {
+    ghost use Rattle.std.specs.Prelude.{◌≡◌, ◌≤◌, [], vec_capacity, ⊤};
+    ghost use Rattle.xt_base.specs.declared.sizes.TheConstants.{BUSY_BLOCKS};
+
+    ghost Value = { ⊤ };
+
+    ghost view = { λ r. tt };
+
+    ghost invariant = { λ r. (r.blocks.value.items ≡ []) × (BUSY_BLOCKS ≤ vec_capacity r.blocks.value) };
+}
+
+impl HeldRoom {
+    /// Room for 64 blocks. The one error is want of memory.
+    pub fn new(alloc: Global) -> Result<Self, AllocError> {
+        let blocks = Box::new(alloc, Vec::with_capacity(alloc, BUSY_BLOCKS)?)?;
+        Ok(HeldRoom { blocks })
     }
 }

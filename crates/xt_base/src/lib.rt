@@ -4,6 +4,7 @@
 
 pub mod chunks;
 pub mod content;
+pub mod equality;
 pub mod form;
 pub mod kinds;
 pub mod laws;
@@ -16,7 +17,7 @@ pub mod sizes;
 pub mod steps;
 
 pub use chunks::Chunks;
-pub use content::{Content, Data, HeldBlocks};
+pub use content::{Content, Data, HeldBlocks, HeldRoom};
 pub use form::Form;
 pub use map::NumberMap;
 pub use marks::ItemMarks;

@@ -1,6 +1,8 @@
 //! A finite map from numbers, for a mount's small tables.
 
-ghost use Rattle.std.specs.Prelude.{◌≡◌, ◌+◌, ◌≤◌, ◌<◌, ◌==◌, ◌∷◌, ◌++◌, [], false, true, length, take, drop, slice_get, IfOk, IfSome, IfNone, MatchOption, option_copied};
+ghost use Rattle.std.specs.Prelude.{◌≡◌, ◌+◌, ◌≤◌, ◌<◌, ◌==◌, ◌∷◌, ◌++◌, [], Some, false, true, length, take, drop, slice_get, IfOk, IfSome, IfNone, MatchOption, option_copied};
+ghost use Rattle.std.specs.Borrow.{sem};
+ghost use Rattle.xt_base.specs.Lending.{lends_value};
 ghost use Rattle.xt_base.specs.Maps.{at, is_in, put as with_entry, without};
 ghost use Rattle.xt_base.specs.Places.{place, spot};
 ghost use Rattle.xt_base.specs.Sound.{IsRising};
@@ -71,6 +73,16 @@ impl<V> NumberMap<V> {
         } else {
             None
         }
+    }
+
+    /// The value of a key that it has, to be changed where it stands.
+    pub fn value_mut(&mut self, key: u64) -> &mut V
+        requires { is_in key self.old ≡ true }
+        ensures* writes_back { sem 𝓛 (lends_value V.row self.entry key result) }
+        ensures value { at key self.old ≡ Some result.now }
+    {
+        let at = place_of(&self.entries, key);
+        &mut self.entries[at].1
     }
 
     /// Whether it has a key.

@@ -1,10 +1,11 @@
 //! Requests, answers, replies, steps and offers.
 
-ghost use Rattle.std.specs.Prelude.{◌≡◌, ◌≤◌, length, IfOk};
+ghost use Rattle.std.specs.Prelude.{◌≡◌, ◌≤◌, false, true, length, is_some, IfOk};
+ghost use Rattle.xt_base.specs.Alone.{carries_content, names_held};
 ghost use Rattle.xt_base.specs.Errors.{name_of, number_of};
 ghost use Rattle.xt_base.specs.Steps.{slot_of};
 
-use crate::content::{Content, Data, HeldBlocks};
+use crate::content::{Content, Data, HeldBlocks, HeldRoom};
 use crate::names::{Block, CkptNo, JobName, Life, Slot, TransNo, Worker};
 use crate::sizes::FLUSH_BLOCKS;
 use std::alloc::{AllocError, Global};
@@ -79,7 +80,7 @@ pub enum Reason {
 }
 
 /// What a mount is asked: the calls of `xfs_trans.h`, the log force of `xfs_log.h`, and its administration.
-#[derive(Debug, Drop)]
+#[derive(Debug, Drop, PartialEq)]
 pub enum Request {
     /// Opens a transaction: log bytes for a leg, 1 to 8 legs, and whether it may roll (`xfs_trans_alloc`).
     Alloc {
@@ -169,7 +170,7 @@ pub enum Request {
 }
 
 /// What the home device answered to a read, if it was asked.
-#[derive(Debug, Drop)]
+#[derive(Debug, Drop, PartialEq)]
 pub enum Answer {
     /// It was not asked.
     None,
@@ -180,7 +181,7 @@ pub enum Answer {
 }
 
 /// What a step is answered. Each spelling of the line language is one value.
-#[derive(Debug, Drop)]
+#[derive(Debug, Drop, PartialEq)]
 pub enum Reply {
     Okay,
     /// `ok`, with the blocks that a cancelled transaction leaves held.
@@ -222,7 +223,7 @@ pub struct LogAnswers {
 
 /// What the home device answered to a flush: to the first `count` writes, 0 to 8, and to the sync.
 /// A count of 0 means that nothing was offered, and no answer given.
-#[derive(Clone, Copy, Debug)]
+#[derive(Clone, Copy, Debug, PartialEq)]
 pub struct HomeAnswers {
     pub count: u8,
     pub writes: [bool; FLUSH_BLOCKS],
@@ -349,6 +350,46 @@ impl Answer {
             Answer::Failed => Answer::Failed,
         };
         Ok(answer)
+    }
+}
+
+impl Reply {
+    /// A copy of a reply without a content; blocks that it names are copied into a room that was made before. It takes no memory.
+    pub fn copy_into(&self, room: Option<HeldRoom>) -> Reply
+        requires content { carries_content self.now ≡ false }
+        requires room { names_held self.now ≡ true → is_some room ≡ true }
+        ensures { result ≡ self.now }
+    {
+        match self {
+            Reply::Okay => Reply::Okay,
+            Reply::OkayHeld(held) => Reply::OkayHeld(held.copy_into(room.unwrap())),
+            Reply::Life(life) => Reply::Life(*life),
+            Reply::Trans(trans) => Reply::Trans(*trans),
+            Reply::Committed(number) => Reply::Committed(*number),
+            Reply::CommittedHeld { number, held } => Reply::CommittedHeld {
+                number: *number,
+                held: held.copy_into(room.unwrap()),
+            },
+            Reply::Aborted(held) => Reply::Aborted(held.copy_into(room.unwrap())),
+            Reply::Wait(number) => Reply::Wait(*number),
+            Reply::Done => Reply::Done,
+            Reply::Kept => Reply::Kept,
+            Reply::Free => Reply::Free,
+            Reply::Data(_) => unreachable!(),
+            Reply::Nothing => Reply::Nothing,
+            Reply::Begun { number, pieces } => Reply::Begun {
+                number: *number,
+                pieces: *pieces,
+            },
+            Reply::Landed(number) => Reply::Landed(*number),
+            Reply::Failed(number) => Reply::Failed(*number),
+            Reply::Flushed(count) => Reply::Flushed(*count),
+            Reply::Seen { life, reason } => Reply::Seen {
+                life: *life,
+                reason: *reason,
+            },
+            Reply::Refused(errno) => Reply::Refused(*errno),
+        }
     }
 }
 

@@ -8,7 +8,7 @@ use Rattle.xt_base.specs.Steps.{slot_of}
 use Rattle.xt_base.specs.declared.steps.Reason.{Reason}
 use Rattle.xt_base.specs.declared.steps.Reply.{Reply}
 use Rattle.xt_base.specs.declared.steps.Step.{Step}
-use Rattle.xt_core.proofs.MemoryLemmas.{alone_no_want}
+use Rattle.xt_base.proofs.MemoryLemmas.{alone_no_want}
 use Rattle.xt_core.specs.Cells.{Cell, IsTurned, IsUnturned, with_lone}
 use Rattle.xt_mount.specs.Slots.{IsServed, IsServedUnlessMemory, SlotState, lone_with}
 

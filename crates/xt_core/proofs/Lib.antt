@@ -4,7 +4,6 @@ pub mod LifeLemmas
 pub mod OrderLemmas
 pub mod FitsLemmas
 pub mod RunLemmas
-pub mod MemoryLemmas
 pub mod StruckLemmas
 pub mod HostLemmas
 pub mod HostRunLemmas

@@ -1,2 +1,3 @@
+pub mod SettleLemmas
 pub mod FrameLemmas
 pub mod FreshLemmas

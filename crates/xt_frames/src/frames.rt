@@ -1,8 +1,9 @@
 //! Contents: the committed ones of busy blocks, fresh marks, and the idle list.
 
-ghost use Rattle.std.specs.Prelude.{◌≡◌, ◌+◌, Some, ◌<◌, ◌≤◌, ◌++◌, ◌∷◌, [], length, take, drop, slice_get, IfOk, IfSome, option_copied, if◌then◌else◌};
+ghost use Rattle.std.specs.Prelude.{ℕ, Bool, ◌≡◌, ◌+◌, ◌-◌, Some, None, ◌<◌, ◌≤◌, ◌++◌, ◌∷◌, [], length, take, drop, slice_get, IfOk, IfSome, option_copied, if◌then◌else◌, ◌⊎◌, ◌&&◌, nat_lt, not};
 ghost use Rattle.xt_base.specs.Maps.{at, has, is_in, put, with_member, without, without_member};
 ghost use Rattle.xt_frames.specs.Contents.{no_frames, brought_in};
+ghost use Rattle.xt_frames.specs.Settling.{content_block, contents_from, fresh_block, fresh_from, saved_by, settled_by};
 
 use crate::fresh::FreshBlocks;
 use std::alloc::{AllocError, Global};
@@ -64,20 +65,11 @@ impl Frames {
         spot_of(&self.idle, block) < self.idle.len()
     }
 
-    /// How many committed contents there are.
-    pub fn committed_len(&self) -> usize
-        ensures value { result ≡ length self.now.committed }
-        ensures small { result ≤ ROOM }
-        ensures idle { length self.now.idle ≤ IDLE_BLOCKS }
+    /// Whether there is no room for one more content, or for one more fresh mark.
+    pub fn is_full(&self) -> bool
+        ensures { result ≡ not (nat_lt (length self.now.committed) ROOM && nat_lt (length self.now.fresh) ROOM) }
     {
-        self.committed.len()
-    }
-
-    /// How many fresh blocks there are.
-    pub fn fresh_len(&self) -> usize
-        ensures { result ≡ length self.now.fresh }
-    {
-        self.fresh.len()
+        !(self.committed.len() < ROOM && self.fresh.len() < ROOM)
     }
 
     /// The committed content of a block.
@@ -158,16 +150,105 @@ impl Frames {
         self.fresh.remove(block);
     }
 
-    /// The block of the committed content at a place.
-    pub fn committed_at(&self, index: usize) -> u64
-        requires { index < length self.now.committed }
-        ensures { IfSome (slice_get self.now.committed index) (λ e. result ≡ e.0) }
+    /// Contents and fresh marks of blocks that are not busy go. Where contents are kept, they go to the front of the idle
+    /// list, ascending by block, which is cut at 64. `is_busy` is asked once of each block, in rising order; what it is lent
+    /// is its own, for where it looked last. It takes no memory.
+    pub fn settle<F: Fn(&mut usize, u64) -> bool>(&mut self, is_kept: bool, is_busy: F)
+        requires { F.IsAlwaysCallable is_busy }
+        ensures { (busy : ℕ → Bool) → ((near : _) → (b : ℕ) → (r : Bool) → (after : _) → F.post is_busy near b r after → r ≡ busy b) → self.new ≡ settled_by busy is_kept self.old }
     {
-        self.committed.entries()[index].0
+        let mut near = 0;
+        let mut content = 0;
+        let mut mark = 0;
+        while let Some(block) = self.next_block(content, mark) {
+            let stays = is_busy(&mut near, block);
+            content = self.settle_content(content, block, stays, is_kept);
+            mark = self.settle_mark(mark, block, stays);
+        }
+    }
+
+    /// Committed contents of blocks that are not saved go. It takes no memory.
+    pub fn forget<F: Fn(u64) -> bool>(&mut self, is_saved: F)
+        requires { F.IsAlwaysCallable is_saved }
+        ensures { (saved : ℕ → Bool) → ((b : ℕ) → (r : Bool) → F.post is_saved b r → r ≡ saved b) → self.new ≡ saved_by saved self.old }
+    {
+        let mut content = 0;
+        while let Some(block) = self.content_block(content) {
+            let stays = is_saved(block);
+            content = self.settle_content(content, block, stays, false);
+        }
+    }
+
+    /// The lesser of the blocks at a place of the committed contents and at one of the fresh marks.
+    fn next_block(&self, content: usize, mark: usize) -> Option<u64>
+        ensures contents { result ≡ None → content_block content self.now ≡ None }
+        ensures marks { result ≡ None → fresh_block mark self.now ≡ None }
+        ensures block { IfSome result (λ block. (content_block content self.now ≡ Some block) ⊎ (fresh_block mark self.now ≡ Some block)) }
+        ensures idle { length self.now.idle ≤ IDLE_BLOCKS }
+    {
+        lesser(self.content_block(content), self.fresh_block(mark))
+    }
+
+    /// The block of the committed content at a place.
+    fn content_block(&self, index: usize) -> Option<u64>
+        ensures block { result ≡ content_block index self.now }
+        ensures small { IfSome result (λ _. index < ROOM) }
+        ensures idle { length self.now.idle ≤ IDLE_BLOCKS }
+    {
+        match self.committed.entries().get(index) {
+            Some(entry) => Some(entry.0),
+            None => None,
+        }
+    }
+
+    /// The fresh block at a place.
+    fn fresh_block(&self, index: usize) -> Option<u64>
+        ensures block { result ≡ fresh_block index self.now }
+        ensures small { IfSome result (λ _. index < ROOM) }
+    {
+        if index < self.fresh.len() {
+            Some(self.fresh.at(index))
+        } else {
+            None
+        }
+    }
+
+    /// The committed content at a place stays or goes, where it is of this block. The place of the next one.
+    fn settle_content(&mut self, index: usize, block: u64, stays: bool, is_kept: bool) -> usize
+        ensures contents { (busy : ℕ → Bool) → stays ≡ busy block → contents_from busy is_kept result self.new ≡ contents_from busy is_kept index self.old }
+        ensures fresh { self.new.fresh ≡ self.old.fresh }
+        ensures left { length self.new.committed - result ≤ length self.old.committed - index }
+        ensures fewer { content_block index self.old ≡ Some block → length self.new.committed - result < length self.old.committed - index }
+    {
+        if self.content_block(index) != Some(block) {
+            return index;
+        }
+        if stays {
+            return index + 1;
+        }
+        self.settle_at(index, is_kept);
+        index
+    }
+
+    /// The fresh mark at a place stays or goes, where it is of this block. The place of the next one.
+    fn settle_mark(&mut self, index: usize, block: u64, stays: bool) -> usize
+        ensures marks { (busy : ℕ → Bool) → stays ≡ busy block → fresh_from busy result self.new ≡ fresh_from busy index self.old }
+        ensures contents { self.new.committed ≡ self.old.committed }
+        ensures left { length self.new.fresh - result ≤ length self.old.fresh - index }
+        ensures fewer { fresh_block index self.old ≡ Some block → length self.new.fresh - result < length self.old.fresh - index }
+    {
+        if self.fresh_block(index) != Some(block) {
+            return index;
+        }
+        if stays {
+            return index + 1;
+        }
+        self.drop_fresh_at(index);
+        index
     }
 
     /// The committed content at a place goes; where it is to be kept, to the front of the idle list, which is cut at 64.
-    pub fn settle_at(&mut self, index: usize, is_kept: bool)
+    fn settle_at(&mut self, index: usize, is_kept: bool)
         requires { index < length self.old.committed }
         ensures { IfSome (slice_get self.old.committed index) (λ e. self.new ≡ record self.old {
           committed = take index self.old.committed ++ drop (index + 1) self.old.committed;
@@ -181,19 +262,30 @@ impl Frames {
         }
     }
 
-    /// The fresh block at a place.
-    pub fn fresh_at(&self, index: usize) -> u64
-        requires { index < length self.now.fresh }
-        ensures { slice_get self.now.fresh index ≡ Some result }
-    {
-        self.fresh.at(index)
-    }
-
-    /// The fresh block at a place goes.
-    pub fn drop_fresh_at(&mut self, index: usize)
+    /// The fresh mark at a place goes.
+    fn drop_fresh_at(&mut self, index: usize)
         requires { index < length self.old.fresh }
         ensures { self.new ≡ record self.old { fresh = take index self.old.fresh ++ drop (index + 1) self.old.fresh } }
     {
         self.fresh.remove_at(index);
+    }
+}
+
+/// The lesser of two blocks, of which none may be there.
+fn lesser(one: Option<u64>, other: Option<u64>) -> Option<u64>
+    ensures one { result ≡ None → one ≡ None }
+    ensures other { result ≡ None → other ≡ None }
+    ensures block { IfSome result (λ block. (one ≡ Some block) ⊎ (other ≡ Some block)) }
+{
+    match (one, other) {
+        (Some(block), Some(mark)) => {
+            if block <= mark {
+                Some(block)
+            } else {
+                Some(mark)
+            }
+        }
+        (Some(block), None) => Some(block),
+        (None, mark) => mark,
     }
 }

@@ -1,6 +1,6 @@
 //! The fresh blocks of a mount.
 
-ghost use Rattle.std.specs.Prelude.{◌≡◌, ◌+◌, ◌<◌, ◌++◌, [], Some, drop, length, slice_get, take, true, IfOk};
+ghost use Rattle.std.specs.Prelude.{◌≡◌, ◌+◌, ◌<◌, ◌≤◌, ◌++◌, [], Some, drop, length, slice_get, take, true, IfOk};
 ghost use Rattle.xt_base.specs.Maps.{has, with_member, without_member};
 ghost use Rattle.xt_base.specs.Marks.{marks_of, no_marks};
 
@@ -40,7 +40,8 @@ impl FreshBlocks {
 
     /// How many blocks are fresh.
     pub fn len(&self) -> usize
-        ensures { result ≡ length self.now }
+        ensures value { result ≡ length self.now }
+        ensures small { result ≤ ROOM }
     {
         self.marks.len()
     }

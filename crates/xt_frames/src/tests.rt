@@ -15,7 +15,7 @@ fn content_of(alloc: Global, first: u8) -> Result<Content, AllocError> {
 /// A content that begins with this byte is committed, where there is room.
 fn commit(alloc: Global, frames: &mut Frames, block: u64, first: u8) -> Result<(), AllocError> {
     let content = content_of(alloc, first)?;
-    if frames.committed_len() < 128 {
+    if !frames.is_full() {
         frames.commit(block, content);
     }
     Ok(())
@@ -28,18 +28,16 @@ fn with_one(alloc: Global, block: u64, first: u8) -> Result<Frames, AllocError> 
     Ok(frames)
 }
 
-/// The first committed content goes, where it is of this block; whether it was.
+/// The content of a block goes, and its fresh mark; whether it had a content.
 fn settle(frames: &mut Frames, block: u64, is_kept: bool) -> bool {
-    if frames.committed_len() == 0 || frames.committed_at(0) != block {
-        return false;
-    }
-    frames.settle_at(0, is_kept);
-    true
+    let had = frames.content(block).is_some();
+    frames.settle(is_kept, |_near, other| other != block);
+    had && frames.content(block).is_none()
 }
 
 /// A block is brought in, where there is room.
 fn bring(frames: &mut Frames, block: u64) {
-    if frames.committed_len() < 128 && frames.fresh_len() < 128 {
+    if !frames.is_full() {
         frames.bring(block);
     }
 }
@@ -98,21 +96,25 @@ fn another_content_is_brought(rt: HostRuntime) -> Result<(), AllocError> {
     let mut frames = with_one(rt.alloc(), 7, 0x11)?;
     let content = content_of(rt.alloc(), 0x33)?;
     let _is_idle = settle(&mut frames, 7, true);
-    assert!(rt; frames.committed_len() == 0);
-    frames.bring_content(7, content);
+    assert!(rt; frames.content(7).is_none());
+    if !frames.is_full() {
+        frames.bring_content(7, content);
+    }
     assert!(rt; begins(&frames, 7, 0x33) && !frames.is_idle(7));
     Ok(())
 }
 
-/// Committed contents stand by number.
+/// Contents go one by one, and others stay.
 #[test]
-fn contents_stand_by_number(rt: HostRuntime) -> Result<(), AllocError> {
+fn contents_go_one_by_one(rt: HostRuntime) -> Result<(), AllocError> {
     let mut frames = with_one(rt.alloc(), 9, 0x11)?;
     commit(rt.alloc(), &mut frames, 7, 0x33)?;
     commit(rt.alloc(), &mut frames, 5, 0x22)?;
     frames.uncommit(7);
-    assert!(rt; frames.committed_len() == 2);
-    assert!(rt; settle(&mut frames, 5, false) && settle(&mut frames, 9, false));
+    assert!(rt; frames.content(7).is_none() && begins(&frames, 5, 0x22));
+    assert!(rt; settle(&mut frames, 5, false) && begins(&frames, 9, 0x11));
+    frames.forget(|block| block != 9);
+    assert!(rt; frames.content(9).is_none() && !frames.is_idle(9));
     Ok(())
 }
 
@@ -132,17 +134,19 @@ fn the_idle_list_keeps_the_last_64(rt: HostRuntime) -> Result<(), AllocError> {
     Ok(())
 }
 
-/// Fresh blocks stand by number, and leave by number or by place.
+/// Fresh blocks come by number, and leave by number or where they settle.
 #[test]
 fn fresh_blocks_come_and_go(rt: HostRuntime) -> Result<(), AllocError> {
     let mut frames = Frames::new(rt.alloc())?;
     bring(&mut frames, 9);
     bring(&mut frames, 4);
-    assert!(rt; frames.fresh_len() == 2);
-    frames.make_fresh(6);
-    assert!(rt; frames.fresh_len() == 3 && frames.fresh_at(1) == 6);
-    frames.drop_fresh_at(0);
+    if !frames.is_full() {
+        frames.make_fresh(6);
+    }
+    assert!(rt; frames.is_fresh(4) && frames.is_fresh(6) && frames.is_fresh(9));
+    frames.settle(true, |_near, block| block != 4);
     frames.leave_fresh(6);
     assert!(rt; frames.is_fresh(9) && !frames.is_fresh(4) && !frames.is_fresh(6));
+    assert!(rt; !frames.is_idle(4));
     Ok(())
 }

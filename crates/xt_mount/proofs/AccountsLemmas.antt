@@ -36,13 +36,26 @@ module _ (t : ℕ) (u : Transaction) (ts m : List (ℕ × Transaction)) (is : at
   covered g whole same balance = omega (arith, ap (λ (x : Grant). x.unit * x.legs) same, balance, granted_out)
 
   -- the grant with another in its place
-  pub granted_in : (v : Transaction) (ns : List (ℕ × Transaction)) → IsRising ts → ns ≡ put t v m → granted ns + u.unit * u.legs ≡ granted ts + v.unit * v.legs
+  granted_in : (v : Transaction) (ns : List (ℕ × Transaction)) → IsRising ts → ns ≡ put t v m → granted ns + u.unit * u.legs ≡ granted ts + v.unit * v.legs
   granted_in v ns rises back =
       omega (arith, ap granted (back ∙ ap (put t v) out ∙ put_without 0 t v ts rises), sum_put grant_in 0 t v ts rises, ap (weight_at grant_in t) is)
 
   -- which has the same grant
-  pub granted_same : (v : Transaction) (ns : List (ℕ × Transaction)) → IsRising ts → ns ≡ put t v m → (f : Leg) → v ≡ record u { leg = f } → granted ns ≡ granted ts
+  granted_same : (v : Transaction) (ns : List (ℕ × Transaction)) → IsRising ts → ns ≡ put t v m → (f : Leg) → v ≡ record u { leg = f } → granted ns ≡ granted ts
   granted_same v ns rises back f same = omega (arith, granted_in v ns rises back, ap (λ (x : Transaction). x.unit * x.legs) same)
+
+-- the same where it was changed in its place
+pub granted_lent : (t : ℕ) (u v : Transaction) (ts : List (ℕ × Transaction)) → at t ts ≡ Some u → IsRising ts → (f : Leg) → v ≡ record u { leg = f } → granted (put t v ts) ≡ granted ts
+granted_lent t u v ts is rises f same = granted_same t u ts (without t ts) is refl v (put t v ts) rises (sym (put_without 0 t v ts rises)) f same
+
+module _ (t : ℕ) (u : Transaction) (ts : List (ℕ × Transaction)) (is : at t ts ≡ Some u) where
+  -- the grant with another in its place
+  pub granted_changed : (v : Transaction) → IsRising ts → granted (put t v ts) + u.unit * u.legs ≡ granted ts + v.unit * v.legs
+  granted_changed v rises = granted_in t u ts (without t ts) is refl v (put t v ts) rises (sym (put_without 0 t v ts rises))
+
+  -- its ticket has no more than the grant
+  pub covered_there : (whole : ℕ) → whole ≡ granted ts → u.unit * u.legs ≤ whole
+  covered_there whole balance = covered t u ts (without t ts) is refl (grant_of u) whole refl balance
 
 -- what is not there
 none_is : {A : Type 0} (o : Option A) → is_some o ≡ false → o ≡ None
@@ -58,18 +71,25 @@ granted_more t v ts ns rises absent back = omega (arith, ap granted back, sum_pu
 module _ (p q : AccountsState) (view : q ≡ p) (t : ℕ) (u v : Transaction) (m ns : List (ℕ × Transaction)) (is : at t q.transactions ≡ Some u) (rises : IsRising p.transactions) (out : m ≡ without t q.transactions)
     (back : ns ≡ put t v m) where
   -- the map with it
-  pub set_in : ns ≡ set_at t v q.transactions
+  set_in : ns ≡ set_at t v q.transactions
   set_in = back ∙ ap (put t v) out ∙ put_back t u v q.transactions (subst (λ (x : AccountsState). IsRising x.transactions) (sym view) rises) is
 
-  pub relegged : (f : Leg → Leg) → v ≡ record u { leg = f u.leg } → IfSome (at t p.transactions) (λ x. record q { transactions = ns } ≡ releg t x (f x.leg) p)
+  relegged : (f : Leg → Leg) → v ≡ record u { leg = f u.leg } → IfSome (at t p.transactions) (λ x. record q { transactions = ns } ≡ releg t x (f x.leg) p)
   relegged f changed =
       subst (λ (x : AccountsState). IfSome (at t x.transactions) (λ y. record q { transactions = ns } ≡ releg t y (f y.leg) x)) view
       (subst (λ o. IfSome o (λ y. record q { transactions = ns } ≡ releg t y (f y.leg) q)) (sym is) (ap (λ (xs : List (ℕ × Transaction)). record q { transactions = xs }) (set_in ∙ ap (λ x. set_at t x q.transactions) changed)))
 
+-- the same where it was changed in its place
+pub relegged_lent : (p q : AccountsState) → q ≡ p → (t : ℕ) (u v : Transaction) → at t q.transactions ≡ Some u → IsRising p.transactions → (f : Leg → Leg) → v ≡ record u { leg = f u.leg }
+    → IfSome (at t p.transactions) (λ x. record q { transactions = put t v q.transactions } ≡ releg t x (f x.leg) p)
+relegged_lent p q view t u v is rises f changed =
+    let before : IsRising q.transactions = subst (λ (x : AccountsState). IsRising x.transactions) (sym view) rises in
+    relegged p q view t u v (without t q.transactions) (put t v q.transactions) is rises refl (sym (put_without 0 t v q.transactions before)) f changed
+
 -- a transaction has a clean leg and so many legs left
 module _ (p q : AccountsState) (view : q ≡ p) (t : ℕ) (u v : Transaction) (m ns : List (ℕ × Transaction)) (is : at t q.transactions ≡ Some u) (rises : IsRising p.transactions) (out : m ≡ without t q.transactions)
     (back : ns ≡ put t v m) where
-  pub next_pages : (f : ℕ → ℕ) (g : Transaction → Items → Items) (log_bytes : ℕ) (items : Items) → v ≡ record u { legs = f u.legs; leg = clean_leg } → log_bytes ≡ q.log_bytes → items ≡ g u q.items
+  next_pages : (f : ℕ → ℕ) (g : Transaction → Items → Items) (log_bytes : ℕ) (items : Items) → v ≡ record u { legs = f u.legs; leg = clean_leg } → log_bytes ≡ q.log_bytes → items ≡ g u q.items
       → IfSome (at t p.transactions) (λ x. record { log_bytes = log_bytes; form = q.form; transactions = ns; items = items } ≡ legs_in t (f x.legs) x (record p { items = g x p.items }))
   next_pages f g log_bytes items changed size marked =
       let given : ℕ → List (ℕ × Transaction) → Items → AccountsState = λ b xs l. record { log_bytes = b; form = q.form; transactions = xs; items = l } in
@@ -77,6 +97,14 @@ module _ (p q : AccountsState) (view : q ≡ p) (t : ℕ) (u v : Transaction) (m
       (subst (λ o. IfSome o (λ y. given log_bytes ns items ≡ legs_in t (f y.legs) y (record q { items = g y q.items }))) (sym is)
       (ap (λ b. given b ns items) size ∙ ap (given q.log_bytes ns) marked
       ∙ ap (λ (xs : List (ℕ × Transaction)). given q.log_bytes xs (g u q.items)) (set_in p q view t u v m ns is rises out back ∙ ap (λ x. set_at t x q.transactions) changed)))
+
+-- the same where it was changed in its place
+pub next_lent : (p q : AccountsState) → q ≡ p → (t : ℕ) (u v : Transaction) → at t q.transactions ≡ Some u → IsRising p.transactions → (f : ℕ → ℕ) (g : Transaction → Items → Items) (log_bytes : ℕ) (items : Items)
+    → v ≡ record u { legs = f u.legs; leg = clean_leg } → log_bytes ≡ q.log_bytes → items ≡ g u q.items
+    → IfSome (at t p.transactions) (λ x. record { log_bytes = log_bytes; form = q.form; transactions = put t v q.transactions; items = items } ≡ legs_in t (f x.legs) x (record p { items = g x p.items }))
+next_lent p q view t u v is rises f g log_bytes items changed size marked =
+    let before : IsRising q.transactions = subst (λ (x : AccountsState). IsRising x.transactions) (sym view) rises in
+    next_pages p q view t u v (without t q.transactions) (put t v q.transactions) is rises refl (sym (put_without 0 t v q.transactions before)) f g log_bytes items changed size marked
 
 -- a grant that was not refused
 pub grant_is : (o : Option Errno) (t g : Grant) → Ok t ≡ grant_unless o g → t ≡ g

@@ -1,5 +1,5 @@
 -- The text of a checkpoint, chunk by chunk and item by item.
-use Rattle.std.proofs.Common.{◌≡◌, ◌∙◌, ◌+◌, ◌*◌, ◌-◌, ◌<◌, ◌≤◌, ℕ, suc, zero, List, [], ◌∷◌, ◌++◌, Option, Some, None, Bool, true, false, sym, ap, subst, refl, length, arith, map, take, filter, if◌then◌else◌, add-one, append-nil, length-append, IfSome}
+use Rattle.std.proofs.Common.{◌≡◌, ◌∙◌, ◌+◌, ◌*◌, ◌<◌, ◌≤◌, ℕ, suc, zero, List, [], ◌∷◌, ◌++◌, Option, Some, None, Bool, true, false, sym, ap, subst, refl, length, arith, map, take, filter, if◌then◌else◌, add-one, append-nil, length-append, IfSome}
 use Rattle.std.specs.Prelude.{All, ◌==◌, flat_map, get_or, is_some, not}
 use Rattle.std.specs.Int.{bit_at}
 use Rattle.std.proofs.lemmas.List.{take_more, length-map, map-append}

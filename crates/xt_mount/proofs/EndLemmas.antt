@@ -1,9 +1,9 @@
 -- The end of a leg, and what its transaction answers.
 use Rattle.std.proofs.Common.{◌≡◌, ◌∙◌, ◌+◌, ◌≤◌, length, Bool, IfSome, List, MatchOption, None, Option, Some, [], ap, false, arith, if◌then◌else◌, not, refl, subst, sym, true, ◌∷◌, ℕ}
 use Rattle.std.specs.List.{cons_option}
-use Rattle.std.specs.Prelude.{filter_map, is_some, option_map, ◌&&◌}
-use Rattle.xt_base.specs.Calls.{cancel, closed, commit, commit_number, committed_of, gives, held_of, io_of, okay_of, shut_if, with_trans}
-use Rattle.xt_base.specs.Legs.{aborted, ended, is_dirty, is_stale, owned_by, owner_aborted, owner_after, with_edit}
+use Rattle.std.specs.Prelude.{filter_map, option_map}
+use Rattle.xt_base.specs.Calls.{cancel, closed, gives, held_of, okay_of, shut_if, with_trans}
+use Rattle.xt_base.specs.Legs.{aborted, is_dirty, is_stale, owned_by, owner_aborted, owner_after, with_edit}
 use Rattle.xt_base.proofs.MapLemmas.{length_put_le, length_without_le}
 use Rattle.xt_base.specs.Maps.{at, has}
 use Rattle.xt_base.specs.Settle.{settled}

@@ -1,10 +1,10 @@
 -- A transaction that is taken out, changed and put back.
 use Rattle.std.proofs.Common.{◌≡◌, ◌≢◌, ◌∙◌, ◌+◌, ◌<◌, ◌≤◌, false, true, ℕ, suc, List, Option, None, [], ◌∷◌, Some, sym, ap, subst, refl, inl, inr, arith, IfSome, length}
 use Rattle.std.proofs.lemmas.Bool.{cases_order}
-use Rattle.xt_base.specs.Maps.{at, has, is_in, put, set_at, without, without_member}
-use Rattle.xt_base.specs.Calls.{is_own, not_fresh, with_leg}
+use Rattle.xt_base.specs.Maps.{at, has, is_in, put, set_at, without}
+use Rattle.xt_base.specs.Calls.{is_own, with_leg}
 use Rattle.xt_base.specs.Sound.{IsRising, IsSound, RisesFrom}
-use Rattle.xt_base.specs.State.{Frames, Leg, State, Transaction}
+use Rattle.xt_base.specs.State.{Leg, State, Transaction}
 use Rattle.xt_base.proofs.MapLemmas.{some_none, at_later, put_less, put_more, set_first, set_later, without_first, without_later}
 use Rattle.xt_base.proofs.RisingLemmas.{none_below}
 use Rattle.xt_base.proofs.SoundBounds.{few_changes, few_holds, fewer_changes, fewer_holds}

@@ -1,5 +1,5 @@
 -- A mount stays sound and of its slot and life, and its pieces in flight stay such as a log device takes, whatever it serves.
-use Rattle.std.proofs.Common.{◌≡◌, ◌∙◌, ◌⊎◌, ◌+◌, ◌*◌, ◌<◌, ◌≤◌, ◌∷◌, ℕ, suc, zero, List, Bool, [], true, false, sym, ap, subst, refl, inl, inr, IfOk, OnOk, OnErr, Option, None, Some, Result, Ok, Err, arith, drop, take, length, length-take, if◌then◌else◌}
+use Rattle.std.proofs.Common.{◌≡◌, ◌∙◌, ◌+◌, ◌*◌, ◌<◌, ◌≤◌, ◌∷◌, ℕ, suc, zero, List, Bool, [], true, false, sym, ap, subst, refl, IfOk, OnOk, OnErr, Option, None, Some, Result, Ok, Err, arith, drop, take, length, length-take, if◌then◌else◌}
 use Rattle.std.proofs.lemmas.List.Elements.{All-cons, All-nil}
 use Rattle.std.proofs.lemmas.List.{length-drop}
 use Rattle.std.specs.Prelude.{All, is_some}

@@ -1,5 +1,5 @@
 -- A call to one life of a slot, which an unmount empties.
-use Rattle.std.proofs.Common.{◌≡◌, ◌∙◌, ◌⊎◌, ℕ, Bool, None, Option, Some, [], ap, false, if◌then◌else◌, inl, inr, refl, subst, sym, true}
+use Rattle.std.proofs.Common.{◌≡◌, ◌∙◌, ℕ, Bool, None, Option, Some, [], ap, false, if◌then◌else◌, inl, inr, refl, subst, sym, true}
 use Rattle.std.specs.Prelude.{◌&&◌, ◌==◌}
 use Rattle.xt_base.proofs.SameLemmas.{same_call}
 use Rattle.xt_base.specs.Alone.{call, called, is_okay, may_want_memory, turn}

@@ -1,5 +1,5 @@
 -- A roll that goes on wants memory only to name the blocks that it leaves held.
-use Rattle.std.proofs.Common.{◌≡◌, ◌<◌, ◌∷◌, Bool, Err, Ok, OnErr, Result, List, None, Option, Some, [], ap, arith, false, if◌then◌else◌, length, refl, subst, sym, true, ℕ}
+use Rattle.std.proofs.Common.{◌≡◌, ◌<◌, ◌∷◌, Bool, Err, Ok, OnErr, Result, List, Option, Some, [], arith, false, if◌then◌else◌, length, refl, subst, sym, true, ℕ}
 use Rattle.std.proofs.lemmas.Bool.{false≢true}
 use Rattle.std.specs.Prelude.{is_some, not}
 use Rattle.xt_base.specs.Alone.{names_held}

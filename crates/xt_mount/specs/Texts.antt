@@ -1,5 +1,5 @@
 -- The text of a checkpoint, by the entries of the commit list.
-use Rattle.std.specs.Prelude.{Bool, List, All, false, length, true, ℕ, ◌==◌, ◌≡◌, ◌≤◌}
+use Rattle.std.specs.Prelude.{List, All, false, length, true, ℕ, ◌==◌, ◌≡◌, ◌≤◌}
 use Rattle.xt_base.specs.Maps.{is_in}
 use Rattle.xt_base.specs.Sound.{Each}
 use Rattle.xt_base.specs.Text.{chunk_bytes, content_at, item_text}

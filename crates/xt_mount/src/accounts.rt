@@ -305,11 +305,9 @@ impl Accounts {
         requires fits { IfSome (at trans self.old.transactions) (λ t. charge self.old.form.ends (edited block [] marked t.leg).changes ≤ t.unit) }
         ensures { IfSome (at trans self.old.transactions) (λ t. self.new ≡ releg trans t (edited block edit marked t.leg) self.old) }
     {
-        let Some(mut opened) = self.transactions.remove(trans) else {
-            unreachable!();
-        };
-        opened.log(self.form, block, edit, marked);
-        self.transactions.put_new(trans, opened);
+        let form = self.form;
+        let opened = self.transactions.value_mut(trans);
+        opened.log(form, block, edit, marked);
     }
 
     /// The leg of a transaction invalidates a block. It takes no memory.
@@ -320,11 +318,9 @@ impl Accounts {
         requires fits { IfSome (at trans self.old.transactions) (λ t. charge self.old.form.ends (invalidated block t.leg).changes ≤ t.unit) }
         ensures { IfSome (at trans self.old.transactions) (λ t. self.new ≡ releg trans t (invalidated block t.leg) self.old) }
     {
-        let Some(mut opened) = self.transactions.remove(trans) else {
-            unreachable!();
-        };
-        opened.inval(self.form, block);
-        self.transactions.put_new(trans, opened);
+        let form = self.form;
+        let opened = self.transactions.value_mut(trans);
+        opened.inval(form, block);
     }
 
     /// A block has the hold mark in the leg of a transaction. It takes no memory.
@@ -334,11 +330,8 @@ impl Accounts {
         requires few { IfSome (at trans self.old.transactions) (λ t. has t.leg.holds block ≡ false → length t.leg.changes + length t.leg.holds < ROOM) }
         ensures { IfSome (at trans self.old.transactions) (λ t. self.new ≡ releg trans t (record t.leg { holds = with_member block t.leg.holds }) self.old) }
     {
-        let Some(mut opened) = self.transactions.remove(trans) else {
-            unreachable!();
-        };
+        let opened = self.transactions.value_mut(trans);
         opened.hold(block);
-        self.transactions.put_new(trans, opened);
     }
 
     /// A block has no hold mark in the leg of a transaction. It takes no memory.
@@ -347,11 +340,8 @@ impl Accounts {
         requires rising { IsRising self.old.transactions }
         ensures { IfSome (at trans self.old.transactions) (λ t. self.new ≡ releg trans t (without_hold block t.leg) self.old) }
     {
-        let Some(mut opened) = self.transactions.remove(trans) else {
-            unreachable!();
-        };
+        let opened = self.transactions.value_mut(trans);
         opened.unhold(block);
-        self.transactions.put_new(trans, opened);
     }
 
     // ---- ends of legs
@@ -386,21 +376,9 @@ impl Accounts {
         ensures accounts { IfSome (at trans self.old.transactions) (λ t. self.new ≡ legs_in trans (legs_after t.legs) t (marked_in t self.old)) }
         ensures frames { IfSome (at trans self.old.transactions) (λ t. frames.new ≡ edits_kept t.leg.changes frames.old) }
     {
-        let Some(opened) = self.transactions.remove(trans) else {
-            unreachable!();
-        };
-        let (mut ticket, mut leg) = opened.into_parts();
-        keep_changes(frames, &mut self.items, &mut leg);
-        leg.next_leg();
-        match self
-            .space
-            .next_leg(&mut ticket, self.items.cil_cost(self.form))
-        {
-            Ok(()) => {}
-            Err(_) => unreachable!(),
-        }
-        self.transactions
-            .put_new(trans, OpenTrans::new(ticket, leg));
+        let form = self.form;
+        let opened = self.transactions.value_mut(trans);
+        opened.roll(form, frames, &mut self.items, &mut self.space);
     }
 
     /// A transaction ends, and its leg is given up. It takes no memory.
@@ -427,15 +405,8 @@ impl Accounts {
         ensures accounts { IfSome (at trans self.old.transactions) (λ t. self.new ≡ legs_in trans 0 t self.old) }
         ensures frames { IfSome (at trans self.old.transactions) (λ t. frames.new ≡ leg_lost t.leg frames.old) }
     {
-        let Some(opened) = self.transactions.remove(trans) else {
-            unreachable!();
-        };
-        let (mut ticket, mut leg) = opened.into_parts();
-        lose_leg(frames, &mut leg);
-        leg.next_leg();
-        self.space.give_up(&mut ticket);
-        self.transactions
-            .put_new(trans, OpenTrans::new(ticket, leg));
+        let opened = self.transactions.value_mut(trans);
+        opened.give_up(frames, &mut self.space);
     }
 
     // ---- checkpoints

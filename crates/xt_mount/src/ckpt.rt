@@ -1,10 +1,10 @@
 //! The begin and the end of a checkpoint job.
 
-ghost use Rattle.std.specs.Prelude.{◌≡◌, ◌+◌, ◌*◌, ◌≤◌, ◌<◌, ◌++◌, true, All, length, map, flat_map, is_some, is_none, IfOk, OnOk, OnErr, Some, [], IfSome, ◌==◌, if◌then◌else◌};
+ghost use Rattle.std.specs.Prelude.{◌≡◌, ◌+◌, ◌*◌, ◌≤◌, ◌<◌, ◌++◌, true, All, length, map, flat_map, is_some, is_none, IfOk, OnOk, OnErr, Some, [], IfSome, ◌==◌, if◌then◌else◌, false};
 ghost use Rattle.std.specs.Int.{bit_at};
 ghost use Rattle.xt_base.specs.Alone.{has_begun};
 ghost use Rattle.xt_base.specs.Calls.{gives};
-ghost use Rattle.xt_base.specs.Jobs.{begin as begin_step, end as end_step, failed as failed_step, flight_pieces, is_ok, landed as landed_step, next_pieces};
+ghost use Rattle.xt_base.specs.Jobs.{begin as begin_step, begun as begun_step, end as end_step, failed as failed_step, flight_pieces, is_ok, landed as landed_step, next_pieces};
 ghost use Rattle.xt_base.specs.Sound.{IsSound};
 ghost use Rattle.xt_base.specs.Text.{chunk, chunk_bytes, content_at};
 ghost use Rattle.xt_ckpt.specs.Items.{item_bytes, HasForm};
@@ -87,6 +87,44 @@ impl Machine {
             return Ok(Reply::Nothing);
         }
         let pieces = self.pieces_now()?;
+        self.depart(pieces)
+    }
+
+    /// The same, and these pieces have other owners too, so that they can be written where the mount is not at hand. `copies` is
+    /// changed only where a checkpoint is begun.
+    pub fn begin_shared(&mut self, copies: &mut Vec<Bytes>) -> Result<Reply, AllocError>
+        requires sound { IsSound (state_of self.old) }
+        requires outstanding { is_some (state_of self.old).jobs.ckpt ≡ true }
+        requires waiting { is_none self.old.accounts.items.flight ≡ true }
+        ensures ok { IfOk result (λ reply. gives reply (state_of self.new) ≡ begin_step (state_of self.old)) }
+        ensures few { OnOk result (length (flight_pieces self.new.accounts.items.flight) ≤ TEXT_PIECES) }
+        ensures err { OnErr result (state_of self.new ≡ state_of self.old) }
+        ensures want { OnErr result (has_begun (begin_step (state_of self.old)).reply ≡ true) }
+        ensures copies { IfOk result (λ reply. has_begun reply ≡ true → copies.new.items ≡ flight_pieces self.new.accounts.items.flight) }
+        ensures kept { IfOk result (λ reply. has_begun reply ≡ false → copies.new ≡ copies.old) }
+        ensures refused { OnErr result (copies.new ≡ copies.old) }
+    {
+        if self.is_shut() {
+            self.jobs.finish(JobKind::Ckpt);
+            return Ok(Reply::Nothing);
+        }
+        let pieces = self.pieces_now()?;
+        let shared = shared_pieces(self.alloc, &pieces)?;
+        let reply = self.depart(pieces)?;
+        *copies = shared;
+        Ok(reply)
+    }
+
+    /// The committed items of a live mount become the flight, with these pieces. The one error is want of memory, and then nothing changes.
+    fn depart(&mut self, pieces: Vec<Bytes>) -> Result<Reply, AllocError>
+        requires waiting { is_none self.old.accounts.items.flight ≡ true }
+        requires number { self.old.accounts.items.open_number < 18446744073709551615 }
+        requires few { length pieces.items ≤ TEXT_PIECES }
+        ensures ok { IfOk result (λ reply. gives reply (state_of self.new) ≡ begun_step pieces.items (state_of self.old)) }
+        ensures begun { IfOk result (λ reply. has_begun reply ≡ true) }
+        ensures pieces { OnOk result (flight_pieces self.new.accounts.items.flight ≡ pieces.items) }
+        ensures err { OnErr result (state_of self.new ≡ state_of self.old) }
+    {
         let number = self.accounts.open_number();
         let count = pieces.len() as u32;
         self.accounts.fly(self.alloc, pieces)?;
@@ -136,6 +174,17 @@ impl Machine {
             Reply::Failed(number)
         }
     }
+}
+
+/// Other owners of these pieces.
+fn shared_pieces(alloc: Global, pieces: &[Bytes]) -> Result<Vec<Bytes>, AllocError>
+    ensures { IfOk result (λ shared. shared.items ≡ pieces.now) }
+{
+    let mut shared = Vec::with_capacity(alloc, pieces.len())?;
+    for piece in pieces {
+        shared.push(piece.clone()?)?;
+    }
+    Ok(shared)
 }
 
 /// Whether the sync was answered Ok.

@@ -165,14 +165,7 @@ fn is_saved(leg: &TransRec, block: u64) -> bool
 fn lose_contents(frames: &mut Frames, leg: &TransRec)
     ensures { frames.new ≡ contents_lost leg.now frames.old }
 {
-    let mut index = 0;
-    while index < frames.committed_len() {
-        if is_saved(leg, frames.committed_at(index)) {
-            index += 1;
-        } else {
-            frames.settle_at(index, false);
-        }
-    }
+    frames.forget(|block| is_saved(leg, block));
 }
 
 /// A leg is given up: what it changed and holds is held as fresh, with no content. It takes no memory.

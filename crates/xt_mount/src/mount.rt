@@ -189,6 +189,25 @@ impl Mount {
         }
     }
 
+    /// The same, with the pieces of the checkpoint that is begun: other owners of the same bytes, so that they can be written
+    /// where the mount is not at hand. There are none where no checkpoint is begun.
+    pub fn begin_shared(&mut self, name: JobName) -> (Reply, Vec<Bytes>)
+        requires waiting { is_waiting name self.old ≡ true }
+        requires kind { is_ckpt name.kind ≡ true }
+        ensures begun { IsCallUnlessMemory has_begun (begin_step self.old) result.0 self.new self.old }
+        ensures same { IsSameMount self.new self.old }
+        ensures pieces { has_begun result.0 ≡ true → result.1.items ≡ flight_pieces self.new.items.flight }
+        ensures none { has_begun result.0 ≡ false → result.1.items ≡ [] }
+    {
+        let _name = name;
+        let mut pieces = Vec::new(self.machine.alloc);
+        let reply = match self.machine.begin_shared(&mut pieces) {
+            Ok(reply) => reply,
+            Err(_) => Reply::Refused(Errno::NoMemory),
+        };
+        (reply, pieces)
+    }
+
     /// Ends the checkpoint in flight by what the log device answered: how many pieces it took, and to the sync
     /// that follows where it took all. It takes no memory.
     pub fn end(&mut self, name: JobName, answers: LogAnswers) -> Reply

@@ -2,8 +2,9 @@
 
 ghost use Rattle.std.specs.Prelude.{◌≡◌, []};
 ghost use Rattle.xt_base.specs.Settle.{settled};
+ghost use Rattle.xt_frames.specs.Settling.{settled_by};
 ghost use Rattle.xt_mount.specs.Machines.{state_of};
-ghost use Rattle.xt_mount.specs.Settling.{is_busy_in, settled_contents, settled_fresh};
+ghost use Rattle.xt_mount.specs.Settling.{is_busy_in};
 
 use crate::accounts::Accounts;
 use crate::machine::Machine;
@@ -18,8 +19,7 @@ impl Machine {
         ensures { state_of self.new ≡ settled [] (state_of self.old) }
     {
         let is_live = self.shut.is_none();
-        settle_contents(&mut self.frames, &self.locks, &self.accounts, is_live);
-        settle_fresh(&mut self.frames, &self.locks, &self.accounts);
+        settle_frames(&mut self.frames, &self.locks, &self.accounts, is_live);
     }
 }
 
@@ -31,32 +31,11 @@ fn is_busy_in(locks: &Locks, accounts: &Accounts, near: &mut usize, block: u64) 
     accounts.is_listed_near(near, block) || locks.is_locked(Block(block))
 }
 
-/// Committed contents of blocks that are no longer busy go, on a live mount to the idle list.
-fn settle_contents(frames: &mut Frames, locks: &Locks, accounts: &Accounts, is_live: bool)
-    ensures { frames.new ≡ settled_contents (is_busy_in locks.now accounts.now.items) is_live frames.old }
+/// Contents of blocks that are no longer busy go, on a live mount to the idle list; their fresh marks go.
+fn settle_frames(frames: &mut Frames, locks: &Locks, accounts: &Accounts, is_live: bool)
+    ensures { frames.new ≡ settled_by (is_busy_in locks.now accounts.now.items) is_live frames.old }
 {
-    let mut near = 0;
-    let mut index = 0;
-    while index < frames.committed_len() {
-        if is_busy_in(locks, accounts, &mut near, frames.committed_at(index)) {
-            index += 1;
-        } else {
-            frames.settle_at(index, is_live);
-        }
-    }
-}
-
-/// Fresh marks of blocks that are no longer busy go.
-fn settle_fresh(frames: &mut Frames, locks: &Locks, accounts: &Accounts)
-    ensures { frames.new ≡ settled_fresh (is_busy_in locks.now accounts.now.items) frames.old }
-{
-    let mut near = 0;
-    let mut index = 0;
-    while index < frames.fresh_len() {
-        if is_busy_in(locks, accounts, &mut near, frames.fresh_at(index)) {
-            index += 1;
-        } else {
-            frames.drop_fresh_at(index);
-        }
-    }
+    frames.settle(is_live, |near, block| {
+        is_busy_in(locks, accounts, near, block)
+    });
 }

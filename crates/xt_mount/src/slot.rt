@@ -1,7 +1,7 @@
 //! One slot of the host: the last life given, and the mount if there is one.
 
-ghost use Rattle.std.specs.Prelude.{◌≡◌, ◌≤◌, ◌&&◌, All, IfSome, Ok, Some, if◌then◌else◌, is_some, length, option_copied, true, false, None, ℕ};
-ghost use Rattle.xt_base.specs.Alone.{is_okay, reason_of};
+ghost use Rattle.std.specs.Prelude.{◌≡◌, ◌≤◌, ◌&&◌, All, IfSome, Ok, Some, if◌then◌else◌, is_some, length, option_copied, true, false, None, [], ℕ};
+ghost use Rattle.xt_base.specs.Alone.{has_begun, is_okay, reason_of};
 ghost use Rattle.xt_base.specs.Calls.{is_unmount};
 ghost use Rattle.xt_base.specs.Jobs.{fits_pieces, fits_plan, is_begun, is_ckpt, is_owed_as, is_waiting};
 ghost use Rattle.xt_base.specs.Maps.{at, is_in};
@@ -227,6 +227,21 @@ impl MountSlot {
     {
         match &mut self.mount {
             Some(mount) => mount.begin(name),
+            None => unreachable!(),
+        }
+    }
+
+    /// The same, with the pieces of the checkpoint that is begun: other owners of the same bytes, so that they can be written
+    /// where the slot is not at hand. There are none where no checkpoint is begun.
+    pub fn begin_shared(&mut self, name: JobName) -> (Reply, Vec<Bytes>)
+        requires kind { is_ckpt name.kind ≡ true }
+        requires waiting { mount_is (is_waiting name) self.old.mounted ≡ true }
+        ensures served { (worker : ℕ) → IsServedUnlessMemory (AStep.Begin worker name) result.0 self.new self.old }
+        ensures pieces { has_begun result.0 ≡ true → result.1.items ≡ pieces_in self.new.mounted }
+        ensures none { has_begun result.0 ≡ false → result.1.items ≡ [] }
+    {
+        match &mut self.mount {
+            Some(mount) => mount.begin_shared(name),
             None => unreachable!(),
         }
     }

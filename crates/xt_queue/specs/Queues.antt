@@ -1,4 +1,5 @@
 -- The rule of the queue, over the names that wait in it and what each pass has done, and its four kinds of step.
+use Rattle.crossbeam_queue.specs.Fifo.{Held}
 use Rattle.std.specs.Prelude.{List, [], filter, length, map, slice_set, suc, zero, ℕ, ◌+◌, ◌++◌, ◌<◌, ◌==◌, ◌≡◌, ◌≤◌, ◌∷◌}
 use Rattle.xt_base.specs.declared.names.JobName.{JobName}
 use Rattle.xt_base.specs.declared.sizes.TheConstants.{QUEUE_PLACES, SLOTS}
@@ -82,3 +83,7 @@ Takes v x w = (w ≡ with_name v x) × ((waiting : List JobName) × Step (x ∷ 
 -- a post handed back, or a take of none: nothing changes, and the rule holds of what waits
 abbrev pub Sees : JobView → List JobName → Type 0
 Sees v waiting = Step waiting waiting v v
+
+-- at one moment as many names waited as there are places, the pass having this view
+abbrev pub WasFull : JobView → Type 0
+WasFull v = Held QUEUE_PLACES (Sees v)

@@ -1,26 +1,6 @@
-use Rattle.std.proofs.Common.{◌∙◌, ◌<◌, ◌≤◌, sym, false, length, arith}
+use Rattle.std.proofs.Common.{rules}
 use Rattle.xt_mount.specs.Ending.{is_saved}
-use Rattle.xt_mount.proofs.SettleLemmas.{settles_stay, settles_go, settles_fewer, settles_all}
 use Rattle.xt_mount.proofs.leg_end.lose_contents.Goals as goal
 
-pub loop-index-preserved-then-is_saved : goal.loop-index-preserved-then-is_saved
-loop-index-preserved-then-is_saved c =
-    let lt : c.loop-index.index < length c.loop-index.frames.committed = omega arith in
-    settles_stay (is_saved c.args.leg.now) false c.loop-index.index c.args.frames.now c.loop-index.frames c.loop-index.invariant c.committed_at.result lt c.committed_at.ensures
-    (sym c.is_saved.ensures ∙ c.if-is_saved.true)
-
-pub loop-index-preserved : goal.loop-index-preserved
-loop-index-preserved c =
-    let lt : c.loop-index.index < length c.loop-index.frames.committed = omega arith in
-    settles_go (is_saved c.args.leg.now) false c.loop-index.index c.args.frames.now c.loop-index.frames c.loop-index.invariant c.committed_at.result c.settle_at.new.self lt c.committed_at.ensures
-    (sym c.is_saved.ensures ∙ c.if-is_saved.false) c.settle_at.ensures
-
-pub loop-index-smaller : goal.loop-index-smaller
-loop-index-smaller c =
-    let lt : c.loop-index.index < length c.loop-index.frames.committed = omega arith in
-    settles_fewer (is_saved c.args.leg.now) false c.loop-index.index c.args.frames.now c.loop-index.frames c.loop-index.invariant c.settle_at.new.self lt c.settle_at.ensures
-
 pub returns : goal.returns
-returns c =
-    let past : length c.loop-index.frames.committed ≤ c.loop-index.index = omega arith in
-    settles_all (is_saved c.args.leg.now) false c.loop-index.index c.args.frames.now c.loop-index.frames c.loop-index.invariant past c.committed_len.ensures.idle
+returns c = c.forget.ensures (is_saved c.args.leg.now) (λ b r h. search rules)

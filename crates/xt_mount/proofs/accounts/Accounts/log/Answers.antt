@@ -3,14 +3,14 @@ use Rattle.xt_base.specs.Calls.{edited}
 use Rattle.xt_base.specs.Sound.{IsRising}
 use Rattle.xt_mount.specs.Accounts.{AccountsState}
 use Rattle.xt_mount.specs.contracts.accounts.Accounts.{the_view}
-use Rattle.xt_mount.proofs.AccountsLemmas.{granted_same, relegged}
+use Rattle.xt_mount.proofs.AccountsLemmas.{granted_lent, relegged_lent}
 use Rattle.xt_mount.proofs.accounts.Accounts.log.Goals as goal
 
 pub invariant_of-self : goal.invariant_of-self
 invariant_of-self c =
     let rises = subst (λ (x : AccountsState). IsRising x.transactions) (sym c.self.view_is) c.requires.rising in
-    (c.self.invariant.0 ∙ sym (granted_same c.args.trans c.in-Some.opened c.self.inside.transactions _ (sym c.remove.ensures.value ∙ c.in-Some.is) c.remove.ensures.rest _ _ rises c.put_new.ensures _ c.log.ensures), c.self.invariant.1, c.self.invariant.2)
+    (c.self.invariant.0 ∙ sym (granted_lent c.args.trans c.value_mut-opened.result.now c.log.new.self c.self.inside.transactions c.value_mut-opened.ensures.value rises _ c.log.ensures), c.self.invariant.1, c.self.invariant.2)
 
 pub returns : goal.returns
 returns c =
-    relegged c.args.self.now (the_view c.self.inside) c.self.view_is c.args.trans c.in-Some.opened _ _ _ (sym c.remove.ensures.value ∙ c.in-Some.is) c.requires.rising c.remove.ensures.rest c.put_new.ensures (edited c.args.block c.args.edit c.args.marked) c.log.ensures
+    relegged_lent c.args.self.now (the_view c.self.inside) c.self.view_is c.args.trans c.value_mut-opened.result.now c.log.new.self c.value_mut-opened.ensures.value c.requires.rising (edited c.args.block c.args.edit c.args.marked) c.log.ensures

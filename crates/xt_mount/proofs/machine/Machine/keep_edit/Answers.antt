@@ -1,8 +1,8 @@
 use Rattle.std.proofs.Common.{◌∙◌, ◌≡◌, ◌≤◌, IfSome, [], ap, subst, sym}
-use Rattle.xt_base.specs.Calls.{edited, not_fresh, with_leg}
+use Rattle.xt_base.specs.Calls.{edited}
 use Rattle.xt_base.specs.Maps.{at, set_at, without_member}
 use Rattle.xt_base.specs.Space.{charge}
-use Rattle.xt_base.specs.State.{Frames, State, Transaction}
+use Rattle.xt_base.specs.State.{Frames, State}
 use Rattle.xt_mount.specs.Accounts.{AccountsState, releg}
 use Rattle.xt_mount.specs.Machines.{state_of}
 use Rattle.xt_mount.proofs.EndLemmas.{as_named}
