@@ -2,3 +2,4 @@ pub mod AppendLemmas
 pub mod ScriptLemmas
 pub mod PlayLemmas
 pub mod LineLemmas
+pub mod DumpLemmas

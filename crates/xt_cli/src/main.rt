@@ -3,19 +3,24 @@
 
 mod fault;
 mod lines;
+mod logdump;
 mod printing;
 mod script;
 #[cfg(test)]
 mod tests;
+mod window;
 mod writing;
 
 use clap::error::ErrorKind;
 use clap::{Arg, ArgMatches, Command};
 use fault::ScriptFault;
+use logdump::{dump, tell};
 use script::run_script;
 use std::alloc::{AllocError, Global};
+use std::fs::File;
 use std::io::{BufWriter, Input};
 use std::process::ExitCode;
+use window::{LOG_BYTES, LogFault};
 use xt_base::names::Slot;
 
 /// How many bytes of output are written at once.
@@ -38,13 +43,20 @@ fn command<'a>(alloc: Global) -> Result<Command<'a>, AllocError> {
     let strike = Command::new(alloc, "strike")
         .about("The same with the steps of one slot alone")
         .arg(slot)?;
+    let file = Arg::new(alloc, "FILE")
+        .help("The file of a log")
+        .required(true);
+    let logdump = Command::new(alloc, "logdump")
+        .about("Prints the checkpoints of a log file")
+        .arg(file)?;
     Command::new(alloc, "xth")
         .version("0.1.0")
         .about("Transactions over the blocks of a volume, step by step")
         .bin_name("xth")?
         .subcommand_required(true)
         .subcommand(script)?
-        .subcommand(strike)
+        .subcommand(strike)?
+        .subcommand(logdump)
 }
 
 /// The slot to which a script is struck, if it is.
@@ -58,6 +70,38 @@ fn script_on_streams(rt: &HostRuntime, only: Option<Slot>) -> Result<u8, ScriptF
     let alloc = rt.alloc();
     let mut writer = BufWriter::with_capacity(alloc, OUTPUT_BYTES, rt.stdout())?;
     Ok(run_script(alloc, &mut rt.reader(), &mut writer, &mut rt.stderr(), only))
+}
+
+/// Opens the file of a log, if it has at most 67,108,864 bytes.
+fn open_log(rt: &HostRuntime, path: &str) -> Result<File, LogFault> {
+    let file = File::open(rt, path)?;
+    if file.metadata()?.len() > LOG_BYTES as u64 {
+        return Err(LogFault::TooLong);
+    }
+    Ok(file)
+}
+
+/// Prints the checkpoints of a log file.
+fn dump_file(rt: &HostRuntime, path: &str) -> Result<u8, ScriptFault> {
+    let alloc = rt.alloc();
+    let mut writer = BufWriter::with_capacity(alloc, OUTPUT_BYTES, rt.stdout())?;
+    Ok(match open_log(rt, path) {
+        Ok(mut file) => dump(alloc, &mut file, &mut writer, &mut rt.stderr()),
+        Err(fault) => tell(&mut rt.stderr(), &fault),
+    })
+}
+
+/// The file whose log is printed, if that is asked.
+fn log_path<'a>(matches: &ArgMatches<'a>) -> Option<&'a str> {
+    matches.subcommand_matches("logdump")?.get_str("FILE")
+}
+
+/// Does what the words of a right command line say.
+fn obey(rt: &HostRuntime, matches: &ArgMatches) -> Result<u8, ScriptFault> {
+    match log_path(matches) {
+        Some(path) => dump_file(rt, path),
+        None => script_on_streams(rt, only_slot(matches)),
+    }
 }
 
 /// What a command line that is none prints, and its status.
@@ -74,7 +118,7 @@ fn run(rt: &HostRuntime) -> Result<u8, ScriptFault> {
     let alloc = rt.alloc();
     let words: Vec<String> = std::env::args(rt)?.collect(alloc)?;
     match command(alloc)?.try_get_matches_from(words.as_slice()) {
-        Ok(matches) => script_on_streams(rt, only_slot(&matches)),
+        Ok(matches) => obey(rt, &matches),
         Err(error) => refuse(rt, &error),
     }
 }

@@ -126,7 +126,7 @@ fn print_home_line<W: Write>(
 }
 
 /// Prints what the buffer holds, and a newline.
-fn print_line<W: Write>(writer: &mut W, text: &mut Text) -> io::Result<()>
+pub fn print_line<W: Write>(writer: &mut W, text: &mut Text) -> io::Result<()>
     requires { FitsLine text.old }
     ensures all { OnOk result (Appends (W.contents writer.old) (W.contents writer.new) (ended (held text.old))) }
     ensures part { Begins (W.contents writer.old) (W.contents writer.new) (ended (held text.old)) }

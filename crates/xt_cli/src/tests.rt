@@ -10,6 +10,7 @@ mod drive;
 mod frozen;
 mod home;
 mod idle;
+mod logdump;
 mod longest;
 mod maxima;
 mod names;

@@ -6,6 +6,7 @@ mod copies;
 pub mod fail_at;
 mod failures;
 pub mod fault;
+pub mod files;
 pub mod home;
 pub mod log;
 pub mod mem_home;
@@ -18,7 +19,8 @@ mod tests;
 
 pub use call::HomeCall;
 pub use fail_at::FailAt;
-pub use fault::DevFault;
+pub use fault::{DevFault, FileFault};
+pub use files::{FileHome, FileLog};
 pub use home::HomeDevice;
 pub use log::LogDevice;
 pub use mem_home::MemHome;

@@ -6,6 +6,8 @@
 ghost use Rattle.std.specs.Prelude.{◌≡◌, ◌≤◌, ◌<◌, [], false, length, is_ok};
 ghost use Rattle.xt_dev.specs.Devices.{failures_after};
 
+mod files;
+
 use crate::call::HomeCall;
 use crate::fail_at::FailAt;
 use crate::fault::DevFault;

@@ -2,6 +2,7 @@ pub mod Buffer
 pub mod DataText
 pub mod DataReading
 pub mod HomeReading
+pub mod Items
 pub mod Reading
 pub mod Lines
 pub mod LineReading

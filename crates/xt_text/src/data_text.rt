@@ -253,7 +253,7 @@ fn hex_digit(value: u8) -> u8
 
 /// Puts a byte as two digits.
 #[inline(always)]
-fn put_hex(out: &mut Text, byte: u8)
+pub(crate) fn put_hex(out: &mut Text, byte: u8)
     ensures { out.new ≡ put out.old (hex byte) }
 {
     out.push_both(hex_digit(byte / DIGITS), hex_digit(byte % DIGITS));

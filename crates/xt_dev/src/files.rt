@@ -1,0 +1,141 @@
+//! Devices over files. They tell nothing: no clause can say what a file has.
+
+ghost use Rattle.std.specs.Prelude.{◌≡◌, ◌*◌, ◌^◌, ◌<◌, [], None, Some, false, if◌then◌else◌, nat_lt, is_ok, IfOk};
+ghost use Rattle.xt_dev.specs.Devices.{failures_after};
+
+use crate::failures::Failures;
+use crate::fault::{DevFault, FileFault};
+use crate::home::HomeDevice;
+use crate::log::LogDevice;
+use std::fs::File;
+use std::io::{self, ErrorKind, Write};
+use std::os::unix::fs::FileExt;
+use std::path::AsPath;
+use std::rt::Files;
+use xt_base::names::Block;
+use xt_base::sizes::BLOCK_BYTES;
+
+/// How many blocks a file can have, since the end of the last is below 2^63: 2^51 - 1.
+pub const FILE_BLOCKS: u64 = 0x7_ffff_ffff_ffff;
+
+/// A log in a file, which is appended to. A failed call may leave a part of its piece at the end.
+#[derive(Drop)]
+pub struct FileLog {
+    file: File,
+    failures: Failures,
+}
+
+impl FileLog {
+    /// Opens the file of a new log; it is made where it is missing. `NotEmpty` where it has a byte, since what a log has is
+    /// never read again; `Io` where it can't be opened or is no file to write to, as a folder.
+    pub fn open<R: Files<File = File>, P: AsPath>(files: &R, path: P) -> Result<Self, FileFault>
+        ensures { IfOk result (λ log. ⟦<FileLog as LogDevice>⟧.log_failures log ≡ 0) }
+    {
+        let file = File::options().create(true).append(true).open(files, path)?;
+        if file.metadata()?.len() > 0 {
+            return Err(FileFault::NotEmpty);
+        }
+        Ok(FileLog {
+            file,
+            failures: Failures::none(),
+        })
+    }
+}
+
+impl LogDevice for FileLog {
+    ghost log_tells = { λ _. false };
+
+    ghost log_taken = { λ _. [] };
+
+    ghost log_failures = { λ d. d.failures.count };
+
+    fn append(&mut self, piece: &[u8]) -> Result<(), DevFault> {
+        let written = self.file.write_all(piece);
+        self.failures.answer(written.is_ok())
+    }
+
+    fn sync(&mut self) -> Result<(), DevFault> {
+        let synced = self.file.sync_data();
+        self.failures.answer(synced.is_ok())
+    }
+}
+
+/// A home device in a file: block B begins at B * 4,096. What lies behind the file's end is read as zeros. A call for
+/// a block from `FILE_BLOCKS` on fails.
+#[derive(Drop)]
+pub struct FileHome {
+    file: File,
+    failures: Failures,
+}
+
+impl FileHome {
+    /// Opens the file of a home device; it is made where it is missing, and keeps what it has. `Io` where it can't be
+    /// opened or is no file to read and write, as a folder.
+    pub fn open<R: Files<File = File>, P: AsPath>(files: &R, path: P) -> Result<Self, FileFault>
+        ensures { IfOk result (λ home. ⟦<FileHome as HomeDevice>⟧.home_failures home ≡ 0) }
+    {
+        let file = File::options()
+            .read(true)
+            .write(true)
+            .create(true)
+            .open(files, path)?;
+        Ok(FileHome {
+            file,
+            failures: Failures::none(),
+        })
+    }
+}
+
+impl HomeDevice for FileHome {
+    ghost home_tells = { λ _. false };
+
+    ghost home_taken = { λ _. [] };
+
+    ghost home_failures = { λ d. d.failures.count };
+
+    fn read(&mut self, block: Block, into: &mut [u8]) -> Result<(), DevFault> {
+        let is_read = is_block_read(&self.file, block, into);
+        self.failures.answer(is_read)
+    }
+
+    fn write(&mut self, block: Block, content: &[u8]) -> Result<(), DevFault> {
+        let is_written = is_block_written(&self.file, block, content);
+        self.failures.answer(is_written)
+    }
+
+    fn sync(&mut self) -> Result<(), DevFault> {
+        let synced = self.file.sync_data();
+        self.failures.answer(synced.is_ok())
+    }
+}
+
+/// Where a block begins; None where a file can't have it.
+fn offset_of(block: Block) -> Option<u64>
+    ensures { result ≡ (if nat_lt block FILE_BLOCKS then Some (block * BLOCK_BYTES) else None) }
+{
+    if block.0 < FILE_BLOCKS {
+        Some(block.0 * BLOCK_BYTES as u64)
+    } else {
+        None
+    }
+}
+
+/// Reads a block, with zeros for what lies behind the file's end; whether it could.
+fn is_block_read(file: &File, block: Block, into: &mut [u8]) -> bool {
+    let Some(offset) = offset_of(block) else {
+        return false;
+    };
+    into.fill(0);
+    match file.read_exact_at(into, offset) {
+        Ok(()) => true,
+        Err(error) => error.kind() == ErrorKind::UnexpectedEof,
+    }
+}
+
+/// Writes a whole block; whether it could.
+fn is_block_written(file: &File, block: Block, content: &[u8]) -> bool {
+    match offset_of(block) {
+        Some(offset) => file.write_all_at(content, offset).is_ok(),
+        None => false,
+    }
+}
