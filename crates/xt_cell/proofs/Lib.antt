@@ -1,0 +1,5 @@
+mod WriteLemmas
+mod BookLemmas
+mod ServedLemmas
+mod FactLemmas
+mod CallLemmas

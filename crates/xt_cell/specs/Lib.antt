@@ -1,0 +1,10 @@
+pub mod Keeping
+pub mod Counting
+pub mod Asking
+pub mod Books
+pub mod HostSeats
+pub mod Twins
+pub mod Events
+pub mod Facts
+pub mod Posts
+pub mod Cells

@@ -1,0 +1,92 @@
+//! What a slot's home device is asked, and what it answered.
+
+ghost use Rattle.std.specs.Prelude.{◌≡◌, ◌<◌, ◌≤◌, ◌-◌, ◌∷◌, ◌++◌, All, [], Some, true, length, map, take, drop, replicate, false, is_ok, IfOk};
+ghost use Rattle.xt_base.specs.Jobs.{fits_plan, sync_offer, write_answers, writes};
+ghost use Rattle.xt_base.specs.Maps.{is_in};
+ghost use Rattle.xt_base.specs.Order.{is_answer};
+ghost use Rattle.xt_base.specs.declared.sizes.TheConstants.{FLUSH_BLOCKS as MOST_WRITES};
+ghost use Rattle.xt_cell.specs.Asking.{committed_write, flush_calls, nearest, read_calls};
+ghost use Rattle.xt_dev.specs.Devices.{Tells};
+ghost use Rattle.xt_dev.specs.Flushes.{contents};
+ghost use Rattle.xt_mount.specs.Slots.{contents_in, form_in, plan_in};
+
+use std::alloc::{AllocError, Global};
+use xt_base::content::Content;
+use xt_base::names::Block;
+use xt_base::sizes::{BLOCK_BYTES, FLUSH_BLOCKS};
+use xt_base::steps::{Answer, HomeAnswers};
+use xt_dev::home::HomeDevice;
+use xt_dev::offer_home::offer_home;
+use xt_mount::slot::MountSlot;
+
+/// The place of a block that is going to be read. The one error is want of memory.
+pub fn place(alloc: Global) -> Result<Box<Vec<u8>>, AllocError>
+    ensures { IfOk result (λ bytes. length bytes.value.items ≡ BLOCK_BYTES) }
+{
+    let bytes = vec![in alloc; 0u8; BLOCK_BYTES]?;
+    Ok(Box::new(alloc, bytes)?)
+}
+
+/// Asks the home device for a block, once.
+pub fn read(home: &mut dyn HomeDevice, block: Block, bytes: Box<Vec<u8>>) -> Answer
+    requires whole { length bytes.value.items ≡ BLOCK_BYTES }
+    ensures answer { is_answer result ≡ true }
+    ensures asked { Tells (home_tells home.old) (home_taken home.old) (read_calls (Some block) result) (home_tells home.new) (home_taken home.new) }
+{
+    let mut bytes = bytes;
+    if home.read(block, bytes.as_mut_slice()).is_err() {
+        return Answer::Failed;
+    }
+    match Content::of_boxed(bytes) {
+        Some(content) => Answer::Content(content),
+        None => unreachable!(),
+    }
+}
+
+/// What a flush writes now of the block at a place of its plan; of the last one, where the plan has fewer.
+fn write_at<'a>(slot: &'a MountSlot, blocks: &[Block], place: usize) -> (Block, &'a [u8])
+    requires some { 0 < length blocks.now }
+    requires committed { All (λ b. is_in b (contents_in slot.now.mounted) ≡ true) blocks.now }
+    ensures write { (result.0, result.1.now) ≡ committed_write slot.now.mounted (nearest blocks.now place) }
+    ensures whole { length result.1.now ≡ BLOCK_BYTES }
+{
+    let block = blocks[place.min(blocks.len() - 1)];
+    match slot.committed(block) {
+        Some(content) => (block, content),
+        None => unreachable!(),
+    }
+}
+
+/// The writes of a plan in its order: the first places, as many as it has blocks.
+fn writes_of<'a>(slot: &'a MountSlot, blocks: &[Block]) -> [(Block, &'a [u8]); FLUSH_BLOCKS]
+    requires some { 0 < length blocks.now }
+    requires few { length blocks.now ≤ FLUSH_BLOCKS }
+    requires committed { All (λ b. is_in b (contents_in slot.now.mounted) ≡ true) blocks.now }
+    ensures writes { contents (take (length blocks.now) result) ≡ map (committed_write slot.now.mounted) blocks.now }
+    ensures whole { All (λ w. length w.1.now ≡ BLOCK_BYTES) (take (length blocks.now) result) }
+{
+    [
+        write_at(slot, blocks, 0),
+        write_at(slot, blocks, 1),
+        write_at(slot, blocks, 2),
+        write_at(slot, blocks, 3),
+        write_at(slot, blocks, 4),
+        write_at(slot, blocks, 5),
+        write_at(slot, blocks, 6),
+        write_at(slot, blocks, 7),
+    ]
+}
+
+/// Offers the home device what a flush writes now, each block once in the order of its plan, and then the sync. It takes no memory.
+pub fn flush(home: &mut dyn HomeDevice, slot: &MountSlot) -> HomeAnswers
+    ensures fits { fits_plan result (plan_in slot.now.mounted) ≡ true }
+    ensures offered { Tells (home_tells home.old) (home_taken home.old) (flush_calls result slot.now.mounted) (home_tells home.new) (home_taken home.new) }
+{
+    let plan = slot.flush_plan();
+    let blocks = plan.blocks();
+    if blocks.is_empty() {
+        return offer_home(home, &[]);
+    }
+    let writes = writes_of(slot, blocks);
+    offer_home(home, &writes[..blocks.len()])
+}

@@ -1,0 +1,248 @@
+//! One locked slot: its book, its devices, and its way to the queue.
+
+ghost use Rattle.std.specs.Prelude.{◌≡◌, ◌≤◌, [], None, IfOk, IfSome, MatchOption, OnOk, is_some, false, true};
+ghost use Rattle.xt_base.specs.Alone.{reason_of};
+ghost use Rattle.xt_base.specs.Calls.{is_unmount};
+ghost use Rattle.xt_base.specs.Isolation.{is_no_memory};
+ghost use Rattle.xt_base.specs.Order.{is_there, mount_is, of_life};
+ghost use Rattle.xt_base.specs.declared.steps.Step.{Step as AStep};
+ghost use Rattle.xt_cell.specs.Asking.{read_calls, step_calls};
+ghost use Rattle.xt_cell.specs.Books.{IsSameBook, may_hold, unwritten};
+ghost use Rattle.xt_cell.specs.Counting.{counted};
+ghost use Rattle.xt_cell.specs.Cells.{IsEvent, IsShown, IsStepOf, is_shutdown, word_shown};
+ghost use Rattle.xt_cell.specs.Facts.{has_log, is_flown_by_job, is_last_post};
+ghost use Rattle.xt_cell.specs.HostSeats.{IsSameSeat};
+ghost use Rattle.xt_cell.specs.Twins.{AreReady};
+ghost use Rattle.xt_dev.specs.Devices.{Tells};
+ghost use Rattle.xt_mount.specs.Come.{read_block};
+ghost use Rattle.xt_mount.specs.Slots.{stage_in};
+ghost use Rattle.xt_queue.specs.Names.{last_of, unposted};
+
+use crate::asking;
+use crate::book::{SlotBook, is_no_memory};
+use crate::house::House;
+use crate::mount_ref::MountRef;
+use crate::poster::Poster;
+use crate::posting::post_both;
+use crate::seat::HostSeat;
+use crate::shares::{Counts, Shares};
+use crate::twin::{Rooms, Twin};
+use std::alloc::{AllocError, Global};
+use std::sync::Wait;
+use xt_base::names::{JobName, Life};
+use xt_base::steps::{Answer, Errno, Reason, Reply, Request, Step};
+use xt_dev::home::HomeDevice;
+use xt_dev::log::LogDevice;
+use xt_mount::mount::Stage;
+use xt_queue::board::Board;
+
+/// What slot S's lock guards: its book with its mount, its devices, and its way to the queue. The home device is there exactly while
+/// the slot is mounted, the log device while it is mounted and no checkpoint is in flight; and it is known what was posted last.
+#[derive(Drop)]
+pub struct SlotCell<H: House, const S: u8> {
+    alloc: Global,
+    pub(crate) book: SlotBook<H, S>,
+    pub(crate) poster: Poster<S>,
+    pub(crate) home: Option<Box<dyn HomeDevice + Send>>,
+    pub(crate) log: Option<Box<dyn LogDevice + Send>>,
+    ghost last: { is_last_post (last_of unposted poster.posted) book.state ≡ true },
+    ghost has_home: { is_some home ≡ is_some book.state.mounted },
+    ghost log_at_hand: { is_some log ≡ has_log book.state.mounted },
+    ghost idle: { is_flown_by_job book.state.mounted ≡ true },
+}
+
+impl<H: House, const S: u8> SlotCell<H, S> {
+    /// A slot that was never mounted: its book, its way to the queue, and no device.
+    pub fn new(
+        alloc: Global,
+        book: SlotBook<H, S>,
+        poster: Poster<S>,
+        home: Option<Box<dyn HomeDevice + Send>>,
+        log: Option<Box<dyn LogDevice + Send>>,
+    ) -> Self
+        requires book { IsSameBook (unwritten S) book }
+        requires poster { poster.posted ≡ [] }
+        requires devices { (is_some home ≡ false) × (is_some log ≡ false) }
+        ensures book { result.book ≡ book }
+        ensures poster { result.poster ≡ poster.entry }
+    {
+        SlotCell {
+            alloc,
+            book,
+            poster,
+            home,
+            log,
+        }
+    }
+
+    /// How far a job has come; None where it is not outstanding here.
+    pub fn stage(&self, name: &JobName) -> Option<Stage>
+        ensures { result ≡ stage_in name.now self.now.book.state }
+    {
+        self.book.slot().stage(name)
+    }
+
+    /// Serves a request to one life of the slot: asks the home device where the mount must, books the step with its receipt,
+    /// posts what it made owed, and shows the mount on the board where the request shut it, or was to shut it. ENOMEM where memory is
+    /// refused: then nothing was booked, and all that changed is room. An unmount is no such request.
+    pub fn call<R: Wait>(
+        &mut self,
+        rt: &R,
+        seat: &mut HostSeat<H>,
+        board: &Board,
+        at: MountRef,
+        request: Request,
+    ) -> Reply
+    where
+        Shares<H>: Counts<H, S>,
+        requires slot { at.slot ≡ S }
+        requires board { seat.old.board.board ≡ board.now }
+        requires kind { is_unmount request ≡ false }
+        ensures refused { is_no_memory result ≡ true → IsSameBook self.old.book self.new.book × IsSameSeat seat.old seat.new }
+        ensures booked { is_no_memory result ≡ false → (step : AStep) × IsStepOf S at.life request self.old.book.state.mounted step × IsEvent S step result self.old.book self.new.book seat.old seat.new self.old.poster × MatchOption self.old.home (self.new.home ≡ None) (λ h. IfSome self.new.home (λ k. Tells (home_tells h) (home_taken h) (step_calls step) (home_tells k) (home_taken k))) }
+        ensures counted { is_no_memory result ≡ false → ⟦<Shares<H> as Counts<H, S>>⟧.counts seat.new.counts ≡ counted S (⟦<Shares<H> as Counts<H, S>>⟧.counts seat.old.counts) }
+        ensures shown { is_no_memory result ≡ false → IsShown S (word_shown (is_shutdown request) (reason_of self.old.book.state.mounted) self.new.book.state.mounted) seat.old.board seat.new.board }
+    {
+        let before = self.book.slot().shut();
+        let is_asked = is_shutdown(&request);
+        let SlotCell {
+            alloc,
+            book,
+            poster,
+            home,
+            ..
+        } = self;
+        let reply = serve_call(rt, *alloc, book, poster, seat, home, at.life, request);
+        if !is_no_memory(&reply) {
+            show_shut(book, seat, board, is_asked, before);
+        }
+        reply
+    }
+}
+
+/// Whether a request shuts its mount.
+fn is_shutdown(request: &Request) -> bool
+    ensures { result ≡ is_shutdown request.now }
+{
+    matches!(request, Request::Shutdown)
+}
+
+/// Shows a mount that is shut, where it was live before or was asked to be shut.
+fn show_shut<H: House, const S: u8>(
+    book: &SlotBook<H, S>,
+    seat: &mut HostSeat<H>,
+    board: &Board,
+    is_asked: bool,
+    before: Option<Reason>,
+)
+    requires board { seat.old.board.board ≡ board.now }
+    ensures shown { IsShown S (word_shown is_asked before book.now.state.mounted) seat.old.board seat.new.board }
+    ensures caller { seat.new.caller ≡ seat.old.caller }
+    ensures counts { seat.new.counts ≡ seat.old.counts }
+    ensures receipts { seat.new.receipts ≡ seat.old.receipts }
+{
+    let slot = book.slot();
+    let Some(life) = slot.life() else {
+        return;
+    };
+    let shut = slot.shut();
+    if shut.is_some() && (is_asked || before.is_none()) {
+        seat.show(board, slot.slot(), life, shut);
+    }
+}
+
+/// The home device's answer to a request to one life of a slot, where it must be asked; it is asked once. The one error is want
+/// of memory, and then it was not asked.
+fn asked<H: House, const S: u8>(
+    alloc: Global,
+    book: &SlotBook<H, S>,
+    home: &mut Option<Box<dyn HomeDevice + Send>>,
+    life: Life,
+    request: &Request,
+) -> Result<Answer, AllocError>
+    requires home { is_some home.old ≡ is_some book.now.state.mounted }
+    ensures there { IfOk result (λ answer. is_there (mount_is (of_life life request.now) book.now.state.mounted) answer ≡ true) }
+    ensures home { is_some home.new ≡ is_some home.old }
+    ensures asked { IfOk result (λ answer. MatchOption home.old (home.new ≡ None) (λ h. IfSome home.new (λ k. Tells (home_tells h) (home_taken h) (read_calls (read_block request.now) answer) (home_tells k) (home_taken k)))) }
+{
+    let Some(block) = book.slot().needs(life, request) else {
+        return Ok(Answer::None);
+    };
+    let place = asking::place(alloc)?;
+    match home {
+        Some(home) => Ok(asking::read(&mut **home, block, place)),
+        None => unreachable!(),
+    }
+}
+
+/// Makes all that an event of a request needs: room, the home device's answer, and the step. The one error is want of memory.
+fn ready<H: House, const S: u8>(
+    alloc: Global,
+    book: &mut SlotBook<H, S>,
+    seat: &mut HostSeat<H>,
+    home: &mut Option<Box<dyn HomeDevice + Send>>,
+    life: Life,
+    request: Request,
+) -> Result<(Twin<Step>, Rooms), AllocError>
+    requires home { is_some home.old ≡ is_some book.old.state.mounted }
+    ensures book { IsSameBook book.old book.new }
+    ensures seat { IsSameSeat seat.old seat.new }
+    ensures home { is_some home.new ≡ is_some home.old }
+    ensures room { OnOk result (3 ≤ book.new.room) }
+    ensures place { OnOk result (1 ≤ seat.new.room) }
+    ensures step { IfOk result (λ made. IsStepOf S life request book.old.state.mounted made.0.booked) }
+    ensures rooms { IfOk result (λ made. may_hold made.0.booked ≡ true → AreReady made.1) }
+    ensures asked { IfOk result (λ made. MatchOption home.old (home.new ≡ None) (λ h. IfSome home.new (λ k. Tells (home_tells h) (home_taken h) (step_calls made.0.booked) (home_tells k) (home_taken k)))) }
+{
+    book.reserve()?;
+    seat.reserve()?;
+    let rooms = Rooms::of(alloc, &request)?;
+    let answer = asked(alloc, book, home, life, &request)?;
+    let slot = book.slot().slot();
+    let step = Twin::shared(
+        alloc,
+        Step::Call {
+            slot,
+            life,
+            request,
+            answer,
+        },
+    )?;
+    Ok((step, rooms))
+}
+
+/// Serves a request and books it with its posts, or is refused memory.
+fn serve_call<H: House, R: Wait, const S: u8>(
+    rt: &R,
+    alloc: Global,
+    book: &mut SlotBook<H, S>,
+    poster: &mut Poster<S>,
+    seat: &mut HostSeat<H>,
+    home: &mut Option<Box<dyn HomeDevice + Send>>,
+    life: Life,
+    request: Request,
+) -> Reply
+where
+    Shares<H>: Counts<H, S>,
+    requires last { is_last_post (last_of unposted poster.old.posted) book.old.state ≡ true }
+    requires home { is_some home.old ≡ is_some book.old.state.mounted }
+    requires idle { is_flown_by_job book.old.state.mounted ≡ true }
+    requires kind { is_unmount request ≡ false }
+    ensures last { is_last_post (last_of unposted poster.new.posted) book.new.state ≡ true }
+    ensures home { is_some home.new ≡ is_some book.new.state.mounted }
+    ensures log { has_log book.new.state.mounted ≡ has_log book.old.state.mounted }
+    ensures idle { is_flown_by_job book.new.state.mounted ≡ true }
+    ensures board { seat.new.board ≡ seat.old.board }
+    ensures refused { is_no_memory result ≡ true → IsSameBook book.old book.new × IsSameSeat seat.old seat.new }
+    ensures booked { is_no_memory result ≡ false → (step : AStep) × IsStepOf S life request book.old.state.mounted step × IsEvent S step result book.old book.new seat.old seat.new poster.old × MatchOption home.old (home.new ≡ None) (λ h. IfSome home.new (λ k. Tells (home_tells h) (home_taken h) (step_calls step) (home_tells k) (home_taken k))) }
+    ensures counted { is_no_memory result ≡ false → ⟦<Shares<H> as Counts<H, S>>⟧.counts seat.new.counts ≡ counted S (⟦<Shares<H> as Counts<H, S>>⟧.counts seat.old.counts) }
+{
+    let Ok((step, rooms)) = ready(alloc, book, seat, home, life, request) else {
+        return Reply::Refused(Errno::NoMemory);
+    };
+    let reply = book.call(seat, step, rooms);
+    if !is_no_memory(&reply) {
+        post_both(rt, book, poster, seat.caller());
+    }
+    reply
+}

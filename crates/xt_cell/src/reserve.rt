@@ -1,0 +1,263 @@
+//! The shares that no seat has yet, with the next seat's number.
+
+ghost use Rattle.std.specs.Prelude.{◌≡◌, ◌+◌, ◌-◌, ◌<◌, ◌^◌, ◌↔◌, replicate, sum, length, None, IsSome, IfSome};
+ghost use Rattle.xt_base.specs.declared.sizes.TheConstants.{SLOTS};
+
+use crate::house::{House, Of};
+use crate::shares::Shares;
+use crate::tally::Tally;
+use std::marker::Model;
+use std::sync::ledger::{Blank, Book, Share};
+use xt_base::names::Caller;
+
+/// Sixteen new ledgers, which no house names yet.
+#[derive(Drop)]
+pub struct Blanks {
+    pub b0: Blank,
+    pub b1: Blank,
+    pub b2: Blank,
+    pub b3: Blank,
+    pub b4: Blank,
+    pub b5: Blank,
+    pub b6: Blank,
+    pub b7: Blank,
+    pub b8: Blank,
+    pub b9: Blank,
+    pub b10: Blank,
+    pub b11: Blank,
+    pub b12: Blank,
+    pub b13: Blank,
+    pub b14: Blank,
+    pub b15: Blank,
+}
+
+impl Blanks {
+    /// Sixteen ledgers, each cut into as many parts as a u64 counts: one for every seat that can ever be made.
+    pub fn new() -> Self
+        ensures parts { (result.b0.parts ≡ 2 ^ 64 - 1) × (result.b1.parts ≡ 2 ^ 64 - 1) × (result.b2.parts ≡ 2 ^ 64 - 1) × (result.b3.parts ≡ 2 ^ 64 - 1) × (result.b4.parts ≡ 2 ^ 64 - 1) × (result.b5.parts ≡ 2 ^ 64 - 1) × (result.b6.parts ≡ 2 ^ 64 - 1) × (result.b7.parts ≡ 2 ^ 64 - 1) × (result.b8.parts ≡ 2 ^ 64 - 1) × (result.b9.parts ≡ 2 ^ 64 - 1) × (result.b10.parts ≡ 2 ^ 64 - 1) × (result.b11.parts ≡ 2 ^ 64 - 1) × (result.b12.parts ≡ 2 ^ 64 - 1) × (result.b13.parts ≡ 2 ^ 64 - 1) × (result.b14.parts ≡ 2 ^ 64 - 1) × (result.b15.parts ≡ 2 ^ 64 - 1) }
+    {
+        Blanks {
+            b0: Blank::new(u64::MAX),
+            b1: Blank::new(u64::MAX),
+            b2: Blank::new(u64::MAX),
+            b3: Blank::new(u64::MAX),
+            b4: Blank::new(u64::MAX),
+            b5: Blank::new(u64::MAX),
+            b6: Blank::new(u64::MAX),
+            b7: Blank::new(u64::MAX),
+            b8: Blank::new(u64::MAX),
+            b9: Blank::new(u64::MAX),
+            b10: Blank::new(u64::MAX),
+            b11: Blank::new(u64::MAX),
+            b12: Blank::new(u64::MAX),
+            b13: Blank::new(u64::MAX),
+            b14: Blank::new(u64::MAX),
+            b15: Blank::new(u64::MAX),
+        }
+    }
+}
+
+/// The sixteen books, one a slot. Each goes behind the lock of its slot.
+#[derive(Drop)]
+pub struct Books<H: House> {
+    pub b0: Book<Of<H, 0>>,
+    pub b1: Book<Of<H, 1>>,
+    pub b2: Book<Of<H, 2>>,
+    pub b3: Book<Of<H, 3>>,
+    pub b4: Book<Of<H, 4>>,
+    pub b5: Book<Of<H, 5>>,
+    pub b6: Book<Of<H, 6>>,
+    pub b7: Book<Of<H, 7>>,
+    pub b8: Book<Of<H, 8>>,
+    pub b9: Book<Of<H, 9>>,
+    pub b10: Book<Of<H, 10>>,
+    pub b11: Book<Of<H, 11>>,
+    pub b12: Book<Of<H, 12>>,
+    pub b13: Book<Of<H, 13>>,
+    pub b14: Book<Of<H, 14>>,
+    pub b15: Book<Of<H, 15>>,
+}
+
+/// The parts of the ledger of slot S that no seat has. A contract sees how many.
+#[derive(Drop)]
+pub struct Purse<H: House, const S: u8> {
+    share: Share<Of<H, S>>,
+}
+
+impl<H: House, const S: u8> Model for Purse<H, S> {
+    ghost use Rattle.std.specs.Prelude.{◌≡◌, ℕ};
+
+    ghost Value = { ℕ };
+
+    ghost view = { λ p. p.share.parts };
+
+    ghost invariant = { λ p. p.share.amount ≡ 0 };
+}
+
+impl<H: House, const S: u8> Purse<H, S> {
+    /// Opens the ledger of slot S: its book, and all its parts.
+    pub fn open(blank: Blank) -> (Book<Of<H, S>>, Self)
+        requires name { blank.name ≡ H.names S }
+        requires parts { blank.parts ≡ H.all }
+        ensures total { result.0.total ≡ 0 }
+        ensures parts { result.1 ≡ H.all }
+    {
+        let (book, share) = blank.open();
+        (book, Purse { share })
+    }
+
+    /// Takes one part out, as a tally of no event.
+    pub fn draw(&mut self) -> Tally<H, S>
+        requires some { 0 < self.old }
+        ensures left { self.new + 1 ≡ self.old }
+        ensures value { result ≡ 0 }
+    {
+        Tally::new(self.share.split_off(1, 0))
+    }
+
+    /// Where the tallies that come back and the parts left here make up the whole ledger,
+    /// the tallies add up to the book's total.
+    pub fn settle(self, book: &mut Book<Of<H, S>>, tallies: Vec<Tally<H, S>>)
+        ensures whole { self + length tallies.items ≡ H.all → book.old.total ≡ sum tallies.items }
+        ensures same { book.new.total ≡ book.old.total }
+    {
+        let Purse { mut share } = self;
+        let mut rest = tallies;
+        while let Some(tally) = rest.pop() {
+            share.merge(tally.into_share());
+        }
+        book.audit(&mut share);
+    }
+}
+
+/// What a host keeps for the seats to come: the next seat's number, and one part of each ledger for each of them.
+/// A contract sees the next number.
+#[derive(Drop)]
+pub struct Reserve<H: House> {
+    next: u64,
+    p0: Purse<H, 0>,
+    p1: Purse<H, 1>,
+    p2: Purse<H, 2>,
+    p3: Purse<H, 3>,
+    p4: Purse<H, 4>,
+    p5: Purse<H, 5>,
+    p6: Purse<H, 6>,
+    p7: Purse<H, 7>,
+    p8: Purse<H, 8>,
+    p9: Purse<H, 9>,
+    p10: Purse<H, 10>,
+    p11: Purse<H, 11>,
+    p12: Purse<H, 12>,
+    p13: Purse<H, 13>,
+    p14: Purse<H, 14>,
+    p15: Purse<H, 15>,
+}
+
+impl<H: House> Model for Reserve<H> {
+    ghost use Rattle.std.specs.Prelude.{◌≡◌, ◌+◌, ◌<◌, ◌^◌, ℕ};
+
+    ghost Value = { ℕ };
+
+    ghost view = { λ r. r.next };
+
+    ghost invariant = { λ r. (0 < r.next) × (r.p0 + r.next ≡ 2 ^ 64) × (r.p1 + r.next ≡ 2 ^ 64) × (r.p2 + r.next ≡ 2 ^ 64) × (r.p3 + r.next ≡ 2 ^ 64) × (r.p4 + r.next ≡ 2 ^ 64) × (r.p5 + r.next ≡ 2 ^ 64) × (r.p6 + r.next ≡ 2 ^ 64) × (r.p7 + r.next ≡ 2 ^ 64) × (r.p8 + r.next ≡ 2 ^ 64) × (r.p9 + r.next ≡ 2 ^ 64) × (r.p10 + r.next ≡ 2 ^ 64) × (r.p11 + r.next ≡ 2 ^ 64) × (r.p12 + r.next ≡ 2 ^ 64) × (r.p13 + r.next ≡ 2 ^ 64) × (r.p14 + r.next ≡ 2 ^ 64) × (r.p15 + r.next ≡ 2 ^ 64) };
+}
+
+impl<H: House> Reserve<H> {
+    /// Opens the sixteen ledgers of the house: their books, and the reserve, whose first seat has the number 1.
+    pub fn open(blanks: Blanks) -> (Books<H>, Self)
+        requires names { (blanks.b0.name ≡ H.names 0) × (blanks.b1.name ≡ H.names 1) × (blanks.b2.name ≡ H.names 2) × (blanks.b3.name ≡ H.names 3) × (blanks.b4.name ≡ H.names 4) × (blanks.b5.name ≡ H.names 5) × (blanks.b6.name ≡ H.names 6) × (blanks.b7.name ≡ H.names 7) × (blanks.b8.name ≡ H.names 8) × (blanks.b9.name ≡ H.names 9) × (blanks.b10.name ≡ H.names 10) × (blanks.b11.name ≡ H.names 11) × (blanks.b12.name ≡ H.names 12) × (blanks.b13.name ≡ H.names 13) × (blanks.b14.name ≡ H.names 14) × (blanks.b15.name ≡ H.names 15) }
+        requires parts { (blanks.b0.parts ≡ H.all) × (blanks.b1.parts ≡ H.all) × (blanks.b2.parts ≡ H.all) × (blanks.b3.parts ≡ H.all) × (blanks.b4.parts ≡ H.all) × (blanks.b5.parts ≡ H.all) × (blanks.b6.parts ≡ H.all) × (blanks.b7.parts ≡ H.all) × (blanks.b8.parts ≡ H.all) × (blanks.b9.parts ≡ H.all) × (blanks.b10.parts ≡ H.all) × (blanks.b11.parts ≡ H.all) × (blanks.b12.parts ≡ H.all) × (blanks.b13.parts ≡ H.all) × (blanks.b14.parts ≡ H.all) × (blanks.b15.parts ≡ H.all) }
+        requires all { H.all ≡ 2 ^ 64 - 1 }
+        ensures totals { (result.0.b0.total ≡ 0) × (result.0.b1.total ≡ 0) × (result.0.b2.total ≡ 0) × (result.0.b3.total ≡ 0) × (result.0.b4.total ≡ 0) × (result.0.b5.total ≡ 0) × (result.0.b6.total ≡ 0) × (result.0.b7.total ≡ 0) × (result.0.b8.total ≡ 0) × (result.0.b9.total ≡ 0) × (result.0.b10.total ≡ 0) × (result.0.b11.total ≡ 0) × (result.0.b12.total ≡ 0) × (result.0.b13.total ≡ 0) × (result.0.b14.total ≡ 0) × (result.0.b15.total ≡ 0) }
+        ensures next { result.1 ≡ 1 }
+    {
+        let (b0, p0) = Purse::open(blanks.b0);
+        let (b1, p1) = Purse::open(blanks.b1);
+        let (b2, p2) = Purse::open(blanks.b2);
+        let (b3, p3) = Purse::open(blanks.b3);
+        let (b4, p4) = Purse::open(blanks.b4);
+        let (b5, p5) = Purse::open(blanks.b5);
+        let (b6, p6) = Purse::open(blanks.b6);
+        let (b7, p7) = Purse::open(blanks.b7);
+        let (b8, p8) = Purse::open(blanks.b8);
+        let (b9, p9) = Purse::open(blanks.b9);
+        let (b10, p10) = Purse::open(blanks.b10);
+        let (b11, p11) = Purse::open(blanks.b11);
+        let (b12, p12) = Purse::open(blanks.b12);
+        let (b13, p13) = Purse::open(blanks.b13);
+        let (b14, p14) = Purse::open(blanks.b14);
+        let (b15, p15) = Purse::open(blanks.b15);
+        let books = Books {
+            b0,
+            b1,
+            b2,
+            b3,
+            b4,
+            b5,
+            b6,
+            b7,
+            b8,
+            b9,
+            b10,
+            b11,
+            b12,
+            b13,
+            b14,
+            b15,
+        };
+        let reserve = Reserve {
+            next: 1,
+            p0,
+            p1,
+            p2,
+            p3,
+            p4,
+            p5,
+            p6,
+            p7,
+            p8,
+            p9,
+            p10,
+            p11,
+            p12,
+            p13,
+            p14,
+            p15,
+        };
+        (books, reserve)
+    }
+
+    /// The number of the next seat, with a tally of no event for each slot. None, and nothing changes, where the last u64 is next:
+    /// the numbers and the parts end together.
+    pub fn draw(&mut self) -> Option<(Caller, Shares<H>)>
+        ensures given { IsSome result ↔ (self.old + 1 < 2 ^ 64) }
+        ensures drawn { IfSome result (λ seat. (seat.0 ≡ self.old) × (seat.1 ≡ replicate SLOTS 0) × (self.new ≡ self.old + 1)) }
+        ensures none { result ≡ None → self.new ≡ self.old }
+    {
+        if self.next == u64::MAX {
+            return None;
+        }
+        let caller = Caller(self.next);
+        self.next += 1;
+        let shares = Shares {
+            s0: self.p0.draw(),
+            s1: self.p1.draw(),
+            s2: self.p2.draw(),
+            s3: self.p3.draw(),
+            s4: self.p4.draw(),
+            s5: self.p5.draw(),
+            s6: self.p6.draw(),
+            s7: self.p7.draw(),
+            s8: self.p8.draw(),
+            s9: self.p9.draw(),
+            s10: self.p10.draw(),
+            s11: self.p11.draw(),
+            s12: self.p12.draw(),
+            s13: self.p13.draw(),
+            s14: self.p14.draw(),
+            s15: self.p15.draw(),
+        };
+        Some((caller, shares))
+    }
+}

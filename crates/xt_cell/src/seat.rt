@@ -1,0 +1,111 @@
+//! What a caller keeps of its calls.
+
+ghost use Rattle.std.specs.Prelude.{◌≡◌, ◌+◌, ◌++◌, ◌∷◌, ◌≤◌, ◌<◌, ◌^◌, [], OnOk, IfSome, replicate, slice_index};
+ghost use Rattle.xt_cell.specs.Counting.{counted};
+ghost use Rattle.xt_queue.specs.Words.{word_of};
+ghost use Rattle.xt_cell.specs.HostSeats.{IsSameSeat, Shows};
+
+use crate::house::{House, Of};
+use crate::records::Receipt;
+use crate::shares::{Counts, Shares};
+use std::alloc::{AllocError, Global};
+use std::marker::Model;
+use std::sync::ledger::Book;
+use xt_base::names::{Caller, Life, Slot};
+use xt_base::steps::Reason;
+use xt_queue::board::{Board, Seat};
+
+/// One caller of the host: its number, its count of each slot's events, a receipt for each of them, and its seat at the board.
+/// A thread has a seat of its own, and lends it to each call.
+#[derive(Drop)]
+pub struct HostSeat<H: House> {
+    caller: Caller,
+    shares: Shares<H>,
+    receipts: Vec<Receipt>,
+    board: Seat,
+}
+
+impl<H: House> Model for HostSeat<H> {
+    ghost use Rattle.std.specs.Prelude.{◌-◌, vec_capacity, vec_len};
+    ghost use Rattle.xt_cell.specs.HostSeats.{HostSeatView};
+
+    ghost Value = { HostSeatView };
+
+    ghost view = { λ s. record { caller = s.caller; counts = s.shares; receipts = s.receipts.items; board = s.board; room = vec_capacity s.receipts - vec_len s.receipts } };
+}
+
+impl<H: House> HostSeat<H> {
+    /// The seat of a caller that did nothing yet.
+    pub fn new(alloc: Global, caller: Caller, shares: Shares<H>, board: Seat) -> Self
+        ensures caller { result.caller ≡ caller }
+        ensures counts { result.counts ≡ shares }
+        ensures receipts { result.receipts ≡ [] }
+        ensures board { result.board ≡ board }
+    {
+        HostSeat {
+            caller,
+            shares,
+            receipts: Vec::new(alloc),
+            board,
+        }
+    }
+
+    /// Its number, which no other seat of the host has.
+    pub fn caller(&self) -> Caller
+        ensures { result ≡ self.now.caller }
+    {
+        self.caller
+    }
+
+    /// Its receipts, in the order of its calls since it last forgot them.
+    pub fn receipts(&self) -> &[Receipt]
+        ensures { result.now ≡ self.now.receipts }
+    {
+        &self.receipts
+    }
+
+    /// Drops its receipts, so that a seat that calls for a day stays small. Its counts stay.
+    pub fn forget(&mut self)
+        ensures caller { self.new.caller ≡ self.old.caller }
+        ensures counts { self.new.counts ≡ self.old.counts }
+        ensures receipts { self.new.receipts ≡ [] }
+        ensures board { self.new.board ≡ self.old.board }
+    {
+        self.receipts.clear();
+    }
+
+    /// Makes room for one receipt. The one error is want of memory.
+    pub(crate) fn reserve(&mut self) -> Result<(), AllocError>
+        ensures same { IsSameSeat self.old self.new }
+        ensures room { OnOk result (1 ≤ self.new.room) }
+    {
+        self.receipts.reserve(1)
+    }
+
+    /// Shows a life of a slot, live or shut for a reason, on the board.
+    pub(crate) fn show(&mut self, board: &Board, slot: Slot, life: Life, shut: Option<Reason>)
+        requires board { self.old.board.board ≡ board.now }
+        ensures shown { Shows slot (word_of life shut) self.old.board self.new.board }
+        ensures caller { self.new.caller ≡ self.old.caller }
+        ensures counts { self.new.counts ≡ self.old.counts }
+        ensures receipts { self.new.receipts ≡ self.old.receipts }
+    {
+        board.show(&mut self.board, slot, life, shut);
+    }
+
+    /// Counts one event of a slot in its book, and keeps the receipt.
+    pub(crate) fn note<const S: u8>(&mut self, receipt: Receipt, book: &mut Book<Of<H, S>>)
+    where
+        Shares<H>: Counts<H, S>,
+        requires room { 1 ≤ self.old.room }
+        requires few { book.old.total < 2 ^ 63 }
+        ensures caller { self.new.caller ≡ self.old.caller }
+        ensures counted { ⟦<Shares<H> as Counts<H, S>>⟧.counts self.new.counts ≡ counted S (⟦<Shares<H> as Counts<H, S>>⟧.counts self.old.counts) }
+        ensures receipts { self.new.receipts ≡ self.old.receipts ++ receipt ∷ [] }
+        ensures board { self.new.board ≡ self.old.board }
+        ensures total { book.new.total ≡ book.old.total + 1 }
+    {
+        self.receipts.push_reserved(receipt);
+        self.shares.count(book);
+    }
+}
