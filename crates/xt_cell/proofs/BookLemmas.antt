@@ -101,3 +101,9 @@ pub few_events : (slot folded events : ℕ) (entries : List Entry) (state : Slot
 few_events slot folded events entries state total book room =
     let count = count_few entries in let was = book.counts in let some = book.some_folded in let folded_few = book.few_folded in
     omega (arith, count, was, some, folded_few, room)
+
+-- the first entry is counted where it is no post
+pub count_first : (e : Entry) (es : List Entry) → count_of (e ∷ es) ≡ (if not (is_post e.step) then 1 else 0) + count_of es
+count_first e es =
+    let split : count_of (e ∷ es) ≡ 0 + (if not (is_post e.step) then 1 else 0) + count_of es = sum_by-append _ (e ∷ []) es in
+    omega (arith, split)

@@ -5,7 +5,7 @@ use Rattle.std.specs.Prelude.{if◌then◌else◌, is_none, is_some, nat_lt, ◌
 use Rattle.xt_base.proofs.CarryLemmas.{Numbers, numbers_of, step_keeps_numbers}
 use Rattle.xt_base.specs.Alone.{call, called, is_okay, on_mount, turn, with_mount}
 use Rattle.xt_base.specs.Calls.{alone_with, is_unmount}
-use Rattle.xt_base.specs.Jobs.{is_owed_as, posted}
+use Rattle.xt_base.specs.Jobs.{flight_pieces, is_owed_as, posted}
 use Rattle.xt_base.specs.Order.{mount_is}
 use Rattle.xt_base.specs.State.{Lone, State}
 use Rattle.xt_base.specs.declared.names.JobKind.{JobKind}
@@ -18,7 +18,7 @@ use Rattle.xt_base.specs.declared.steps.Reply.TheVariants.{Okay, Refused}
 use Rattle.xt_base.specs.declared.steps.Request.{Request}
 use Rattle.xt_base.specs.declared.steps.Step.TheVariants.{Call, Post}
 use Rattle.xt_cell.specs.Facts.{has_log, is_flown_by_job, is_last_of, is_last_post}
-use Rattle.xt_mount.specs.Slots.{IsServed, SlotState, lone_with}
+use Rattle.xt_mount.specs.Slots.{IsServed, SlotState, lone_with, pieces_in}
 use Rattle.xt_queue.specs.Names.{MayFollow}
 
 -- a job that is owed may follow the last post
@@ -93,6 +93,10 @@ idle_if : (name : JobName) (l : Lone) (o : Option State) → l.mounted ≡ o →
 idle_if name l None e kept = ap is_flown_by_job e ∙ kept
 idle_if name l (Some m) e kept = idle_after name.kind m kept
 
+pieces_if : (name : JobName) (l : Lone) (o : Option State) → l.mounted ≡ o → pieces_in (posted_to name l o).mounted ≡ pieces_in o
+pieces_if name l None e = ap pieces_in e
+pieces_if name l (Some m) e = ap flight_pieces (same_flight name.kind m)
+
 module _ (name : JobName) (new old : SlotState) (served : IsServed (Post name) Okay new old) where
   is : lone_with 0 None new ≡ posted_to name (lone_with 0 None old) old.mounted
   is = served.state 0 None
@@ -109,6 +113,9 @@ module _ (name : JobName) (new old : SlotState) (served : IsServed (Post name) O
 
   pub posted_idle : is_flown_by_job old.mounted ≡ true → is_flown_by_job new.mounted ≡ true
   posted_idle kept = ap (λ (l : Lone). is_flown_by_job l.mounted) is ∙ idle_if name (lone_with 0 None old) old.mounted refl kept
+
+  pub posted_pieces : pieces_in new.mounted ≡ pieces_in old.mounted
+  posted_pieces = ap (λ (l : Lone). pieces_in l.mounted) is ∙ pieces_if name (lone_with 0 None old) old.mounted refl
 
 -- ---- a call
 -- what is kept, by the numbers of the mount
@@ -140,7 +147,7 @@ home_is : (o : Option State) → is_some o ≡ is_some (numbers_of o)
 home_is None = refl
 home_is (Some m) = refl
 
-same_last_life : (slot life : ℕ) (request : Request) (answer : Answer) (s : Lone) (o : Option State) → (call [] life request answer s o).slot.last_life ≡ s.last_life
+pub same_last_life : (slot life : ℕ) (request : Request) (answer : Answer) (s : Lone) (o : Option State) → (call [] life request answer s o).slot.last_life ≡ s.last_life
 same_last_life slot life request answer s None = refl
 same_last_life slot life request answer s (Some m) = by (m.life == life)
   where

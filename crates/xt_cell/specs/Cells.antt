@@ -1,7 +1,9 @@
 -- What a call makes of a locked slot.
-use Rattle.std.specs.Prelude.{Bool, None, Option, Some, if◌then◌else◌, is_some, not, true, ℕ, ◌&&◌, ◌||◌, ◌≡◌, false}
+use Rattle.std.specs.Prelude.{Bool, List, None, Option, Some, if◌then◌else◌, is_some, not, true, ℕ, ◌&&◌, ◌||◌, ◌≡◌, false}
+use Rattle.xt_base.specs.Jobs.{is_begun}
 use Rattle.xt_base.specs.Order.{is_there, mount_is, of_life}
 use Rattle.xt_base.specs.State.{State}
+use Rattle.xt_base.specs.declared.names.JobName.{JobName}
 use Rattle.xt_base.specs.declared.steps.Answer.{Answer}
 use Rattle.xt_base.specs.declared.steps.Reason.{Reason}
 use Rattle.xt_base.specs.declared.steps.Reply.{Reply}
@@ -13,6 +15,7 @@ use Rattle.xt_cell.specs.Books.{BookView}
 use Rattle.xt_cell.specs.Events.{IsBooked}
 use Rattle.xt_cell.specs.HostSeats.{HostSeatView, Shows}
 use Rattle.xt_cell.specs.Posts.{PostsBoth}
+use Rattle.xt_mount.specs.Slots.{pieces_in}
 use Rattle.xt_queue.specs.Passes.{PostView}
 use Rattle.xt_queue.specs.Seats.{SeatView}
 use Rattle.xt_queue.specs.Words.{word_of}
@@ -24,13 +27,13 @@ pub record IsStepOf (slot life : ℕ) (request : Request) (o : Option State) (st
   pub there : is_there (mount_is (of_life life request) o) answer ≡ true
 
 -- an event: the step was served and booked with its receipt, and then what it made owed was posted
-pub record IsEvent (slot : ℕ) (step : Step) (reply : Reply) (book after : BookView) (seat later : HostSeatView) (pass : PostView) : Type 0 where
+pub record IsEvent (slot : ℕ) (step : Step) (reply : Reply) (book after : BookView) (seat later : HostSeatView) (pass passed : PostView) : Type 0 where
   pub between : BookView
   pub noted : HostSeatView
   pub booked : IsBooked slot step reply book between seat noted
   pub receipts : later.receipts ≡ noted.receipts
   pub caller : later.caller ≡ noted.caller
-  pub posts : PostsBoth seat.caller pass between after
+  pub posts : PostsBoth seat.caller pass between passed after
 
 -- whether a request shuts its mount
 abbrev pub is_shutdown : Request → Bool
@@ -46,3 +49,19 @@ word_shown asked before (Some m) = if is_some m.shut && (asked || not (is_some b
 abbrev pub IsShown : ℕ → Option ℕ → SeatView → SeatView → Type 0
 IsShown slot None old new = new ≡ old
 IsShown slot (Some word) old new = Shows slot word old new
+
+-- whether this is what a mount is answered: its life, or why it was refused
+abbrev pub is_life : Reply → Bool
+is_life (Reply.Life life) = true
+is_life (Reply.Refused errno) = true
+is_life other = false
+
+-- whether this is what an unmount is answered: ok, or why it was refused
+abbrev pub is_done : Reply → Bool
+is_done Reply.Okay = true
+is_done (Reply.Refused errno) = true
+is_done other = false
+
+-- a name and pieces are those of the checkpoint in flight
+abbrev pub IsFlight : JobName → List (List ℕ) → Option State → Type 0
+IsFlight name pieces o = (mount_is (is_begun name) o ≡ true) × (pieces ≡ pieces_in o)

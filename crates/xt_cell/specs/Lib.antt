@@ -8,3 +8,4 @@ pub mod Events
 pub mod Facts
 pub mod Posts
 pub mod Cells
+pub mod Accounts

@@ -6,16 +6,18 @@ ghost use Rattle.xt_base.specs.Isolation.{is_no_memory};
 ghost use Rattle.xt_base.specs.Jobs.{fits_pieces, fits_plan, is_begun, is_ckpt, is_owed_as, is_waiting};
 ghost use Rattle.xt_base.specs.Order.{mount_is, suits};
 ghost use Rattle.xt_base.specs.Steps.{slot_of};
+ghost use Rattle.xt_base.specs.declared.sizes.TheConstants.{SLOTS};
 ghost use Rattle.xt_base.specs.declared.steps.Errno.TheVariants.{NoMemory};
 ghost use Rattle.xt_base.specs.declared.steps.Reply.{Reply as AReply};
 ghost use Rattle.xt_base.specs.declared.steps.Step.{Step as AStep};
-ghost use Rattle.xt_cell.specs.Books.{Adds, IsSameBook, entry, is_call, may_hold, next_number, unwritten};
+ghost use Rattle.xt_cell.specs.Books.{Adds, IsSameBook, count_of, entry, events_of, is_call, is_post, may_hold, next_number, unwritten};
 ghost use Rattle.xt_cell.specs.Counting.{counted};
 ghost use Rattle.xt_cell.specs.Events.{IsBooked};
 ghost use Rattle.xt_cell.specs.HostSeats.{Notes};
 ghost use Rattle.xt_cell.specs.Twins.{AreReady};
 ghost use Rattle.xt_mount.specs.Slots.{IsServed, IsServedUnlessMemory, lone_with, pieces_in, plan_in};
 
+use crate::account::Account;
 use crate::house::{House, Of};
 use crate::kept::Kept;
 use crate::records::{Entry, Receipt};
@@ -93,6 +95,31 @@ impl<H: House, const S: u8> SlotBook<H, S> {
         ensures { result.now ≡ self.now.entries }
     {
         &self.entries
+    }
+
+    /// Closes the book: nothing more is written in it.
+    pub fn into_account(self) -> Account
+        requires slot { S < SLOTS }
+        ensures base { result.base ≡ self.base }
+        ensures entries { result.entries ≡ self.entries }
+        ensures count { result.count ≡ events_of self }
+    {
+        let SlotBook {
+            mount,
+            folded,
+            events,
+            entries,
+            ..
+        } = self;
+        let slot = mount.slot();
+        let count = events + count_events(&entries);
+        Account {
+            slot,
+            folded,
+            events,
+            entries,
+            count,
+        }
     }
 
     /// Makes room for an event with its posts. The one error is want of memory.
@@ -538,6 +565,30 @@ fn plain_twin(reply: &Reply) -> Twin<Reply>
     ensures { result.booked ≡ reply.now }
 {
     Twin::of(reply.copy_into(None), reply.copy_into(None))
+}
+
+/// How many entries are no posts.
+#[tactic(auto, using(crate::proofs::BookLemmas::count_first))]
+fn count_events(entries: &[Entry]) -> u64
+    requires few { length entries.now ≤ 2 ^ 62 }
+    ensures { result ≡ count_of entries.now }
+{
+    let mut count = 0;
+    let mut rest = entries;
+    while let Some((entry, tail)) = rest.split_first() {
+        if !is_post(entry.step.get()) {
+            count += 1;
+        }
+        rest = tail;
+    }
+    count
+}
+
+/// Whether a step is a post.
+fn is_post(step: &Step) -> bool
+    ensures { result ≡ is_post step.now }
+{
+    matches!(step, Step::Post(_))
 }
 
 /// Whether a reply is ENOMEM.

@@ -1,13 +1,15 @@
 //! One locked slot: its book, its devices, and its way to the queue.
 
-ghost use Rattle.std.specs.Prelude.{◌≡◌, ◌≤◌, [], None, IfOk, IfSome, MatchOption, OnOk, is_some, false, true};
+ghost use Rattle.std.specs.Prelude.{◌≡◌, ◌<◌, ◌≤◌, ◌⊎◌, [], None, IfOk, IfSome, MatchOption, OnErr, OnOk, is_some, false, true};
 ghost use Rattle.xt_base.specs.Alone.{reason_of};
 ghost use Rattle.xt_base.specs.Calls.{is_unmount};
 ghost use Rattle.xt_base.specs.Isolation.{is_no_memory};
 ghost use Rattle.xt_base.specs.Order.{is_there, mount_is, of_life};
+ghost use Rattle.xt_base.specs.declared.sizes.TheConstants.{SLOTS};
+ghost use Rattle.xt_base.specs.declared.steps.Answer.{Answer as AnAnswer};
 ghost use Rattle.xt_base.specs.declared.steps.Step.{Step as AStep};
 ghost use Rattle.xt_cell.specs.Asking.{read_calls, step_calls};
-ghost use Rattle.xt_cell.specs.Books.{IsSameBook, may_hold, unwritten};
+ghost use Rattle.xt_cell.specs.Books.{IsSameBook, events_of, may_hold, unwritten};
 ghost use Rattle.xt_cell.specs.Counting.{counted};
 ghost use Rattle.xt_cell.specs.Cells.{IsEvent, IsShown, IsStepOf, is_shutdown, word_shown};
 ghost use Rattle.xt_cell.specs.Facts.{has_log, is_flown_by_job, is_last_post};
@@ -17,9 +19,12 @@ ghost use Rattle.xt_dev.specs.Devices.{Tells};
 ghost use Rattle.xt_mount.specs.Come.{read_block};
 ghost use Rattle.xt_mount.specs.Slots.{stage_in};
 ghost use Rattle.xt_queue.specs.Names.{last_of, unposted};
+ghost use Rattle.xt_queue.specs.Boards.{Rises};
 
+use crate::account::Account;
 use crate::asking;
 use crate::book::{SlotBook, is_no_memory};
+use crate::event::{make_room, show_shut};
 use crate::house::House;
 use crate::mount_ref::MountRef;
 use crate::poster::Poster;
@@ -30,7 +35,7 @@ use crate::twin::{Rooms, Twin};
 use std::alloc::{AllocError, Global};
 use std::sync::Wait;
 use xt_base::names::{JobName, Life};
-use xt_base::steps::{Answer, Errno, Reason, Reply, Request, Step};
+use xt_base::steps::{Answer, Errno, Reply, Request, Step};
 use xt_dev::home::HomeDevice;
 use xt_dev::log::LogDevice;
 use xt_mount::mount::Stage;
@@ -77,14 +82,26 @@ impl<H: House, const S: u8> SlotCell<H, S> {
 
     /// How far a job has come; None where it is not outstanding here.
     pub fn stage(&self, name: &JobName) -> Option<Stage>
+        requires slot { name.now.slot ≡ S }
         ensures { result ≡ stage_in name.now self.now.book.state }
     {
         self.book.slot().stage(name)
     }
 
+    /// Closes the slot: its book, in which nothing more is written. Its devices, if it has any, are let go.
+    pub fn into_account(self) -> Account
+        requires slot { S < SLOTS }
+        ensures base { result.base ≡ self.book.base }
+        ensures entries { result.entries ≡ self.book.entries }
+        ensures count { result.count ≡ events_of self.book }
+    {
+        let SlotCell { book, .. } = self;
+        book.into_account()
+    }
+
     /// Serves a request to one life of the slot: asks the home device where the mount must, books the step with its receipt,
     /// posts what it made owed, and shows the mount on the board where the request shut it, or was to shut it. ENOMEM where memory is
-    /// refused: then nothing was booked, and all that changed is room. An unmount is no such request.
+    /// refused: then nothing was booked, and all that changed is room. The log device is left alone. An unmount is no such request.
     pub fn call<R: Wait>(
         &mut self,
         rt: &R,
@@ -99,9 +116,13 @@ impl<H: House, const S: u8> SlotCell<H, S> {
         requires board { seat.old.board.board ≡ board.now }
         requires kind { is_unmount request ≡ false }
         ensures refused { is_no_memory result ≡ true → IsSameBook self.old.book self.new.book × IsSameSeat seat.old seat.new }
-        ensures booked { is_no_memory result ≡ false → (step : AStep) × IsStepOf S at.life request self.old.book.state.mounted step × IsEvent S step result self.old.book self.new.book seat.old seat.new self.old.poster × MatchOption self.old.home (self.new.home ≡ None) (λ h. IfSome self.new.home (λ k. Tells (home_tells h) (home_taken h) (step_calls step) (home_tells k) (home_taken k))) }
+        ensures tried { is_no_memory result ≡ true → (self.new.home ≡ self.old.home) ⊎ ((answer : AnAnswer) × MatchOption self.old.home (self.new.home ≡ None) (λ h. IfSome self.new.home (λ k. Tells (home_tells h) (home_taken h) (read_calls (read_block request) answer) (home_tells k) (home_taken k)))) }
+        ensures booked { is_no_memory result ≡ false → (step : AStep) × IsStepOf S at.life request self.old.book.state.mounted step × IsEvent S step result self.old.book self.new.book seat.old seat.new self.old.poster self.new.poster × MatchOption self.old.home (self.new.home ≡ None) (λ h. IfSome self.new.home (λ k. Tells (home_tells h) (home_taken h) (step_calls step) (home_tells k) (home_taken k))) }
         ensures counted { is_no_memory result ≡ false → ⟦<Shares<H> as Counts<H, S>>⟧.counts seat.new.counts ≡ counted S (⟦<Shares<H> as Counts<H, S>>⟧.counts seat.old.counts) }
+        ensures log { self.new.log ≡ self.old.log }
         ensures shown { is_no_memory result ≡ false → IsShown S (word_shown (is_shutdown request) (reason_of self.old.book.state.mounted) self.new.book.state.mounted) seat.old.board seat.new.board }
+        ensures board { seat.new.board.board ≡ seat.old.board.board }
+        ensures rises { Rises seat.old.board.seen seat.new.board.seen }
     {
         let before = self.book.slot().shut();
         let is_asked = is_shutdown(&request);
@@ -127,30 +148,6 @@ fn is_shutdown(request: &Request) -> bool
     matches!(request, Request::Shutdown)
 }
 
-/// Shows a mount that is shut, where it was live before or was asked to be shut.
-fn show_shut<H: House, const S: u8>(
-    book: &SlotBook<H, S>,
-    seat: &mut HostSeat<H>,
-    board: &Board,
-    is_asked: bool,
-    before: Option<Reason>,
-)
-    requires board { seat.old.board.board ≡ board.now }
-    ensures shown { IsShown S (word_shown is_asked before book.now.state.mounted) seat.old.board seat.new.board }
-    ensures caller { seat.new.caller ≡ seat.old.caller }
-    ensures counts { seat.new.counts ≡ seat.old.counts }
-    ensures receipts { seat.new.receipts ≡ seat.old.receipts }
-{
-    let slot = book.slot();
-    let Some(life) = slot.life() else {
-        return;
-    };
-    let shut = slot.shut();
-    if shut.is_some() && (is_asked || before.is_none()) {
-        seat.show(board, slot.slot(), life, shut);
-    }
-}
-
 /// The home device's answer to a request to one life of a slot, where it must be asked; it is asked once. The one error is want
 /// of memory, and then it was not asked.
 fn asked<H: House, const S: u8>(
@@ -163,6 +160,7 @@ fn asked<H: House, const S: u8>(
     requires home { is_some home.old ≡ is_some book.now.state.mounted }
     ensures there { IfOk result (λ answer. is_there (mount_is (of_life life request.now) book.now.state.mounted) answer ≡ true) }
     ensures home { is_some home.new ≡ is_some home.old }
+    ensures unasked { OnErr result (home.new ≡ home.old) }
     ensures asked { IfOk result (λ answer. MatchOption home.old (home.new ≡ None) (λ h. IfSome home.new (λ k. Tells (home_tells h) (home_taken h) (read_calls (read_block request.now) answer) (home_tells k) (home_taken k)))) }
 {
     let Some(block) = book.slot().needs(life, request) else {
@@ -192,10 +190,10 @@ fn ready<H: House, const S: u8>(
     ensures place { OnOk result (1 ≤ seat.new.room) }
     ensures step { IfOk result (λ made. IsStepOf S life request book.old.state.mounted made.0.booked) }
     ensures rooms { IfOk result (λ made. may_hold made.0.booked ≡ true → AreReady made.1) }
+    ensures tried { OnErr result ((home.new ≡ home.old) ⊎ ((answer : AnAnswer) × MatchOption home.old (home.new ≡ None) (λ h. IfSome home.new (λ k. Tells (home_tells h) (home_taken h) (read_calls (read_block request) answer) (home_tells k) (home_taken k))))) }
     ensures asked { IfOk result (λ made. MatchOption home.old (home.new ≡ None) (λ h. IfSome home.new (λ k. Tells (home_tells h) (home_taken h) (step_calls made.0.booked) (home_tells k) (home_taken k)))) }
 {
-    book.reserve()?;
-    seat.reserve()?;
+    make_room(book, seat)?;
     let rooms = Rooms::of(alloc, &request)?;
     let answer = asked(alloc, book, home, life, &request)?;
     let slot = book.slot().slot();
@@ -234,7 +232,8 @@ where
     ensures idle { is_flown_by_job book.new.state.mounted ≡ true }
     ensures board { seat.new.board ≡ seat.old.board }
     ensures refused { is_no_memory result ≡ true → IsSameBook book.old book.new × IsSameSeat seat.old seat.new }
-    ensures booked { is_no_memory result ≡ false → (step : AStep) × IsStepOf S life request book.old.state.mounted step × IsEvent S step result book.old book.new seat.old seat.new poster.old × MatchOption home.old (home.new ≡ None) (λ h. IfSome home.new (λ k. Tells (home_tells h) (home_taken h) (step_calls step) (home_tells k) (home_taken k))) }
+    ensures tried { is_no_memory result ≡ true → (home.new ≡ home.old) ⊎ ((answer : AnAnswer) × MatchOption home.old (home.new ≡ None) (λ h. IfSome home.new (λ k. Tells (home_tells h) (home_taken h) (read_calls (read_block request) answer) (home_tells k) (home_taken k)))) }
+    ensures booked { is_no_memory result ≡ false → (step : AStep) × IsStepOf S life request book.old.state.mounted step × IsEvent S step result book.old book.new seat.old seat.new poster.old poster.new × MatchOption home.old (home.new ≡ None) (λ h. IfSome home.new (λ k. Tells (home_tells h) (home_taken h) (step_calls step) (home_tells k) (home_taken k))) }
     ensures counted { is_no_memory result ≡ false → ⟦<Shares<H> as Counts<H, S>>⟧.counts seat.new.counts ≡ counted S (⟦<Shares<H> as Counts<H, S>>⟧.counts seat.old.counts) }
 {
     let Ok((step, rooms)) = ready(alloc, book, seat, home, life, request) else {

@@ -7,7 +7,7 @@ ghost use Rattle.xt_base.specs.declared.sizes.TheConstants.{PIECE_BYTES, TEXT_PI
 ghost use Rattle.xt_dev.specs.Devices.{Tells};
 
 use bytes::Bytes;
-use xt_base::names::{JobName, Worker};
+use xt_base::names::{JobName, Slot, Worker};
 use xt_base::steps::LogAnswers;
 use xt_dev::log::LogDevice;
 use xt_dev::offer::offer;
@@ -57,5 +57,14 @@ impl CkptJob {
             log,
             answers,
         }
+    }
+}
+
+impl DoneJob {
+    /// The slot that its checkpoint is of.
+    pub fn slot(&self) -> Slot
+        ensures { result ≡ self.now.name.slot }
+    {
+        self.name.slot
     }
 }

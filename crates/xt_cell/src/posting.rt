@@ -3,6 +3,7 @@
 ghost use Rattle.std.specs.Prelude.{◌≡◌, ◌+◌, ◌≤◌, is_some, true};
 ghost use Rattle.xt_cell.specs.Facts.{has_log, is_flown_by_job, is_last_post};
 ghost use Rattle.xt_cell.specs.Posts.{PostsBoth, PostsOne};
+ghost use Rattle.xt_mount.specs.Slots.{pieces_in};
 ghost use Rattle.xt_queue.specs.Names.{last_of, unposted};
 
 use crate::book::SlotBook;
@@ -22,11 +23,12 @@ pub fn post_one<H: House, R: Wait, const S: u8>(
 )
     requires last { is_last_post (last_of unposted poster.old.posted) book.old.state ≡ true }
     requires room { 1 ≤ book.old.room }
-    ensures posts { PostsOne kind caller poster.old book.old book.new }
+    ensures posts { PostsOne kind caller poster.old book.old poster.new book.new }
     ensures last { is_last_post (last_of unposted poster.new.posted) book.new.state ≡ true }
     ensures home { is_some book.new.state.mounted ≡ is_some book.old.state.mounted }
     ensures log { has_log book.new.state.mounted ≡ has_log book.old.state.mounted }
     ensures idle { is_flown_by_job book.old.state.mounted ≡ true → is_flown_by_job book.new.state.mounted ≡ true }
+    ensures pieces { pieces_in book.new.state.mounted ≡ pieces_in book.old.state.mounted }
     ensures room { book.old.room ≤ book.new.room + 1 }
 {
     if let Some(name) = book.slot().owed(kind) {
@@ -45,11 +47,12 @@ pub fn post_both<H: House, R: Wait, const S: u8>(
 )
     requires last { is_last_post (last_of unposted poster.old.posted) book.old.state ≡ true }
     requires room { 2 ≤ book.old.room }
-    ensures posts { PostsBoth caller poster.old book.old book.new }
+    ensures posts { PostsBoth caller poster.old book.old poster.new book.new }
     ensures last { is_last_post (last_of unposted poster.new.posted) book.new.state ≡ true }
     ensures home { is_some book.new.state.mounted ≡ is_some book.old.state.mounted }
     ensures log { has_log book.new.state.mounted ≡ has_log book.old.state.mounted }
     ensures idle { is_flown_by_job book.old.state.mounted ≡ true → is_flown_by_job book.new.state.mounted ≡ true }
+    ensures pieces { pieces_in book.new.state.mounted ≡ pieces_in book.old.state.mounted }
 {
     post_one(rt, book, poster, caller, JobKind::Ckpt);
     post_one(rt, book, poster, caller, JobKind::Flush);

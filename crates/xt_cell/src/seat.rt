@@ -1,7 +1,9 @@
 //! What a caller keeps of its calls.
 
-ghost use Rattle.std.specs.Prelude.{◌≡◌, ◌+◌, ◌++◌, ◌∷◌, ◌≤◌, ◌<◌, ◌^◌, [], OnOk, IfSome, replicate, slice_index};
+ghost use Rattle.std.specs.Prelude.{◌≡◌, ◌+◌, ◌++◌, ◌∷◌, ◌≤◌, ◌<◌, ◌^◌, [], OnOk, IfSome, replicate, slice_index, slice_set};
 ghost use Rattle.xt_cell.specs.Counting.{counted};
+ghost use Rattle.xt_queue.specs.Boards.{Rises};
+ghost use Rattle.xt_queue.specs.Seats.{fresh_seat};
 ghost use Rattle.xt_queue.specs.Words.{word_of};
 ghost use Rattle.xt_cell.specs.HostSeats.{IsSameSeat, Shows};
 
@@ -57,6 +59,13 @@ impl<H: House> HostSeat<H> {
         self.caller
     }
 
+    /// How many events of a slot it counted.
+    pub fn count(&self, slot: Slot) -> u64
+        ensures { result ≡ slice_index self.now.counts slot }
+    {
+        self.shares.amount(slot)
+    }
+
     /// Its receipts, in the order of its calls since it last forgot them.
     pub fn receipts(&self) -> &[Receipt]
         ensures { result.now ≡ self.now.receipts }
@@ -91,6 +100,29 @@ impl<H: House> HostSeat<H> {
         ensures receipts { self.new.receipts ≡ self.old.receipts }
     {
         board.show(&mut self.board, slot, life, shut);
+    }
+
+    /// Another seat at the board, which has seen what this one saw.
+    pub fn split(&mut self, board: &Board) -> Seat
+        requires board { self.old.board.board ≡ board.now }
+        ensures kept { self.new ≡ self.old }
+        ensures seat { result ≡ fresh_seat board.now self.old.board.seen }
+    {
+        board.split(&mut self.board)
+    }
+
+    /// What the board shows of a slot: the life, and why it was shut; life 0 where nothing was shown.
+    pub fn peek(&mut self, board: &Board, slot: Slot) -> (Life, Option<Reason>)
+        requires board { self.old.board.board ≡ board.now }
+        ensures board { self.new.board.board ≡ self.old.board.board }
+        ensures shown { self.new.board.shown ≡ self.old.board.shown }
+        ensures seen { self.new.board.seen ≡ slice_set self.old.board.seen slot (word_of result.0 result.1) }
+        ensures rises { Rises self.old.board.seen self.new.board.seen }
+        ensures caller { self.new.caller ≡ self.old.caller }
+        ensures counts { self.new.counts ≡ self.old.counts }
+        ensures receipts { self.new.receipts ≡ self.old.receipts }
+    {
+        board.peek(&mut self.board, slot)
     }
 
     /// Counts one event of a slot in its book, and keeps the receipt.

@@ -2,6 +2,15 @@
 
 ghost use Rattle.std.specs.Prelude.{◌≡◌};
 
+mod bench;
+mod deeds;
+mod held;
+mod opening;
+mod playing;
+mod replay;
+mod rows;
+mod two_bytes;
+
 use crate::asking;
 use crate::job::{CkptJob, DoneJob};
 use bytes::Bytes;

@@ -1,4 +1,4 @@
-use Rattle.std.proofs.Common.{ap, arith, refl, subst, sym, ℕ, ◌∙◌}
+use Rattle.std.proofs.Common.{ap, arith, inr, refl, subst, sym, ℕ, ◌∙◌}
 use Rattle.std.specs.Prelude.{is_some}
 use Rattle.xt_cell.proofs.CallLemmas.{booked_from, call_keeps}
 use Rattle.xt_cell.specs.Facts.{has_log, is_flown_by_job, is_last_post}
@@ -45,7 +45,12 @@ returns-then-not-is_no_memory-clause-booked g c = λ no.
         booked = booked_from _ _ _ _ _ _ _ _ _ c.ready.ensures.book c.ready.ensures.seat booked;
         receipts = refl;
         caller = refl;
-        posts = subst (λ (n : ℕ). PostsBoth n c.args.poster.now c.call-reply.new.self c.post_both.new.book) (c.caller.ensures ∙ booked.receipt.caller ∙ c.ready.ensures.seat.caller) c.post_both.ensures.posts;
+        posts = subst (λ (n : ℕ). PostsBoth n c.args.poster.now c.call-reply.new.self c.post_both.new.poster c.post_both.new.book) (c.caller.ensures ∙ booked.receipt.caller ∙ c.ready.ensures.seat.caller) c.post_both.ensures.posts;
       },
       c.in-Ok.ensures.asked,
     )
+
+pub returns-else-not-is_no_memory-clause-tried : goal.returns-else-not-is_no_memory-clause-tried
+returns-else-not-is_no_memory-clause-tried g c = λ no_memory.
+    let told = rw c.in-Ok.ensures.step.is at c.in-Ok.ensures.asked in
+    inr (c.in-Ok.ensures.step.answer, told)

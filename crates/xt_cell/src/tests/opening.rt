@@ -1,0 +1,299 @@
+//! What a cell is made of, and each of its calls.
+
+ghost use Rattle.std.specs.Prelude.{◌≡◌, ◌-◌, ◌^◌, IfOk, IfSome, false, length, true};
+ghost use Rattle.std.specs.Arc.{arc_value};
+ghost use Rattle.xt_base.specs.Calls.{is_unmount};
+ghost use Rattle.xt_base.specs.Jobs.{fits_pieces};
+ghost use Rattle.xt_queue.specs.Passes.{fresh_post};
+
+use crate::book::SlotBook;
+use crate::cell::SlotCell;
+use crate::house::{House, Of};
+use crate::job::DoneJob;
+use crate::mount_ref::MountRef;
+use crate::mounting::MountRefused;
+use crate::poster::Poster;
+use crate::reserve::{Blanks, Books, Reserve};
+use crate::running::EndFault;
+use crate::seat::HostSeat;
+use crate::shares::Shares;
+use bytes::Bytes;
+use std::alloc::{AllocError, Global};
+use std::sync::ledger::Book;
+use std::sync::{Arc, Wait};
+use xt_base::names::{Caller, JobName, Life, Slot, Worker};
+use xt_base::steps::{Errno, LogAnswers, Reason, Reply, Request};
+use xt_dev::home::HomeDevice;
+use xt_dev::log::LogDevice;
+use xt_mount::mount::Stage;
+use xt_queue::board::{Board, Seat};
+use xt_queue::jobs::{JobQueue, PostPass, WorkPass};
+
+/// The two devices of a mount.
+pub type Devices = (Box<dyn HomeDevice + Send>, Box<dyn LogDevice + Send>);
+
+/// A checkpoint that was run and not yet ended. A test that is given up may drop it.
+#[derive(Drop)]
+pub struct Held {
+    pub worker: Worker,
+    pub name: JobName,
+    pub pieces: Vec<Bytes>,
+    pub log: Box<dyn LogDevice + Send>,
+    pub answers: LogAnswers,
+    ghost slot: { name.slot ≡ 15 },
+    ghost fits: { fits_pieces answers (length pieces.items) ≡ true },
+}
+
+/// What a job came to, to be kept.
+pub fn hold(done: DoneJob) -> Held
+    requires slot { done.name.slot ≡ 15 }
+{
+    let DoneJob {
+        worker,
+        name,
+        pieces,
+        log,
+        answers,
+    } = done;
+    Held {
+        worker,
+        name,
+        pieces,
+        log,
+        answers,
+    }
+}
+
+/// The way to the board and to the queue, and from there.
+#[derive(Drop)]
+pub struct Ways {
+    board: Board,
+    showing: Seat,
+    reading: Seat,
+    queue: Arc<JobQueue, Global>,
+    posting: Arc<JobQueue, Global>,
+    post: PostPass,
+    work: WorkPass,
+    ghost shows: { showing.board ≡ board },
+    ghost reads: { reading.board ≡ board },
+    ghost posts: { post ≡ fresh_post (arc_value posting) 15 },
+    ghost takes: { work.queue ≡ arc_value queue },
+}
+
+/// A queue twice, with the pass of slot 15 and of a worker.
+type Queued = (
+    Arc<JobQueue, Global>,
+    Arc<JobQueue, Global>,
+    PostPass,
+    WorkPass,
+);
+
+/// Shares a queue.
+fn shared(
+    alloc: Global,
+    queue: JobQueue,
+) -> Result<(Arc<JobQueue, Global>, Arc<JobQueue, Global>), AllocError>
+    ensures first { IfOk result (λ two. arc_value two.0 ≡ queue) }
+    ensures second { IfOk result (λ two. arc_value two.1 ≡ queue) }
+{
+    let queue = Arc::new(alloc, queue)?;
+    let posting = Arc::try_clone(&queue)?;
+    Ok((queue, posting))
+}
+
+/// A new queue.
+fn queued(alloc: Global) -> Result<Queued, AllocError>
+    ensures post { IfOk result (λ made. made.2 ≡ fresh_post (arc_value made.1) 15) }
+    ensures work { IfOk result (λ made. made.3.queue ≡ arc_value made.0) }
+{
+    let Ok((queue, mut passes)) = JobQueue::new(alloc) else {
+        return Err(AllocError);
+    };
+    let (Some(post), Some(work)) = (passes.posts.pop(), passes.works.pop()) else {
+        unreachable!();
+    };
+    let (queue, posting) = shared(alloc, queue)?;
+    Ok((queue, posting, post, work))
+}
+
+/// A new queue and a new board.
+pub fn new_ways(alloc: Global) -> Result<Ways, AllocError> {
+    let (queue, posting, post, work) = queued(alloc)?;
+    let Ok((board, mut showing)) = Board::new(alloc) else {
+        return Err(AllocError);
+    };
+    let reading = board.split(&mut showing);
+    Ok(Ways {
+        board,
+        showing,
+        reading,
+        queue,
+        posting,
+        post,
+        work,
+    })
+}
+
+/// The book of slot 15, and the first seat's number and shares.
+pub fn opened<H: House>(blanks: Blanks) -> (Book<Of<H, 15>>, Caller, Shares<H>)
+    requires names { (blanks.b0.name ≡ H.names 0) × (blanks.b1.name ≡ H.names 1) × (blanks.b2.name ≡ H.names 2) × (blanks.b3.name ≡ H.names 3) × (blanks.b4.name ≡ H.names 4) × (blanks.b5.name ≡ H.names 5) × (blanks.b6.name ≡ H.names 6) × (blanks.b7.name ≡ H.names 7) × (blanks.b8.name ≡ H.names 8) × (blanks.b9.name ≡ H.names 9) × (blanks.b10.name ≡ H.names 10) × (blanks.b11.name ≡ H.names 11) × (blanks.b12.name ≡ H.names 12) × (blanks.b13.name ≡ H.names 13) × (blanks.b14.name ≡ H.names 14) × (blanks.b15.name ≡ H.names 15) }
+    requires parts { (blanks.b0.parts ≡ H.all) × (blanks.b1.parts ≡ H.all) × (blanks.b2.parts ≡ H.all) × (blanks.b3.parts ≡ H.all) × (blanks.b4.parts ≡ H.all) × (blanks.b5.parts ≡ H.all) × (blanks.b6.parts ≡ H.all) × (blanks.b7.parts ≡ H.all) × (blanks.b8.parts ≡ H.all) × (blanks.b9.parts ≡ H.all) × (blanks.b10.parts ≡ H.all) × (blanks.b11.parts ≡ H.all) × (blanks.b12.parts ≡ H.all) × (blanks.b13.parts ≡ H.all) × (blanks.b14.parts ≡ H.all) × (blanks.b15.parts ≡ H.all) }
+    requires all { H.all ≡ 2 ^ 64 - 1 }
+    ensures none { result.0.total ≡ 0 }
+{
+    let (books, mut reserve) = Reserve::open(blanks);
+    let Books { b15, .. } = books;
+    let Some((caller, shares)) = reserve.draw() else {
+        unreachable!();
+    };
+    (b15, caller, shares)
+}
+
+/// A cell of slot 15 that was never mounted, over a queue.
+fn cell_over<H: House>(
+    alloc: Global,
+    count: Book<Of<H, 15>>,
+    queue: Arc<JobQueue, Global>,
+    post: PostPass,
+) -> SlotCell<H, 15>
+    requires none { count.total ≡ 0 }
+    requires post { post ≡ fresh_post (arc_value queue) 15 }
+{
+    let Some(slot) = Slot::new(15) else {
+        unreachable!();
+    };
+    let book = SlotBook::new(alloc, slot, count);
+    let poster = Poster::new(queue, post);
+    SlotCell::new(alloc, book, poster, None, None)
+}
+
+/// A cell of slot 15 with the way to take what it posts, and a seat with its board.
+#[derive(Drop)]
+pub struct Parts<H: House> {
+    cell: SlotCell<H, 15>,
+    seat: HostSeat<H>,
+    board: Board,
+    reading: Seat,
+    queue: Arc<JobQueue, Global>,
+    work: WorkPass,
+    ghost shows: { seat.board.board ≡ board },
+    ghost reads: { reading.board ≡ board },
+    ghost takes: { work.queue ≡ arc_value queue },
+}
+
+impl<H: House> Parts<H> {
+    /// All of it, over a ledger.
+    pub fn new(
+        alloc: Global,
+        count: Book<Of<H, 15>>,
+        caller: Caller,
+        shares: Shares<H>,
+        ways: Ways,
+    ) -> Self
+        requires none { count.total ≡ 0 }
+    {
+        let Ways {
+            board,
+            showing,
+            reading,
+            queue,
+            posting,
+            post,
+            work,
+        } = ways;
+        Parts {
+            cell: cell_over(alloc, count, posting, post),
+            seat: HostSeat::new(alloc, caller, shares, showing),
+            board,
+            reading,
+            queue,
+            work,
+        }
+    }
+
+    /// The book.
+    pub fn book(&self) -> &SlotBook<H, 15> {
+        &self.cell.book
+    }
+
+    /// The seat.
+    pub fn seat(&self) -> &HostSeat<H> {
+        &self.seat
+    }
+
+    /// Mounts the slot.
+    pub fn mount<R: Wait>(&mut self, rt: &R, devices: Devices) -> Result<MountRef, MountRefused> {
+        let (home, log) = devices;
+        self.cell
+            .mount(rt, &mut self.seat, &self.board, 65536, 1024, home, log)
+    }
+
+    /// Takes the devices back.
+    pub fn unmount<R: Wait>(&mut self, rt: &R, at: MountRef) -> Result<Devices, Errno>
+        requires slot { at.slot ≡ 15 }
+    {
+        self.cell.unmount(rt, &mut self.seat, at)
+    }
+
+    /// Asks the mount something.
+    pub fn ask<R: Wait>(&mut self, rt: &R, at: MountRef, request: Request) -> Reply
+        requires slot { at.slot ≡ 15 }
+        requires kind { is_unmount request ≡ false }
+    {
+        self.cell.call(rt, &mut self.seat, &self.board, at, request)
+    }
+
+    /// The next name.
+    pub fn take<R: Wait>(&mut self, rt: &R) -> Option<JobName> {
+        self.queue.take(rt, &mut self.work)
+    }
+
+    /// Begins a checkpoint, and runs it; None where that does not wait.
+    pub fn begin<R: Wait>(
+        &mut self,
+        rt: &R,
+        worker: Worker,
+        name: &JobName,
+    ) -> Option<(Reply, Option<Held>)> {
+        if !name.kind.is_ckpt()
+            || name.slot.index() != 15
+            || self.cell.stage(name) != Some(Stage::Waiting)
+        {
+            return None;
+        }
+        let (reply, job) = self.cell.begin(rt, &mut self.seat, worker, name);
+        match job {
+            Some(job) => Some((reply, Some(hold(job.run())))),
+            None => Some((reply, None)),
+        }
+    }
+
+    /// Ends a checkpoint; where that is not done the job comes back.
+    pub fn end<R: Wait>(&mut self, rt: &R, done: DoneJob) -> Result<Reply, (Held, EndFault)>
+        requires slot { done.name.slot ≡ 15 }
+    {
+        match self.cell.end(rt, &mut self.seat, &self.board, done) {
+            Ok(reply) => Ok(reply),
+            Err((done, fault)) => Err((hold(done), fault)),
+        }
+    }
+
+    /// Runs a flush; None where that does not wait.
+    pub fn flush<R: Wait>(&mut self, rt: &R, worker: Worker, name: &JobName) -> Option<Reply> {
+        if name.kind.is_ckpt()
+            || name.slot.index() != 15
+            || self.cell.stage(name) != Some(Stage::Waiting)
+        {
+            return None;
+        }
+        Some(
+            self.cell
+                .flush(rt, &mut self.seat, &self.board, worker, name),
+        )
+    }
+
+    /// What the board shows of the slot.
+    pub fn peek(&mut self, slot: Slot) -> (Life, Option<Reason>) {
+        self.board.peek(&mut self.reading, slot)
+    }
+}
