@@ -1,0 +1,12 @@
+//! The running host: calls of many threads to sixteen locked slots, the workers' jobs, and the comparison at its end.
+#![tactic(auto)]
+
+pub mod comparing;
+pub mod counting;
+pub mod fault;
+pub mod host;
+mod making;
+pub mod receipts;
+pub mod slots;
+#[cfg(test)]
+mod tests;

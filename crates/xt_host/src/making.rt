@@ -1,0 +1,237 @@
+//! How a host is made: its queue, its board and its reserve first, and then the sixteen cells, four at a time.
+
+ghost use Rattle.std.specs.Prelude.{◌≡◌, ◌≢◌, ◌<◌, ◌+◌, ◌-◌, ◌^◌, ◌≤◌, ◌⊎◌, IfErr, IfOk, OnOk, [], replicate, take};
+ghost use Rattle.std.specs.Arc.{arc_value};
+ghost use Rattle.xt_base.specs.declared.sizes.TheConstants.{SLOTS, WORKERS};
+ghost use Rattle.xt_base.specs.declared.steps.Errno.TheVariants.{Invalid, NoMemory};
+ghost use Rattle.xt_queue.specs.Passes.{fresh_posts, fresh_works};
+ghost use Rattle.xt_queue.specs.Seats.{fresh_seat};
+ghost use Rattle.xt_queue.specs.Boards.{blank_words};
+
+use crate::host::Host;
+use std::alloc::{AllocError, Global};
+use std::sync::ledger::Book;
+use std::sync::{Arc, Mutex};
+use xt_base::names::Slot;
+use xt_base::sizes::WORKERS;
+use xt_base::steps::Errno;
+use xt_cell::book::SlotBook;
+use xt_cell::cell::SlotCell;
+use xt_cell::house::{House, Of};
+use xt_cell::poster::Poster;
+use xt_cell::reserve::{Blanks, Books, Reserve};
+use xt_cell::seat::HostSeat;
+use xt_queue::board::{Board, Seat};
+use xt_queue::jobs::{JobQueue, Passes, PostPass, WorkPass};
+
+/// Four cells.
+#[derive(Drop)]
+struct Four<H: House, const A: u8, const B: u8, const C: u8, const D: u8> {
+    a: Mutex<SlotCell<H, A>>,
+    b: Mutex<SlotCell<H, B>>,
+    c: Mutex<SlotCell<H, C>>,
+    d: Mutex<SlotCell<H, D>>,
+}
+
+/// All sixteen.
+#[derive(Drop)]
+struct Cells<H: House> {
+    high: Four<H, 15, 14, 13, 12>,
+    upper: Four<H, 11, 10, 9, 8>,
+    lower: Four<H, 7, 6, 5, 4>,
+    low: Four<H, 3, 2, 1, 0>,
+}
+
+/// The cell of slot S, with the last of the passes that are left. The one error is want of memory.
+fn next_cell<H: House, const S: u8>(
+    alloc: Global,
+    count: Book<Of<H, S>>,
+    queue: &Arc<JobQueue, Global>,
+    posts: &mut Vec<PostPass>,
+) -> Result<Mutex<SlotCell<H, S>>, AllocError>
+    requires slot { S < SLOTS }
+    requires none { count.total ≡ 0 }
+    requires posts { posts.old.items ≡ fresh_posts (arc_value queue.now) (S + 1) }
+    ensures { OnOk result (posts.new.items ≡ fresh_posts (arc_value queue.now) S) }
+{
+    let queue = Arc::try_clone(queue)?;
+    let (Some(slot), Some(pass)) = (Slot::new(S), posts.pop()) else {
+        unreachable!()
+    };
+    let poster = Poster::new(queue, pass);
+    let book = SlotBook::new(alloc, slot, count);
+    Ok(Mutex::new(SlotCell::new(alloc, book, poster, None, None)))
+}
+
+/// The cells of four slots, from the highest down, with the last four of the passes that are left. The one error is want of memory.
+fn next_four<H: House, const A: u8, const B: u8, const C: u8, const D: u8>(
+    alloc: Global,
+    counts: (
+        Book<Of<H, A>>,
+        Book<Of<H, B>>,
+        Book<Of<H, C>>,
+        Book<Of<H, D>>,
+    ),
+    queue: &Arc<JobQueue, Global>,
+    posts: &mut Vec<PostPass>,
+) -> Result<Four<H, A, B, C, D>, AllocError>
+    requires slots { (A < SLOTS) × (A ≡ B + 1) × (B ≡ C + 1) × (C ≡ D + 1) }
+    requires none { (counts.0.total ≡ 0) × (counts.1.total ≡ 0) × (counts.2.total ≡ 0) × (counts.3.total ≡ 0) }
+    requires posts { posts.old.items ≡ fresh_posts (arc_value queue.now) (A + 1) }
+    ensures { OnOk result (posts.new.items ≡ fresh_posts (arc_value queue.now) D) }
+{
+    let (a, b, c, d) = counts;
+    let a = next_cell(alloc, a, queue, posts)?;
+    let b = next_cell(alloc, b, queue, posts)?;
+    let c = next_cell(alloc, c, queue, posts)?;
+    let d = next_cell(alloc, d, queue, posts)?;
+    Ok(Four { a, b, c, d })
+}
+
+/// The cells of all slots. The one error is want of memory.
+fn all_cells<H: House>(
+    alloc: Global,
+    books: Books<H>,
+    queue: &Arc<JobQueue, Global>,
+    posts: Vec<PostPass>,
+) -> Result<Cells<H>, AllocError>
+    requires none { (books.b0.total ≡ 0) × (books.b1.total ≡ 0) × (books.b2.total ≡ 0) × (books.b3.total ≡ 0) × (books.b4.total ≡ 0) × (books.b5.total ≡ 0) × (books.b6.total ≡ 0) × (books.b7.total ≡ 0) × (books.b8.total ≡ 0) × (books.b9.total ≡ 0) × (books.b10.total ≡ 0) × (books.b11.total ≡ 0) × (books.b12.total ≡ 0) × (books.b13.total ≡ 0) × (books.b14.total ≡ 0) × (books.b15.total ≡ 0) }
+    requires posts { posts.items ≡ fresh_posts (arc_value queue.now) SLOTS }
+{
+    let Books {
+        b0,
+        b1,
+        b2,
+        b3,
+        b4,
+        b5,
+        b6,
+        b7,
+        b8,
+        b9,
+        b10,
+        b11,
+        b12,
+        b13,
+        b14,
+        b15,
+    } = books;
+    let mut posts = posts;
+    let high = next_four(alloc, (b15, b14, b13, b12), queue, &mut posts)?;
+    let upper = next_four(alloc, (b11, b10, b9, b8), queue, &mut posts)?;
+    let lower = next_four(alloc, (b7, b6, b5, b4), queue, &mut posts)?;
+    let low = next_four(alloc, (b3, b2, b1, b0), queue, &mut posts)?;
+    Ok(Cells {
+        high,
+        upper,
+        lower,
+        low,
+    })
+}
+
+/// The host over its cells.
+fn joined<H: House>(
+    alloc: Global,
+    cells: Cells<H>,
+    board: Board,
+    queue: Arc<JobQueue, Global>,
+    reserve: Reserve<H>,
+) -> Host<H>
+    ensures board { result.board ≡ board }
+    ensures queue { arc_value result.queue ≡ arc_value queue }
+{
+    let Cells {
+        high,
+        upper,
+        lower,
+        low,
+    } = cells;
+    Host {
+        alloc,
+        board,
+        queue,
+        reserve: Mutex::new(reserve),
+        c0: low.d,
+        c1: low.c,
+        c2: low.b,
+        c3: low.a,
+        c4: lower.d,
+        c5: lower.c,
+        c6: lower.b,
+        c7: lower.a,
+        c8: upper.d,
+        c9: upper.c,
+        c10: upper.b,
+        c11: upper.a,
+        c12: high.d,
+        c13: high.c,
+        c14: high.b,
+        c15: high.a,
+    }
+}
+
+/// Opens the ledgers, makes the cells, and draws the first seat. The one error is want of memory.
+fn opened<H: House>(
+    alloc: Global,
+    blanks: Blanks,
+    queue: Arc<JobQueue, Global>,
+    board: Board,
+    seat: Seat,
+    posts: Vec<PostPass>,
+) -> Result<(Host<H>, HostSeat<H>), AllocError>
+    requires names { (blanks.b0.name ≡ H.names 0) × (blanks.b1.name ≡ H.names 1) × (blanks.b2.name ≡ H.names 2) × (blanks.b3.name ≡ H.names 3) × (blanks.b4.name ≡ H.names 4) × (blanks.b5.name ≡ H.names 5) × (blanks.b6.name ≡ H.names 6) × (blanks.b7.name ≡ H.names 7) × (blanks.b8.name ≡ H.names 8) × (blanks.b9.name ≡ H.names 9) × (blanks.b10.name ≡ H.names 10) × (blanks.b11.name ≡ H.names 11) × (blanks.b12.name ≡ H.names 12) × (blanks.b13.name ≡ H.names 13) × (blanks.b14.name ≡ H.names 14) × (blanks.b15.name ≡ H.names 15) }
+    requires parts { (blanks.b0.parts ≡ H.all) × (blanks.b1.parts ≡ H.all) × (blanks.b2.parts ≡ H.all) × (blanks.b3.parts ≡ H.all) × (blanks.b4.parts ≡ H.all) × (blanks.b5.parts ≡ H.all) × (blanks.b6.parts ≡ H.all) × (blanks.b7.parts ≡ H.all) × (blanks.b8.parts ≡ H.all) × (blanks.b9.parts ≡ H.all) × (blanks.b10.parts ≡ H.all) × (blanks.b11.parts ≡ H.all) × (blanks.b12.parts ≡ H.all) × (blanks.b13.parts ≡ H.all) × (blanks.b14.parts ≡ H.all) × (blanks.b15.parts ≡ H.all) }
+    requires all { H.all ≡ 2 ^ 64 - 1 }
+    requires posts { posts.items ≡ fresh_posts (arc_value queue) SLOTS }
+    requires seat { seat ≡ fresh_seat board blank_words }
+    ensures board { IfOk result (λ made. made.1.board ≡ fresh_seat made.0.board blank_words) }
+    ensures queue { IfOk result (λ made. arc_value made.0.queue ≡ arc_value queue) }
+    ensures caller { IfOk result (λ made. made.1.caller ≡ 1) }
+    ensures counts { IfOk result (λ made. made.1.counts ≡ replicate SLOTS 0) }
+    ensures receipts { IfOk result (λ made. made.1.receipts ≡ []) }
+{
+    let (books, mut reserve) = Reserve::open(blanks);
+    let cells = all_cells(alloc, books, &queue, posts)?;
+    let Some((caller, shares)) = reserve.draw() else {
+        unreachable!()
+    };
+    let seat = HostSeat::new(alloc, caller, shares, seat);
+    Ok((joined(alloc, cells, board, queue, reserve), seat))
+}
+
+impl<H: House> Host<H> {
+    /// A host of sixteen empty slots, its first seat, and the passes of its workers, 1 to 8. EINVAL for another number of workers, else
+    /// ENOMEM where memory is refused. The blanks are its sixteen ledgers; a program picks their names once, where it calls this.
+    pub fn new(
+        alloc: Global,
+        blanks: Blanks,
+        workers: usize,
+    ) -> Result<(Self, HostSeat<H>, Vec<WorkPass>), Errno>
+        requires names { (blanks.b0.name ≡ H.names 0) × (blanks.b1.name ≡ H.names 1) × (blanks.b2.name ≡ H.names 2) × (blanks.b3.name ≡ H.names 3) × (blanks.b4.name ≡ H.names 4) × (blanks.b5.name ≡ H.names 5) × (blanks.b6.name ≡ H.names 6) × (blanks.b7.name ≡ H.names 7) × (blanks.b8.name ≡ H.names 8) × (blanks.b9.name ≡ H.names 9) × (blanks.b10.name ≡ H.names 10) × (blanks.b11.name ≡ H.names 11) × (blanks.b12.name ≡ H.names 12) × (blanks.b13.name ≡ H.names 13) × (blanks.b14.name ≡ H.names 14) × (blanks.b15.name ≡ H.names 15) }
+        requires parts { (blanks.b0.parts ≡ H.all) × (blanks.b1.parts ≡ H.all) × (blanks.b2.parts ≡ H.all) × (blanks.b3.parts ≡ H.all) × (blanks.b4.parts ≡ H.all) × (blanks.b5.parts ≡ H.all) × (blanks.b6.parts ≡ H.all) × (blanks.b7.parts ≡ H.all) × (blanks.b8.parts ≡ H.all) × (blanks.b9.parts ≡ H.all) × (blanks.b10.parts ≡ H.all) × (blanks.b11.parts ≡ H.all) × (blanks.b12.parts ≡ H.all) × (blanks.b13.parts ≡ H.all) × (blanks.b14.parts ≡ H.all) × (blanks.b15.parts ≡ H.all) }
+        requires all { H.all ≡ 2 ^ 64 - 1 }
+        ensures valid { OnOk result ((1 ≤ workers) × (workers ≤ WORKERS)) }
+        ensures invalid { IfErr result (λ errno. errno ≡ Invalid → (workers ≡ 0) ⊎ (WORKERS < workers)) }
+        ensures memory { IfErr result (λ errno. errno ≢ Invalid → (errno ≡ NoMemory) × (1 ≤ workers) × (workers ≤ WORKERS)) }
+        ensures board { IfOk result (λ made. made.1.board ≡ fresh_seat made.0.board blank_words) }
+        ensures caller { IfOk result (λ made. made.1.caller ≡ 1) }
+        ensures counts { IfOk result (λ made. made.1.counts ≡ replicate SLOTS 0) }
+        ensures receipts { IfOk result (λ made. made.1.receipts ≡ []) }
+        ensures passes { IfOk result (λ made. made.2.items ≡ take workers (fresh_works (arc_value made.0.queue) WORKERS)) }
+    {
+        if workers == 0 || workers > WORKERS {
+            return Err(Errno::Invalid);
+        }
+        let (queue, passes) = JobQueue::new(alloc)?;
+        let (board, seat) = Board::new(alloc)?;
+        let Ok(queue) = Arc::new(alloc, queue) else {
+            return Err(Errno::NoMemory);
+        };
+        let Passes { posts, mut works } = passes;
+        works.truncate(workers);
+        match opened(alloc, blanks, queue, board, seat, posts) {
+            Ok((host, seat)) => Ok((host, seat, works)),
+            Err(_) => Err(Errno::NoMemory),
+        }
+    }
+}

@@ -1,0 +1,290 @@
+//! The calls of a host, each to one locked slot.
+
+ghost use Rattle.std.specs.Prelude.{◌≡◌, ◌++◌, ◌∷◌, [], IfErr, IfOk, IfSome, MatchOption, None, OnErr, OnOk, false, true};
+ghost use Rattle.std.specs.Arc.{arc_value};
+ghost use Rattle.xt_base.specs.Calls.{is_unmount};
+ghost use Rattle.xt_base.specs.Isolation.{is_no_memory};
+ghost use Rattle.xt_base.specs.Jobs.{is_ckpt};
+ghost use Rattle.xt_base.specs.declared.steps.Answer.{Answer as AnAnswer};
+ghost use Rattle.xt_base.specs.declared.steps.Answer.TheVariants as Answered;
+ghost use Rattle.xt_base.specs.declared.steps.HomeAnswers.{HomeAnswers as AnAnswerHome};
+ghost use Rattle.xt_base.specs.declared.steps.Reply.TheVariants.{Life as LifeReply, Okay, Refused};
+ghost use Rattle.xt_base.specs.declared.steps.Request.TheVariants as ARequest;
+ghost use Rattle.xt_base.specs.declared.steps.Step.{Step as AStep};
+ghost use Rattle.xt_cell.specs.Counting.{counted};
+ghost use Rattle.xt_cell.specs.HostSeats.{IsSameSeat, Shows};
+ghost use Rattle.xt_host.specs.Calls.{IsReceived, Receives};
+ghost use Rattle.xt_queue.specs.Boards.{Rises};
+ghost use Rattle.xt_queue.specs.Words.{word_of};
+
+use crate::host::Host;
+use std::sync::Wait;
+use xt_base::names::{JobName, Slot, Worker};
+use xt_base::steps::{Errno, Reply, Request};
+use xt_cell::cell::SlotCell;
+use xt_cell::house::House;
+use xt_cell::job::{CkptJob, DoneJob};
+use xt_cell::mount_ref::MountRef;
+use xt_cell::mounting::MountRefused;
+use xt_cell::running::EndFault;
+use xt_cell::seat::HostSeat;
+use xt_cell::shares::{Counts, Shares};
+use xt_dev::home::HomeDevice;
+use xt_dev::log::LogDevice;
+use xt_mount::mount::Stage;
+use xt_queue::board::Board;
+use xt_queue::jobs::WorkPass;
+
+/// Locks a slot's cell and does something with it.
+macro_rules! at_slot {
+    ($host:expr, $rt:expr, $slot:expr, $cell:ident => $body:expr) => {
+        match $slot.index() {
+            0 => {
+                let mut $cell = $host.c0.lock($rt);
+                $body
+            }
+            1 => {
+                let mut $cell = $host.c1.lock($rt);
+                $body
+            }
+            2 => {
+                let mut $cell = $host.c2.lock($rt);
+                $body
+            }
+            3 => {
+                let mut $cell = $host.c3.lock($rt);
+                $body
+            }
+            4 => {
+                let mut $cell = $host.c4.lock($rt);
+                $body
+            }
+            5 => {
+                let mut $cell = $host.c5.lock($rt);
+                $body
+            }
+            6 => {
+                let mut $cell = $host.c6.lock($rt);
+                $body
+            }
+            7 => {
+                let mut $cell = $host.c7.lock($rt);
+                $body
+            }
+            8 => {
+                let mut $cell = $host.c8.lock($rt);
+                $body
+            }
+            9 => {
+                let mut $cell = $host.c9.lock($rt);
+                $body
+            }
+            10 => {
+                let mut $cell = $host.c10.lock($rt);
+                $body
+            }
+            11 => {
+                let mut $cell = $host.c11.lock($rt);
+                $body
+            }
+            12 => {
+                let mut $cell = $host.c12.lock($rt);
+                $body
+            }
+            13 => {
+                let mut $cell = $host.c13.lock($rt);
+                $body
+            }
+            14 => {
+                let mut $cell = $host.c14.lock($rt);
+                $body
+            }
+            15 => {
+                let mut $cell = $host.c15.lock($rt);
+                $body
+            }
+            _ => unreachable!(),
+        }
+    };
+}
+
+impl<H: House> Host<H> {
+    /// Serves a request to a mount, by whatever thread: one event of its slot, and nothing of another's. ENOMEM where memory is refused:
+    /// then nothing was booked, and the same request may be tried again. An unmount is no such request.
+    pub fn call<R: Wait>(
+        &self,
+        rt: &R,
+        seat: &mut HostSeat<H>,
+        at: MountRef,
+        request: Request,
+    ) -> Reply
+        requires board { seat.old.board.board ≡ self.now.board }
+        requires kind { is_unmount request ≡ false }
+        ensures refused { is_no_memory result ≡ true → IsSameSeat seat.old seat.new }
+        ensures received { is_no_memory result ≡ false → (answer : AnAnswer) × Receives at.slot (AStep.Call at.slot at.life request answer) result seat.old seat.new }
+        ensures board { seat.new.board.board ≡ seat.old.board.board }
+        ensures rises { Rises seat.old.board.seen seat.new.board.seen }
+    {
+        at_slot!(self, rt, at.slot, cell => cell.call(rt, seat, &self.board, at, request))
+    }
+
+    /// Mounts a slot anew over these devices, and shows the new life on the board. Where it is refused both devices come back: `Busy`
+    /// where the slot is in use, `Invalid` and `NoSpace` for a log or a home device of a wrong size; ENOMEM, and then nothing was booked.
+    pub fn mount<R: Wait>(
+        &self,
+        rt: &R,
+        seat: &mut HostSeat<H>,
+        slot: Slot,
+        log_bytes: u32,
+        blocks: u64,
+        home: Box<dyn HomeDevice + Send>,
+        log: Box<dyn LogDevice + Send>,
+    ) -> Result<MountRef, MountRefused>
+        requires board { seat.old.board.board ≡ self.now.board }
+        ensures refused { IfErr result (λ back. is_no_memory (Refused back.errno) ≡ true → IsSameSeat seat.old seat.new) }
+        ensures mounted { IfOk result (λ at. (at.slot ≡ slot) × Receives slot (AStep.Mount slot log_bytes blocks) (LifeReply at.life) seat.old seat.new) }
+        ensures received { IfErr result (λ back. is_no_memory (Refused back.errno) ≡ false → Receives slot (AStep.Mount slot log_bytes blocks) (Refused back.errno) seat.old seat.new) }
+        ensures back { IfErr result (λ back. (back.home ≡ home) × (back.log ≡ log)) }
+        ensures shown { IfOk result (λ at. Shows slot (word_of at.life None) seat.old.board seat.new.board) }
+        ensures unshown { OnErr result (seat.new.board ≡ seat.old.board) }
+        ensures board { seat.new.board.board ≡ seat.old.board.board }
+    {
+        at_slot!(self, rt, slot, cell => cell.mount(rt, seat, &self.board, log_bytes, blocks, home, log))
+    }
+
+    /// Unmounts a mount: both devices come back. `NoDevice` where the slot is empty, `Stale` where it has another life, `Busy` where the
+    /// mount is in use or has changes to write; ENOMEM where memory is refused, and then nothing was booked.
+    pub fn unmount<R: Wait>(
+        &self,
+        rt: &R,
+        seat: &mut HostSeat<H>,
+        at: MountRef,
+    ) -> Result<(Box<dyn HomeDevice + Send>, Box<dyn LogDevice + Send>), Errno>
+        requires board { seat.old.board.board ≡ self.now.board }
+        ensures refused { IfErr result (λ errno. is_no_memory (Refused errno) ≡ true → IsSameSeat seat.old seat.new) }
+        ensures unmounted { OnOk result (Receives at.slot (AStep.Call at.slot at.life ARequest.Unmount Answered.None) Okay seat.old seat.new) }
+        ensures received { IfErr result (λ errno. is_no_memory (Refused errno) ≡ false → Receives at.slot (AStep.Call at.slot at.life ARequest.Unmount Answered.None) (Refused errno) seat.old seat.new) }
+        ensures board { seat.new.board ≡ seat.old.board }
+    {
+        at_slot!(self, rt, at.slot, cell => cell.unmount(rt, seat, at))
+    }
+
+    /// Takes the name at the front of the queue; None only where no name waits. What the name is of is to be done: a checkpoint by
+    /// `begin`, `CkptJob::run` and `end`, a flush by `flush`, each by one worker.
+    pub fn take<R: Wait>(&self, rt: &R, pass: &mut WorkPass) -> Option<JobName>
+        requires queue { pass.old.queue ≡ arc_value self.now.queue }
+        ensures queue { pass.new.queue ≡ pass.old.queue }
+        ensures worker { pass.new.worker ≡ pass.old.worker }
+        ensures taken { MatchOption result (pass.new.taken ≡ pass.old.taken) (λ name. pass.new.taken ≡ pass.old.taken ++ name ∷ []) }
+    {
+        self.queue.take(rt, pass)
+    }
+
+    /// Begins a checkpoint for a worker, where its name waits in its slot; None where it does not. With the reply comes the job, which has
+    /// the pieces and the log device of the mount, where there is something to write. ENOMEM where memory is refused: then the job waits.
+    pub fn begin<R: Wait>(
+        &self,
+        rt: &R,
+        seat: &mut HostSeat<H>,
+        worker: Worker,
+        name: &JobName,
+    ) -> Option<(Reply, Option<CkptJob>)>
+        requires board { seat.old.board.board ≡ self.now.board }
+        requires kind { is_ckpt name.now.kind ≡ true }
+        ensures left { result ≡ None → IsSameSeat seat.old seat.new }
+        ensures refused { IfSome result (λ began. is_no_memory began.0 ≡ true → IsSameSeat seat.old seat.new) }
+        ensures received { IfSome result (λ began. is_no_memory began.0 ≡ false → Receives name.now.slot (AStep.Begin worker name.now) began.0 seat.old seat.new) }
+        ensures named { IfSome result (λ began. IfSome began.1 (λ job. (job.worker ≡ worker) × (job.name ≡ name.now))) }
+        ensures board { seat.new.board ≡ seat.old.board }
+    {
+        at_slot!(self, rt, name.slot, cell => begin_waiting(rt, &mut cell, seat, worker, name))
+    }
+
+    /// Ends a checkpoint that was run: its answers are booked, and its log device is back. A job that is no slot's flight comes back, and so
+    /// does one for which there is no memory.
+    pub fn end<R: Wait>(
+        &self,
+        rt: &R,
+        seat: &mut HostSeat<H>,
+        done: DoneJob,
+    ) -> Result<Reply, (DoneJob, EndFault)>
+        requires board { seat.old.board.board ≡ self.now.board }
+        ensures back { IfErr result (λ back. (back.0 ≡ done) × IsSameSeat seat.old seat.new) }
+        ensures received { IfOk result (λ reply. Receives done.name.slot (AStep.End done.worker done.name done.answers) reply seat.old seat.new) }
+        ensures board { seat.new.board.board ≡ seat.old.board.board }
+        ensures rises { Rises seat.old.board.seen seat.new.board.seen }
+    {
+        at_slot!(self, rt, done.slot(), cell => cell.end(rt, seat, &self.board, done))
+    }
+
+    /// Runs a flush, where its name waits in its slot; None where it does not. ENOMEM where memory is refused: then the job waits.
+    pub fn flush<R: Wait>(
+        &self,
+        rt: &R,
+        seat: &mut HostSeat<H>,
+        worker: Worker,
+        name: &JobName,
+    ) -> Option<Reply>
+        requires board { seat.old.board.board ≡ self.now.board }
+        requires kind { is_ckpt name.now.kind ≡ false }
+        ensures left { result ≡ None → IsSameSeat seat.old seat.new }
+        ensures refused { IfSome result (λ reply. is_no_memory reply ≡ true → IsSameSeat seat.old seat.new) }
+        ensures received { IfSome result (λ reply. is_no_memory reply ≡ false → (answers : AnAnswerHome) × Receives name.now.slot (AStep.Flush worker name.now answers) reply seat.old seat.new) }
+        ensures board { seat.new.board.board ≡ seat.old.board.board }
+        ensures rises { Rises seat.old.board.seen seat.new.board.seen }
+    {
+        at_slot!(self, rt, name.slot, cell => flush_waiting(rt, &mut cell, seat, &self.board, worker, name))
+    }
+}
+
+/// Begins a checkpoint of a locked slot, where its name waits there.
+fn begin_waiting<H: House, R: Wait, const S: u8>(
+    rt: &R,
+    cell: &mut SlotCell<H, S>,
+    seat: &mut HostSeat<H>,
+    worker: Worker,
+    name: &JobName,
+) -> Option<(Reply, Option<CkptJob>)>
+where
+    Shares<H>: Counts<H, S>,
+    requires slot { name.now.slot ≡ S }
+    requires kind { is_ckpt name.now.kind ≡ true }
+    ensures left { result ≡ None → IsSameSeat seat.old seat.new }
+    ensures refused { IfSome result (λ began. is_no_memory began.0 ≡ true → IsSameSeat seat.old seat.new) }
+    ensures received { IfSome result (λ began. is_no_memory began.0 ≡ false → IsReceived S (AStep.Begin worker name.now) began.0 seat.old seat.new) }
+    ensures counted { IfSome result (λ began. is_no_memory began.0 ≡ false → ⟦<Shares<H> as Counts<H, S>>⟧.counts seat.new.counts ≡ counted S (⟦<Shares<H> as Counts<H, S>>⟧.counts seat.old.counts)) }
+    ensures named { IfSome result (λ began. IfSome began.1 (λ job. (job.worker ≡ worker) × (job.name ≡ name.now))) }
+    ensures board { seat.new.board ≡ seat.old.board }
+{
+    if cell.stage(name) != Some(Stage::Waiting) {
+        return None;
+    }
+    Some(cell.begin(rt, seat, worker, name))
+}
+
+/// Runs a flush of a locked slot, where its name waits there.
+fn flush_waiting<H: House, R: Wait, const S: u8>(
+    rt: &R,
+    cell: &mut SlotCell<H, S>,
+    seat: &mut HostSeat<H>,
+    board: &Board,
+    worker: Worker,
+    name: &JobName,
+) -> Option<Reply>
+where
+    Shares<H>: Counts<H, S>,
+    requires slot { name.now.slot ≡ S }
+    requires board { seat.old.board.board ≡ board.now }
+    requires kind { is_ckpt name.now.kind ≡ false }
+    ensures left { result ≡ None → IsSameSeat seat.old seat.new }
+    ensures refused { IfSome result (λ reply. is_no_memory reply ≡ true → IsSameSeat seat.old seat.new) }
+    ensures received { IfSome result (λ reply. is_no_memory reply ≡ false → (answers : AnAnswerHome) × IsReceived S (AStep.Flush worker name.now answers) reply seat.old seat.new) }
+    ensures counted { IfSome result (λ reply. is_no_memory reply ≡ false → ⟦<Shares<H> as Counts<H, S>>⟧.counts seat.new.counts ≡ counted S (⟦<Shares<H> as Counts<H, S>>⟧.counts seat.old.counts)) }
+    ensures board { seat.new.board.board ≡ seat.old.board.board }
+    ensures rises { Rises seat.old.board.seen seat.new.board.seen }
+{
+    if cell.stage(name) != Some(Stage::Waiting) {
+        return None;
+    }
+    Some(cell.flush(rt, seat, board, worker, name))
+}
