@@ -54,9 +54,17 @@ pub fn replays(
     };
     match HostCore::run(alloc, &steps) {
         Ok(told) => said_again(&told, slot, &steps, entries, shut),
-        Err(RunFault::Disorder { .. }) => Ok(false),
+        Err(RunFault::Disorder { before, .. }) => ended_early(&before, slot),
         Err(RunFault::Memory) => Err(Errno::NoMemory),
     }
+}
+
+/// A run that broke off: ENOMEM where a step was refused memory, so that those after it fit no more.
+fn ended_early(before: &Outcomes, slot: Slot) -> Result<bool, Errno> {
+    if before.refused(slot) {
+        return Err(Errno::NoMemory);
+    }
+    Ok(false)
 }
 
 /// The same of what a run of the steps told.
