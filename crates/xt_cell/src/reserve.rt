@@ -130,27 +130,75 @@ impl<H: House, const S: u8> Purse<H, S> {
     }
 }
 
+/// The purses of four slots, which have as many parts left. A contract sees how many.
+#[derive(Drop)]
+struct Purses<H: House, const A: u8, const B: u8, const C: u8, const D: u8> {
+    a: Purse<H, A>,
+    b: Purse<H, B>,
+    c: Purse<H, C>,
+    d: Purse<H, D>,
+}
+
+impl<H: House, const A: u8, const B: u8, const C: u8, const D: u8> Model for Purses<H, A, B, C, D> {
+    ghost use Rattle.std.specs.Prelude.{◌≡◌, ℕ};
+
+    ghost Value = { ℕ };
+
+    ghost view = { λ p. p.a };
+
+    ghost invariant = { λ p. (p.b ≡ p.a) × (p.c ≡ p.a) × (p.d ≡ p.a) };
+}
+
+/// The books of four slots.
+type FourBooks<H, const A: u8, const B: u8, const C: u8, const D: u8> = (
+    Book<Of<H, A>>,
+    Book<Of<H, B>>,
+    Book<Of<H, C>>,
+    Book<Of<H, D>>,
+);
+
+/// The tallies of four slots.
+type FourTallies<H, const A: u8, const B: u8, const C: u8, const D: u8> = (
+    Tally<H, A>,
+    Tally<H, B>,
+    Tally<H, C>,
+    Tally<H, D>,
+);
+
+impl<H: House, const A: u8, const B: u8, const C: u8, const D: u8> Purses<H, A, B, C, D> {
+    /// Opens the ledgers of four slots: their books, and all their parts.
+    fn open(a: Blank, b: Blank, c: Blank, d: Blank) -> (FourBooks<H, A, B, C, D>, Self)
+        requires names { (a.name ≡ H.names A) × (b.name ≡ H.names B) × (c.name ≡ H.names C) × (d.name ≡ H.names D) }
+        requires parts { (a.parts ≡ H.all) × (b.parts ≡ H.all) × (c.parts ≡ H.all) × (d.parts ≡ H.all) }
+        ensures totals { (result.0.0.total ≡ 0) × (result.0.1.total ≡ 0) × (result.0.2.total ≡ 0) × (result.0.3.total ≡ 0) }
+        ensures parts { result.1 ≡ H.all }
+    {
+        let (book_a, a) = Purse::open(a);
+        let (book_b, b) = Purse::open(b);
+        let (book_c, c) = Purse::open(c);
+        let (book_d, d) = Purse::open(d);
+        ((book_a, book_b, book_c, book_d), Purses { a, b, c, d })
+    }
+
+    /// Takes one part of each out, as tallies of no event.
+    fn draw(&mut self) -> FourTallies<H, A, B, C, D>
+        requires some { 0 < self.old }
+        ensures left { self.new + 1 ≡ self.old }
+        ensures values { (result.0 ≡ 0) × (result.1 ≡ 0) × (result.2 ≡ 0) × (result.3 ≡ 0) }
+    {
+        (self.a.draw(), self.b.draw(), self.c.draw(), self.d.draw())
+    }
+}
+
 /// What a host keeps for the seats to come: the next seat's number, and one part of each ledger for each of them.
 /// A contract sees the next number.
 #[derive(Drop)]
 pub struct Reserve<H: House> {
     next: u64,
-    p0: Purse<H, 0>,
-    p1: Purse<H, 1>,
-    p2: Purse<H, 2>,
-    p3: Purse<H, 3>,
-    p4: Purse<H, 4>,
-    p5: Purse<H, 5>,
-    p6: Purse<H, 6>,
-    p7: Purse<H, 7>,
-    p8: Purse<H, 8>,
-    p9: Purse<H, 9>,
-    p10: Purse<H, 10>,
-    p11: Purse<H, 11>,
-    p12: Purse<H, 12>,
-    p13: Purse<H, 13>,
-    p14: Purse<H, 14>,
-    p15: Purse<H, 15>,
+    low: Purses<H, 0, 1, 2, 3>,
+    lower: Purses<H, 4, 5, 6, 7>,
+    upper: Purses<H, 8, 9, 10, 11>,
+    high: Purses<H, 12, 13, 14, 15>,
 }
 
 impl<H: House> Model for Reserve<H> {
@@ -160,7 +208,7 @@ impl<H: House> Model for Reserve<H> {
 
     ghost view = { λ r. r.next };
 
-    ghost invariant = { λ r. (0 < r.next) × (r.p0 + r.next ≡ 2 ^ 64) × (r.p1 + r.next ≡ 2 ^ 64) × (r.p2 + r.next ≡ 2 ^ 64) × (r.p3 + r.next ≡ 2 ^ 64) × (r.p4 + r.next ≡ 2 ^ 64) × (r.p5 + r.next ≡ 2 ^ 64) × (r.p6 + r.next ≡ 2 ^ 64) × (r.p7 + r.next ≡ 2 ^ 64) × (r.p8 + r.next ≡ 2 ^ 64) × (r.p9 + r.next ≡ 2 ^ 64) × (r.p10 + r.next ≡ 2 ^ 64) × (r.p11 + r.next ≡ 2 ^ 64) × (r.p12 + r.next ≡ 2 ^ 64) × (r.p13 + r.next ≡ 2 ^ 64) × (r.p14 + r.next ≡ 2 ^ 64) × (r.p15 + r.next ≡ 2 ^ 64) };
+    ghost invariant = { λ r. (0 < r.next) × (r.low + r.next ≡ 2 ^ 64) × (r.lower + r.next ≡ 2 ^ 64) × (r.upper + r.next ≡ 2 ^ 64) × (r.high + r.next ≡ 2 ^ 64) };
 }
 
 impl<H: House> Reserve<H> {
@@ -172,22 +220,14 @@ impl<H: House> Reserve<H> {
         ensures totals { (result.0.b0.total ≡ 0) × (result.0.b1.total ≡ 0) × (result.0.b2.total ≡ 0) × (result.0.b3.total ≡ 0) × (result.0.b4.total ≡ 0) × (result.0.b5.total ≡ 0) × (result.0.b6.total ≡ 0) × (result.0.b7.total ≡ 0) × (result.0.b8.total ≡ 0) × (result.0.b9.total ≡ 0) × (result.0.b10.total ≡ 0) × (result.0.b11.total ≡ 0) × (result.0.b12.total ≡ 0) × (result.0.b13.total ≡ 0) × (result.0.b14.total ≡ 0) × (result.0.b15.total ≡ 0) }
         ensures next { result.1 ≡ 1 }
     {
-        let (b0, p0) = Purse::open(blanks.b0);
-        let (b1, p1) = Purse::open(blanks.b1);
-        let (b2, p2) = Purse::open(blanks.b2);
-        let (b3, p3) = Purse::open(blanks.b3);
-        let (b4, p4) = Purse::open(blanks.b4);
-        let (b5, p5) = Purse::open(blanks.b5);
-        let (b6, p6) = Purse::open(blanks.b6);
-        let (b7, p7) = Purse::open(blanks.b7);
-        let (b8, p8) = Purse::open(blanks.b8);
-        let (b9, p9) = Purse::open(blanks.b9);
-        let (b10, p10) = Purse::open(blanks.b10);
-        let (b11, p11) = Purse::open(blanks.b11);
-        let (b12, p12) = Purse::open(blanks.b12);
-        let (b13, p13) = Purse::open(blanks.b13);
-        let (b14, p14) = Purse::open(blanks.b14);
-        let (b15, p15) = Purse::open(blanks.b15);
+        let ((b0, b1, b2, b3), low) = Purses::open(blanks.b0, blanks.b1, blanks.b2, blanks.b3);
+        let ((b4, b5, b6, b7), lower) = Purses::open(blanks.b4, blanks.b5, blanks.b6, blanks.b7);
+        let ((b8, b9, b10, b11), upper) = Purses::open(
+            blanks.b8, blanks.b9, blanks.b10, blanks.b11,
+        );
+        let ((b12, b13, b14, b15), high) = Purses::open(
+            blanks.b12, blanks.b13, blanks.b14, blanks.b15,
+        );
         let books = Books {
             b0,
             b1,
@@ -208,22 +248,10 @@ impl<H: House> Reserve<H> {
         };
         let reserve = Reserve {
             next: 1,
-            p0,
-            p1,
-            p2,
-            p3,
-            p4,
-            p5,
-            p6,
-            p7,
-            p8,
-            p9,
-            p10,
-            p11,
-            p12,
-            p13,
-            p14,
-            p15,
+            low,
+            lower,
+            upper,
+            high,
         };
         (books, reserve)
     }
@@ -240,23 +268,27 @@ impl<H: House> Reserve<H> {
         }
         let caller = Caller(self.next);
         self.next += 1;
+        let (s0, s1, s2, s3) = self.low.draw();
+        let (s4, s5, s6, s7) = self.lower.draw();
+        let (s8, s9, s10, s11) = self.upper.draw();
+        let (s12, s13, s14, s15) = self.high.draw();
         let shares = Shares {
-            s0: self.p0.draw(),
-            s1: self.p1.draw(),
-            s2: self.p2.draw(),
-            s3: self.p3.draw(),
-            s4: self.p4.draw(),
-            s5: self.p5.draw(),
-            s6: self.p6.draw(),
-            s7: self.p7.draw(),
-            s8: self.p8.draw(),
-            s9: self.p9.draw(),
-            s10: self.p10.draw(),
-            s11: self.p11.draw(),
-            s12: self.p12.draw(),
-            s13: self.p13.draw(),
-            s14: self.p14.draw(),
-            s15: self.p15.draw(),
+            s0,
+            s1,
+            s2,
+            s3,
+            s4,
+            s5,
+            s6,
+            s7,
+            s8,
+            s9,
+            s10,
+            s11,
+            s12,
+            s13,
+            s14,
+            s15,
         };
         Some((caller, shares))
     }
