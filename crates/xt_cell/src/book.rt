@@ -97,6 +97,13 @@ impl<H: House, const S: u8> SlotBook<H, S> {
         &self.entries
     }
 
+    /// The number of the next entry, folded ones counted.
+    fn next_number(&self) -> u64
+        ensures { result ≡ next_number self.now }
+    {
+        self.folded + self.entries.len() as u64
+    }
+
     /// Closes the book: nothing more is written in it.
     pub fn into_account(self) -> Account
         requires slot { S < SLOTS }
@@ -133,8 +140,8 @@ impl<H: House, const S: u8> SlotBook<H, S> {
         self.entries.reserve(EVENT_ENTRIES)
     }
 
-    #[tactic(auto, using(crate::proofs::BookLemmas::posted_book))]
     /// A job that is owed was posted: books that, for the caller of the event that found it owed.
+    #[tactic(auto, using(crate::proofs::BookLemmas::posted_book))]
     pub(crate) fn posted(&mut self, caller: Caller, name: &JobName)
         requires owed { mount_is (is_owed_as name.now) self.old.state.mounted ≡ true }
         requires slot { name.now.slot ≡ S }
@@ -168,10 +175,10 @@ impl<H: House, const S: u8> SlotBook<H, S> {
         ensures refused { is_no_memory result ≡ true → (self.new ≡ self.old) × (seat.new ≡ seat.old) }
         ensures room { is_no_memory result ≡ false → self.new.room + 1 ≡ self.old.room }
     {
+        let number = self.next_number();
+        let slot = self.mount.slot();
         match serve(&mut self.mount, self.alloc, step.booked.get(), rooms) {
             Ok((reply, told)) => {
-                let number = self.folded + self.entries.len() as u64;
-                let slot = self.mount.slot();
                 write(
                     &mut self.entries,
                     &mut self.count,
@@ -199,10 +206,10 @@ impl<H: House, const S: u8> SlotBook<H, S> {
         ensures refused { is_no_memory result ≡ true → (self.new ≡ self.old) × (seat.new ≡ seat.old) }
         ensures room { is_no_memory result ≡ false → self.new.room + 1 ≡ self.old.room }
     {
+        let number = self.next_number();
+        let slot = self.mount.slot();
         match serve_mount(&mut self.mount, log_bytes, blocks) {
             Ok((reply, told)) => {
-                let number = self.folded + self.entries.len() as u64;
-                let slot = self.mount.slot();
                 let step = mount_twin(slot, log_bytes, blocks);
                 write(
                     &mut self.entries,
@@ -242,10 +249,10 @@ impl<H: House, const S: u8> SlotBook<H, S> {
         ensures pieces { has_begun result.0 ≡ true → result.1.items ≡ pieces_in self.new.state.mounted }
         ensures none { has_begun result.0 ≡ false → result.1.items ≡ [] }
     {
+        let number = self.next_number();
+        let slot = self.mount.slot();
         match serve_begin(&mut self.mount, worker, name) {
             Ok((reply, told, pieces)) => {
-                let number = self.folded + self.entries.len() as u64;
-                let slot = self.mount.slot();
                 let step = begin_twin(worker, name);
                 write(
                     &mut self.entries,
@@ -282,9 +289,9 @@ impl<H: House, const S: u8> SlotBook<H, S> {
         ensures counted { ⟦<Shares<H> as Counts<H, S>>⟧.counts seat.new.counts ≡ counted S (⟦<Shares<H> as Counts<H, S>>⟧.counts seat.old.counts) }
         ensures room { self.new.room + 1 ≡ self.old.room }
     {
-        let (reply, told) = serve_end(&mut self.mount, worker, name, answers);
-        let number = self.folded + self.entries.len() as u64;
+        let number = self.next_number();
         let slot = self.mount.slot();
+        let (reply, told) = serve_end(&mut self.mount, worker, name, answers);
         let step = end_twin(worker, name, answers);
         write(
             &mut self.entries,
@@ -319,9 +326,9 @@ impl<H: House, const S: u8> SlotBook<H, S> {
         ensures counted { ⟦<Shares<H> as Counts<H, S>>⟧.counts seat.new.counts ≡ counted S (⟦<Shares<H> as Counts<H, S>>⟧.counts seat.old.counts) }
         ensures room { self.new.room + 1 ≡ self.old.room }
     {
-        let (reply, told) = serve_flush(&mut self.mount, worker, name, answers);
-        let number = self.folded + self.entries.len() as u64;
+        let number = self.next_number();
         let slot = self.mount.slot();
+        let (reply, told) = serve_flush(&mut self.mount, worker, name, answers);
         let step = flush_twin(worker, name, answers);
         write(
             &mut self.entries,
