@@ -1,13 +1,13 @@
 -- Costs of item lists and charges of legs: what a commit adds to the list was charged, and what one more edit charges.
-use Rattle.std.proofs.Common.{◌≡◌, ◌+◌, ◌*◌, ◌<◌, ◌≤◌, ◌∷◌, Bool, List, None, Option, Some, [], ap, arith, cond, false, length, refl, subst, suc, sym, true, ℕ}
+use Rattle.std.proofs.Common.{◌≡◌, ◌+◌, ◌*◌, ◌<◌, ◌≤◌, ◌∷◌, Bool, List, None, Option, Some, [], ap, arith, cond, false, length, refl, suc, true, ℕ}
 use Rattle.std.proofs.lemmas.Bool.{ne_eqb}
 use Rattle.std.proofs.lemmas.List.Sums.{sum_by-cons}
 use Rattle.std.specs.Prelude.{if◌then◌else◌, is_none, is_some, sum_by, unwrap_or, ◌==◌}
-use Rattle.xt_base.proofs.ChunkCounts.{length-union_newly, length-union_within, newly}
+use Rattle.xt_base.proofs.ChunkCounts.{length-union_within}
 use Rattle.xt_base.proofs.MapLemmas.{length_put_ge, length_put_positive}
 use Rattle.xt_base.proofs.RisingLemmas.{rises_put, sum_put, weight_at}
 use Rattle.xt_base.specs.Calls.{edited, invalidated}
-use Rattle.xt_base.specs.Chunks.{chunks_where, union}
+use Rattle.xt_base.specs.Chunks.{union}
 use Rattle.xt_base.specs.Legs.{change_of, joined_marks, with_marks}
 use Rattle.xt_base.specs.Maps.{at, is_in, put}
 use Rattle.xt_base.specs.Sound.{Each, IsCovered, IsRising}

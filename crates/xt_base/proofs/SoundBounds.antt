@@ -1,19 +1,17 @@
 -- How long the maps of a sound mount get: at most 64 entries, also in the midst of a step.
-use Rattle.std.proofs.Common.{◌≡◌, ◌+◌, ◌<◌, ◌≤◌, ◌∷◌, Bool, List, None, Option, Some, [], arith, false, length, true, ℕ}
-use Rattle.xt_base.proofs.BusyLemmas.{each_own, few_active, few_busy, few_busy_keys}
+use Rattle.std.proofs.Common.{◌≡◌, ◌<◌, ◌≤◌, ◌∷◌, Bool, List, None, Option, Some, [], arith, false, length, true, ℕ}
+use Rattle.xt_base.proofs.BusyLemmas.{few_busy, few_busy_keys}
 use Rattle.xt_base.proofs.KeyLemmas.{each_with_member, length_with_member, rises_keys_with}
-use Rattle.xt_base.proofs.LegLemmas.{owned_there, rises_with_edits, rises_with_lost, rises_with_marks}
+use Rattle.xt_base.proofs.LegLemmas.{owned_there}
 use Rattle.xt_base.proofs.RisingLemmas.{each_at, each_map, each_put, each_without, length_put_new, rises_put}
-use Rattle.xt_base.proofs.SoundParts.{busy_committed, busy_owned, parts_landed}
-use Rattle.xt_base.proofs.SoundSteps.{edit_fair}
-use Rattle.xt_base.specs.Calls.{edited, is_own}
-use Rattle.std.specs.Prelude.{filter, if◌then◌else◌, not, sum_by}
-use Rattle.xt_base.specs.Jobs.{activated, landed_items, waits_on}
+use Rattle.xt_base.proofs.SoundParts.{busy_owned}
+use Rattle.xt_base.specs.Calls.{is_own}
+use Rattle.std.specs.Prelude.{if◌then◌else◌}
 use Rattle.xt_base.specs.Legs.{joined_marks, with_edit, with_edits, with_lost, with_marks}
 use Rattle.xt_base.specs.Maps.{at, has, is_in, put, with_member}
 use Rattle.xt_base.specs.Sound.{Each, IsFair, IsSound, Owns}
-use Rattle.xt_base.specs.Space.{charge, cost, flight_items, is_busy}
-use Rattle.xt_base.specs.State.{Change, Flight, Leg, State, Transaction}
+use Rattle.xt_base.specs.Space.{is_busy}
+use Rattle.xt_base.specs.State.{Change, Leg, State, Transaction}
 
 each_with_edit : (P : ℕ → Type 0) (b : ℕ) (edit : Option (List ℕ)) (m : List (ℕ × List ℕ)) → P b → Each (λ e. P e.0) m → Each (λ e. P e.0) (with_edit b edit m)
 each_with_edit P b None m h all = each_without (λ e. P e.0) b m all

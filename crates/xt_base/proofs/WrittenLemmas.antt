@@ -10,7 +10,7 @@ use Rattle.xt_base.proofs.RisingLemmas.{each_at, each_map, filter_drop, filter_p
 use Rattle.xt_base.proofs.SoundParts.{activated_one, is_in_activated, rises_activated}
 use Rattle.xt_base.specs.Chunks.{union}
 use Rattle.xt_base.specs.Jobs.{activated, cleaned, landed_items, waits_on}
-use Rattle.xt_base.specs.Legs.{change_of, is_lost, is_stale, joined_marks, own_count, owned_by, owner_aborted, owner_after, with_edit, with_edits, with_marks}
+use Rattle.xt_base.specs.Legs.{is_lost, is_stale, joined_marks, own_count, owned_by, owner_aborted, owner_after, with_edit, with_edits, with_marks}
 use Rattle.xt_base.specs.Maps.{at, has, is_in, put, without}
 use Rattle.xt_base.specs.Sound.{AreWritten, Each, IsBetween, IsCancelled, IsCancelledIn, IsFair, IsRising, Owns, RisesFrom, is_cancelled}
 use Rattle.xt_base.specs.Space.{flight_items, is_listed}

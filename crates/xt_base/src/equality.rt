@@ -134,80 +134,12 @@ impl HomeAnswers {
     }
 }
 
+#[tactic(auto, using(crate::proofs::EqualityLemmas::steps_decide))]
 impl Step {
     /// Whether both are the same step, with the same names, numbers, request and answers.
     pub fn is(&self, other: &Step) -> bool
         ensures { IsTrue result ↔ (self.now ≡ other.now) }
     {
-        match (self, other) {
-            (
-                Step::Mount {
-                    slot,
-                    log_bytes,
-                    blocks,
-                },
-                Step::Mount {
-                    slot: other_slot,
-                    log_bytes: other_bytes,
-                    blocks: other_blocks,
-                },
-            ) => slot == other_slot && log_bytes == other_bytes && blocks == other_blocks,
-            (
-                Step::Call {
-                    slot,
-                    life,
-                    request,
-                    answer,
-                },
-                Step::Call {
-                    slot: other_slot,
-                    life: other_life,
-                    request: asked,
-                    answer: got,
-                },
-            ) => slot == other_slot && life == other_life && request.is(asked) && answer.is(got),
-            (Step::Post(name), Step::Post(other_name)) => name.is(other_name),
-            (
-                Step::Take { worker, name },
-                Step::Take {
-                    worker: other_worker,
-                    name: other_name,
-                },
-            ) => worker == other_worker && name.is(other_name),
-            (
-                Step::Begin { worker, name },
-                Step::Begin {
-                    worker: other_worker,
-                    name: other_name,
-                },
-            ) => worker == other_worker && name.is(other_name),
-            (
-                Step::End {
-                    worker,
-                    name,
-                    answers,
-                },
-                Step::End {
-                    worker: other_worker,
-                    name: other_name,
-                    answers: other_answers,
-                },
-            ) => worker == other_worker && name.is(other_name) && answers.is(other_answers),
-            (
-                Step::Flush {
-                    worker,
-                    name,
-                    answers,
-                },
-                Step::Flush {
-                    worker: other_worker,
-                    name: other_name,
-                    answers: other_answers,
-                },
-            ) => worker == other_worker && name.is(other_name) && answers.is(other_answers),
-            (Step::Show(slot), Step::Show(other_slot)) => slot == other_slot,
-            (Step::Peek(slot), Step::Peek(other_slot)) => slot == other_slot,
-            _ => false,
-        }
+        self == other
     }
 }

@@ -3,7 +3,7 @@
 ghost use Rattle.std.specs.Prelude.{◌≡◌, ◌≤◌, false, true, length, is_some, IfOk};
 ghost use Rattle.xt_base.specs.Alone.{carries_content, names_held};
 ghost use Rattle.xt_base.specs.Errors.{name_of, number_of};
-ghost use Rattle.xt_base.specs.Steps.{slot_of};
+ghost use Rattle.xt_base.specs.Steps.{is_call, slot_of};
 
 use crate::content::{Content, Data, HeldBlocks, HeldRoom};
 use crate::names::{Block, CkptNo, JobName, Life, Slot, TransNo, Worker};
@@ -231,7 +231,7 @@ pub struct HomeAnswers {
 }
 
 /// One line of a script.
-#[derive(Debug, Drop)]
+#[derive(Debug, Drop, PartialEq)]
 pub enum Step {
     /// Mounts a slot with a log of so many bytes and a home device of so many blocks.
     Mount {
@@ -274,61 +274,33 @@ impl Request {
     pub fn copy(&self, alloc: Global) -> Result<Self, AllocError>
         ensures { IfOk result (λ request. request ≡ self.now) }
     {
-        let request = match self {
-            Request::Alloc { unit, count, perm } => Request::Alloc {
-                unit: *unit,
-                count: *count,
-                perm: *perm,
-            },
-            Request::Get { trans, block } => Request::Get {
-                trans: *trans,
-                block: *block,
-            },
-            Request::Read { trans, block } => Request::Read {
-                trans: *trans,
-                block: *block,
-            },
-            Request::View { trans, block } => Request::View {
-                trans: *trans,
-                block: *block,
-            },
+        let request = match *self {
+            Request::Alloc { unit, count, perm } => Request::Alloc { unit, count, perm },
+            Request::Get { trans, block } => Request::Get { trans, block },
+            Request::Read { trans, block } => Request::Read { trans, block },
+            Request::View { trans, block } => Request::View { trans, block },
             Request::Log {
                 first,
                 trans,
                 block,
-                bytes,
+                ref bytes,
             } => Request::Log {
-                first: *first,
-                trans: *trans,
-                block: *block,
+                first,
+                trans,
+                block,
                 bytes: bytes.copy(alloc)?,
             },
-            Request::Hold { trans, block } => Request::Hold {
-                trans: *trans,
-                block: *block,
-            },
-            Request::Unhold { trans, block } => Request::Unhold {
-                trans: *trans,
-                block: *block,
-            },
-            Request::Relse { trans, block } => Request::Relse {
-                trans: *trans,
-                block: *block,
-            },
-            Request::Join { trans, block } => Request::Join {
-                trans: *trans,
-                block: *block,
-            },
-            Request::Release { block } => Request::Release { block: *block },
-            Request::Inval { trans, block } => Request::Inval {
-                trans: *trans,
-                block: *block,
-            },
-            Request::Commit { trans } => Request::Commit { trans: *trans },
-            Request::Roll { trans } => Request::Roll { trans: *trans },
-            Request::Cancel { trans } => Request::Cancel { trans: *trans },
+            Request::Hold { trans, block } => Request::Hold { trans, block },
+            Request::Unhold { trans, block } => Request::Unhold { trans, block },
+            Request::Relse { trans, block } => Request::Relse { trans, block },
+            Request::Join { trans, block } => Request::Join { trans, block },
+            Request::Release { block } => Request::Release { block },
+            Request::Inval { trans, block } => Request::Inval { trans, block },
+            Request::Commit { trans } => Request::Commit { trans },
+            Request::Roll { trans } => Request::Roll { trans },
+            Request::Cancel { trans } => Request::Cancel { trans },
             Request::Force => Request::Force,
-            Request::ForceTo { number } => Request::ForceTo { number: *number },
+            Request::ForceTo { number } => Request::ForceTo { number },
             Request::Push => Request::Push,
             Request::Shutdown => Request::Shutdown,
             Request::Freeze => Request::Freeze,
@@ -398,58 +370,62 @@ impl Step {
     pub fn copy(&self, alloc: Global) -> Result<Self, AllocError>
         ensures { IfOk result (λ step. step ≡ self.now) }
     {
-        let step = match self {
-            Step::Mount {
-                slot,
-                log_bytes,
-                blocks,
-            } => Step::Mount {
-                slot: *slot,
-                log_bytes: *log_bytes,
-                blocks: *blocks,
-            },
+        match self {
             Step::Call {
                 slot,
                 life,
                 request,
                 answer,
-            } => Step::Call {
+            } => Ok(Step::Call {
                 slot: *slot,
                 life: *life,
                 request: request.copy(alloc)?,
                 answer: answer.copy(alloc)?,
+            }),
+            _ => Ok(self.copy_plain()),
+        }
+    }
+
+    /// A copy of a step that is no call. It takes no memory.
+    fn copy_plain(&self) -> Step
+        requires { is_call self.now ≡ false }
+        ensures { result ≡ self.now }
+    {
+        match *self {
+            Step::Mount {
+                slot,
+                log_bytes,
+                blocks,
+            } => Step::Mount {
+                slot,
+                log_bytes,
+                blocks,
             },
-            Step::Post(name) => Step::Post(*name),
-            Step::Take { worker, name } => Step::Take {
-                worker: *worker,
-                name: *name,
-            },
-            Step::Begin { worker, name } => Step::Begin {
-                worker: *worker,
-                name: *name,
-            },
+            Step::Call { .. } => unreachable!(),
+            Step::Post(name) => Step::Post(name),
+            Step::Take { worker, name } => Step::Take { worker, name },
+            Step::Begin { worker, name } => Step::Begin { worker, name },
             Step::End {
                 worker,
                 name,
                 answers,
             } => Step::End {
-                worker: *worker,
-                name: *name,
-                answers: *answers,
+                worker,
+                name,
+                answers,
             },
             Step::Flush {
                 worker,
                 name,
                 answers,
             } => Step::Flush {
-                worker: *worker,
-                name: *name,
-                answers: *answers,
+                worker,
+                name,
+                answers,
             },
-            Step::Show(slot) => Step::Show(*slot),
-            Step::Peek(slot) => Step::Peek(*slot),
-        };
-        Ok(step)
+            Step::Show(slot) => Step::Show(slot),
+            Step::Peek(slot) => Step::Peek(slot),
+        }
     }
 
     /// The slot that the step names.
