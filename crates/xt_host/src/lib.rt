@@ -1,6 +1,7 @@
 //! The running host: calls of many threads to sixteen locked slots, the workers' jobs, and the comparison at its end.
 #![tactic(auto)]
 
+mod commands;
 pub mod comparing;
 pub mod counting;
 pub mod fault;

@@ -13,7 +13,7 @@ use crossbeam_queue::{Pass, RuledArrayQueue};
 use std::alloc::{AllocError, Global};
 use std::marker::Model;
 use std::sync::Wait;
-use xt_base::names::JobName;
+use xt_base::names::{JobName, Worker};
 use xt_base::sizes::{QUEUE_PLACES, SLOTS, WORKERS};
 use xt_base::steps::Errno;
 
@@ -60,18 +60,28 @@ impl Model for PostPass {
 #[derive(Drop)]
 pub struct WorkPass {
     pass: Pass<JobName, JobView>,
+    worker: Worker,
 }
 
 impl Model for WorkPass {
     ghost use Rattle.crossbeam_queue.specs.Passes.{view as known};
-    ghost use Rattle.std.specs.Prelude.{◌-◌, ◌<◌, ◌≡◌, ◌≤◌, []};
+    ghost use Rattle.std.specs.Prelude.{◌+◌, ◌≡◌, []};
     ghost use Rattle.xt_queue.specs.Passes.{WorkView};
 
     ghost Value = { WorkView };
 
-    ghost view = { λ p. record { queue = p.pass.table_id; worker = (known p.pass).number - 17; taken = (known p.pass).names } };
+    ghost view = { λ p. record { queue = p.pass.table_id; worker = p.worker; taken = (known p.pass).names } };
 
-    ghost invariant = { λ p. (p.pass.me.1 ≡ []) × ((known p.pass).made ≡ 0) × (17 ≤ (known p.pass).number) × ((known p.pass).number < 25) };
+    ghost invariant = { λ p. (p.pass.me.1 ≡ []) × ((known p.pass).made ≡ 0) × ((known p.pass).number ≡ p.worker + 17) };
+}
+
+impl WorkPass {
+    /// The worker whose pass it is.
+    pub fn worker(&self) -> Worker
+        ensures { result ≡ self.now.worker }
+    {
+        self.worker
+    }
 }
 
 /// Makes the passes of a queue, one after another.
@@ -154,8 +164,11 @@ impl JobQueue {
         ensures works { IfOk result (λ works. works.items ≡ fresh_works self.now WORKERS) }
     {
         let mut works = Vec::with_capacity(alloc, WORKERS)?;
-        for _worker in 0..WORKERS {
-            works.push(self.next_work(maker))?;
+        for index in 0..WORKERS {
+            let Some(worker) = Worker::new(index as u8) else {
+                unreachable!()
+            };
+            works.push(self.next_work(maker, worker))?;
         }
         Ok(works)
     }
@@ -173,17 +186,17 @@ impl JobQueue {
         }
     }
 
-    /// The pass of the next worker.
-    fn next_work(&self, maker: &mut Maker) -> WorkPass
+    /// The pass of the next worker, which is this one.
+    fn next_work(&self, maker: &mut Maker, worker: Worker) -> WorkPass
         requires queue { maker.old.queue ≡ self.now }
-        requires slots { SLOTS ≤ maker.old.made }
-        requires workers { maker.old.made < SLOTS + WORKERS }
+        requires worker { maker.old.made ≡ SLOTS + worker }
         ensures queue { maker.new.queue ≡ maker.old.queue }
         ensures made { maker.new.made ≡ maker.old.made + 1 }
-        ensures pass { result ≡ fresh_work self.now (maker.old.made - SLOTS) }
+        ensures pass { result ≡ fresh_work self.now worker }
     {
         WorkPass {
             pass: self.ring.another::<NextPass>(&mut maker.pass),
+            worker,
         }
     }
 
