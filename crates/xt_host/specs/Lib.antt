@@ -1,2 +1,4 @@
 pub mod Closing
 pub mod Calls
+pub mod Held
+pub mod Tokens
