@@ -28,3 +28,4 @@ pub mod SameLemmas
 pub mod MemoryLemmas
 pub mod EqualityLemmas
 pub mod CarryLemmas
+pub mod ReplyLemmas

@@ -23,3 +23,4 @@ pub mod Marks
 pub mod Isolation
 pub mod Laws
 pub mod Lending
+pub mod Replies

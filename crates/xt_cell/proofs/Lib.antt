@@ -6,3 +6,4 @@ mod FactLemmas
 mod CallLemmas
 mod MountLemmas
 mod RunLemmas
+mod ToldLemmas

@@ -1,25 +1,30 @@
 //! One locked slot: its book, its devices, and its way to the queue.
 
-ghost use Rattle.std.specs.Prelude.{◌≡◌, ◌<◌, ◌≤◌, ◌⊎◌, [], None, IfOk, IfSome, MatchOption, OnErr, OnOk, is_some, false, true};
+ghost use Rattle.std.specs.Prelude.{◌≡◌, ◌++◌, ◌<◌, ◌≤◌, ◌∷◌, ◌⊎◌, [], None, IfOk, IfSome, MatchOption, OnErr, OnOk, is_some, slice_index, false, true, ℕ};
 ghost use Rattle.xt_base.specs.Alone.{reason_of};
 ghost use Rattle.xt_base.specs.Calls.{is_unmount};
 ghost use Rattle.xt_base.specs.Isolation.{is_no_memory};
 ghost use Rattle.xt_base.specs.Order.{is_there, mount_is, of_life};
+ghost use Rattle.xt_base.specs.Replies.{is_read, may_get};
 ghost use Rattle.xt_base.specs.declared.sizes.TheConstants.{SLOTS};
 ghost use Rattle.xt_base.specs.declared.steps.Answer.{Answer as AnAnswer};
+ghost use Rattle.xt_base.specs.declared.steps.Answer.TheVariants as Answered;
+ghost use Rattle.xt_base.specs.declared.steps.Reply.TheVariants.{Okay};
+ghost use Rattle.xt_base.specs.declared.steps.Request.TheVariants as ARequest;
 ghost use Rattle.xt_base.specs.declared.steps.Step.{Step as AStep};
 ghost use Rattle.xt_cell.specs.Asking.{read_calls, step_calls};
 ghost use Rattle.xt_cell.specs.Books.{IsSameBook, events_of, may_hold, unwritten};
 ghost use Rattle.xt_cell.specs.Counting.{counted};
 ghost use Rattle.xt_cell.specs.Cells.{IsEvent, IsShown, IsStepOf, is_shutdown, word_shown};
 ghost use Rattle.xt_cell.specs.Facts.{has_log, is_flown_by_job, is_last_post};
-ghost use Rattle.xt_cell.specs.HostSeats.{IsSameSeat};
+ghost use Rattle.xt_cell.specs.HostSeats.{IsSameSeat, receipt};
 ghost use Rattle.xt_cell.specs.Twins.{AreReady};
 ghost use Rattle.xt_dev.specs.Devices.{Tells};
 ghost use Rattle.xt_mount.specs.Come.{read_block};
 ghost use Rattle.xt_mount.specs.Slots.{stage_in};
 ghost use Rattle.xt_queue.specs.Names.{last_of, unposted};
 ghost use Rattle.xt_queue.specs.Boards.{Rises};
+ghost use Rattle.xt_queue.specs.Words.{word_of};
 
 use crate::account::Account;
 use crate::asking;
@@ -102,6 +107,7 @@ impl<H: House, const S: u8> SlotCell<H, S> {
     /// Serves a request to one life of the slot: asks the home device where the mount must, books the step with its receipt,
     /// posts what it made owed, and shows the mount on the board where the request shut it, or was to shut it. ENOMEM where memory is
     /// refused: then nothing was booked, and all that changed is room. The log device is left alone. An unmount is no such request.
+    /// The reply is one that the request may get, and the seat has seen shut what a shutdown shut.
     pub fn call<R: Wait>(
         &mut self,
         rt: &R,
@@ -119,7 +125,11 @@ impl<H: House, const S: u8> SlotCell<H, S> {
         ensures tried { is_no_memory result ≡ true → (self.new.home ≡ self.old.home) ⊎ ((answer : AnAnswer) × MatchOption self.old.home (self.new.home ≡ None) (λ h. IfSome self.new.home (λ k. Tells (home_tells h) (home_taken h) (read_calls (read_block request) answer) (home_tells k) (home_taken k)))) }
         ensures booked { is_no_memory result ≡ false → (step : AStep) × IsStepOf S at.life request self.old.book.state.mounted step × IsEvent S step result self.old.book self.new.book seat.old seat.new self.old.poster self.new.poster × MatchOption self.old.home (self.new.home ≡ None) (λ h. IfSome self.new.home (λ k. Tells (home_tells h) (home_taken h) (step_calls step) (home_tells k) (home_taken k))) }
         ensures counted { is_no_memory result ≡ false → ⟦<Shares<H> as Counts<H, S>>⟧.counts seat.new.counts ≡ counted S (⟦<Shares<H> as Counts<H, S>>⟧.counts seat.old.counts) }
+        ensures kind { may_get request result ≡ true }
+        ensures unasked { is_no_memory result ≡ false → is_read request ≡ false → (number : ℕ) × (seat.new.receipts ≡ seat.old.receipts ++ receipt S number (AStep.Call S at.life request Answered.None) result ∷ []) }
+        ensures caller { seat.new.caller ≡ seat.old.caller }
         ensures log { self.new.log ≡ self.old.log }
+        ensures shut { request ≡ ARequest.Shutdown → result ≡ Okay → word_of at.life None < slice_index seat.new.board.seen S }
         ensures shown { is_no_memory result ≡ false → IsShown S (word_shown (is_shutdown request) (reason_of self.old.book.state.mounted) self.new.book.state.mounted) seat.old.board seat.new.board }
         ensures board { seat.new.board.board ≡ seat.old.board.board }
         ensures rises { Rises seat.old.board.seen seat.new.board.seen }

@@ -1,2 +1,4 @@
 mod AgreeLemmas
 mod ReceiptLemmas
+mod ServedLemmas
+pub mod CommandLemmas

@@ -1,8 +1,9 @@
 -- What each command makes of the seat that it is given by.
-use Rattle.std.specs.Prelude.{IfErr, IfOk, IfSome, None, OnErr, OnOk, false, true, ℕ, ⊤, ◌≡◌}
+use Rattle.std.specs.Prelude.{IfErr, IfOk, IfSome, None, OnErr, OnOk, false, slice_index, true, ℕ, ⊤, ◌<◌, ◌≡◌}
 use Rattle.xt_base.specs.Calls.{is_unmount}
 use Rattle.xt_base.specs.Isolation.{is_no_memory}
 use Rattle.xt_base.specs.Jobs.{is_ckpt}
+use Rattle.xt_base.specs.Replies.{is_read, may_get}
 use Rattle.xt_base.specs.declared.steps.Answer.{Answer}
 use Rattle.xt_base.specs.declared.steps.Answer.TheVariants as Answered
 use Rattle.xt_base.specs.declared.steps.HomeAnswers.{HomeAnswers}
@@ -40,6 +41,9 @@ module _ {A B : Type 0} {IsA : A → Type 0} {IsB : B → Type 0} where
   Did (Do.Call at request) old new (Came.Called reply) =
       (is_no_memory reply ≡ true → IsSameSeat old new)
       × (is_no_memory reply ≡ false → (answer : Answer) × Receives at.slot (Step.Call at.slot at.life request answer) reply old new)
+      × (is_no_memory reply ≡ false → is_read request ≡ false → Receives at.slot (Step.Call at.slot at.life request Answered.None) reply old new)
+      × (may_get request reply ≡ true)
+      × (request ≡ ARequest.Shutdown → reply ≡ Okay → word_of at.life None < slice_index new.board.seen at.slot)
       × Rises old.board.seen new.board.seen
   Did (Do.Unmount at) old new (Came.Unmounted result) =
       IfErr result (λ errno. is_no_memory (Refused errno) ≡ true → IsSameSeat old new)

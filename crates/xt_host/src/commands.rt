@@ -1,8 +1,19 @@
 //! What is done with a locked slot, as values: so that one function finds a slot and its lock, whatever is to be done there.
 
-ghost use Rattle.std.specs.Prelude.{◌≡◌};
-ghost use Rattle.xt_host.specs.Calls.{with_counts};
+ghost use Rattle.std.specs.Prelude.{◌≡◌, ◌<◌, None, false, slice_index, true};
+ghost use Rattle.xt_base.specs.Calls.{is_unmount};
+ghost use Rattle.xt_base.specs.Isolation.{is_no_memory};
+ghost use Rattle.xt_base.specs.Replies.{is_read, may_get};
+ghost use Rattle.xt_base.specs.declared.steps.Answer.{Answer as AnAnswer};
+ghost use Rattle.xt_base.specs.declared.steps.Answer.TheVariants as Answered;
+ghost use Rattle.xt_base.specs.declared.steps.Reply.TheVariants.{Okay};
+ghost use Rattle.xt_base.specs.declared.steps.Request.TheVariants as ARequest;
+ghost use Rattle.xt_base.specs.declared.steps.Step.{Step as AStep};
+ghost use Rattle.xt_cell.specs.HostSeats.{IsSameSeat};
+ghost use Rattle.xt_host.specs.Calls.{Receives, with_counts};
 ghost use Rattle.xt_host.specs.Commands.{Did, MayBe, slot_of};
+ghost use Rattle.xt_queue.specs.Boards.{Rises};
+ghost use Rattle.xt_queue.specs.Words.{word_of};
 
 use std::sync::Wait;
 use xt_base::names::{JobName, Slot, Worker};
@@ -96,7 +107,7 @@ impl Command {
     {
         match self {
             Command::Call { at, request } => {
-                Outcome::Called(cell.call(rt, seat, board, at, request))
+                Outcome::Called(called(rt, cell, seat, board, at, request))
             }
             Command::Mount {
                 slot: _,
@@ -121,4 +132,29 @@ impl Command {
             }
         }
     }
+}
+
+/// Serves a request to a mount of a locked slot.
+fn called<H: House, R: Wait, const S: u8>(
+    rt: &R,
+    cell: &mut SlotCell<H, S>,
+    seat: &mut HostSeat<H>,
+    board: &Board,
+    at: MountRef,
+    request: Request,
+) -> Reply
+where
+    Shares<H>: Counts<H, S>,
+    requires slot { at.slot ≡ S }
+    requires kind { is_unmount request ≡ false }
+    requires board { seat.old.board.board ≡ board.now }
+    ensures refused { is_no_memory result ≡ true → IsSameSeat (with_counts (⟦<Shares<H> as Counts<H, S>>⟧.counts seat.old.counts) seat.old) (with_counts (⟦<Shares<H> as Counts<H, S>>⟧.counts seat.new.counts) seat.new) }
+    ensures received { is_no_memory result ≡ false → (answer : AnAnswer) × Receives at.slot (AStep.Call at.slot at.life request answer) result (with_counts (⟦<Shares<H> as Counts<H, S>>⟧.counts seat.old.counts) seat.old) (with_counts (⟦<Shares<H> as Counts<H, S>>⟧.counts seat.new.counts) seat.new) }
+    ensures unasked { is_no_memory result ≡ false → is_read request ≡ false → Receives at.slot (AStep.Call at.slot at.life request Answered.None) result (with_counts (⟦<Shares<H> as Counts<H, S>>⟧.counts seat.old.counts) seat.old) (with_counts (⟦<Shares<H> as Counts<H, S>>⟧.counts seat.new.counts) seat.new) }
+    ensures kind { may_get request result ≡ true }
+    ensures shut { request ≡ ARequest.Shutdown → result ≡ Okay → word_of at.life None < slice_index seat.new.board.seen at.slot }
+    ensures board { seat.new.board.board ≡ seat.old.board.board }
+    ensures rises { Rises seat.old.board.seen seat.new.board.seen }
+{
+    cell.call(rt, seat, board, at, request)
 }

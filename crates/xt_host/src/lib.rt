@@ -1,13 +1,21 @@
 //! The running host: calls of many threads to sixteen locked slots, the workers' jobs, and the comparison at its end.
 #![tactic(auto)]
 
+mod admin;
+mod ask;
 mod commands;
 pub mod comparing;
 pub mod counting;
 pub mod fault;
+mod held;
 pub mod host;
+mod leg;
 mod making;
+pub mod outcomes;
 pub mod receipts;
 pub mod slots;
 #[cfg(test)]
 mod tests;
+pub mod tokens;
+mod told;
+mod trans;

@@ -1,10 +1,11 @@
 //! The calls of a host, each to one locked slot.
 
-ghost use Rattle.std.specs.Prelude.{◌≡◌, ◌++◌, ◌∷◌, [], IfErr, IfOk, IfSome, MatchOption, None, OnErr, OnOk, false, true};
+ghost use Rattle.std.specs.Prelude.{◌≡◌, ◌<◌, ◌++◌, ◌∷◌, [], IfErr, IfOk, IfSome, MatchOption, None, OnErr, OnOk, false, slice_index, true};
 ghost use Rattle.std.specs.Arc.{arc_value};
 ghost use Rattle.xt_base.specs.Calls.{is_unmount};
 ghost use Rattle.xt_base.specs.Isolation.{is_no_memory};
 ghost use Rattle.xt_base.specs.Jobs.{is_ckpt};
+ghost use Rattle.xt_base.specs.Replies.{is_read, may_get};
 ghost use Rattle.xt_base.specs.declared.steps.Answer.{Answer as AnAnswer};
 ghost use Rattle.xt_base.specs.declared.steps.Answer.TheVariants as Answered;
 ghost use Rattle.xt_base.specs.declared.steps.HomeAnswers.{HomeAnswers as AnAnswerHome};
@@ -75,6 +76,9 @@ impl<H: House> Host<H> {
         requires kind { is_unmount request ≡ false }
         ensures refused { is_no_memory result ≡ true → IsSameSeat seat.old seat.new }
         ensures received { is_no_memory result ≡ false → (answer : AnAnswer) × Receives at.slot (AStep.Call at.slot at.life request answer) result seat.old seat.new }
+        ensures unasked { is_no_memory result ≡ false → is_read request ≡ false → Receives at.slot (AStep.Call at.slot at.life request Answered.None) result seat.old seat.new }
+        ensures kind { may_get request result ≡ true }
+        ensures shut { request ≡ ARequest.Shutdown → result ≡ Okay → word_of at.life None < slice_index seat.new.board.seen at.slot }
         ensures board { seat.new.board.board ≡ seat.old.board.board }
         ensures rises { Rises seat.old.board.seen seat.new.board.seen }
     {
