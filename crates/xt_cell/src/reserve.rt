@@ -131,7 +131,6 @@ impl<H: House, const S: u8> Purse<H, S> {
 }
 
 /// The purses of four slots, which have as many parts left. A contract sees how many.
-#[derive(Drop)]
 struct Purses<H: House, const A: u8, const B: u8, const C: u8, const D: u8> {
     a: Purse<H, A>,
     b: Purse<H, B>,
@@ -147,6 +146,17 @@ impl<H: House, const A: u8, const B: u8, const C: u8, const D: u8> Model for Pur
     ghost view = { λ p. p.a };
 
     ghost invariant = { λ p. (p.b ≡ p.a) × (p.c ≡ p.a) × (p.d ≡ p.a) };
+}
+
+impl<H: House, const A: u8, const B: u8, const C: u8, const D: u8> Drop for Purses<H, A, B, C, D> {
+    fn drop(self) {
+        let Purses {
+            a: _a,
+            b: _b,
+            c: _c,
+            d: _d,
+        } = self;
+    }
 }
 
 /// The books of four slots.

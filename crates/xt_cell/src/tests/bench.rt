@@ -18,7 +18,6 @@ use xt_base::steps::{Errno, Reply};
 
 /// A cell of slot 15, the devices while it has none, the name that was taken last and not begun, and the job that was run last
 /// and not ended.
-#[derive(Drop)]
 pub struct Bench<H: House> {
     alloc: Global,
     parts: Parts<H>,
@@ -29,6 +28,21 @@ pub struct Bench<H: House> {
     name: Option<JobName>,
     held: Option<Held>,
     ghost number: { slot ≡ 15 },
+}
+
+impl<H: House> Drop for Bench<H> {
+    fn drop(self) {
+        let Bench {
+            alloc: _,
+            parts: _parts,
+            slot: _,
+            life: _,
+            worker: _,
+            devices: _devices,
+            name: _,
+            held: _held,
+        } = self;
+    }
 }
 
 /// What a want of memory is told.

@@ -168,7 +168,6 @@ fn cell_over<H: House>(
 }
 
 /// A cell of slot 15 with the way to take what it posts, and a seat with its board.
-#[derive(Drop)]
 pub struct Parts<H: House> {
     cell: SlotCell<H, 15>,
     seat: HostSeat<H>,
@@ -179,6 +178,19 @@ pub struct Parts<H: House> {
     ghost shows: { seat.board.board ≡ board },
     ghost reads: { reading.board ≡ board },
     ghost takes: { work.queue ≡ arc_value queue },
+}
+
+impl<H: House> Drop for Parts<H> {
+    fn drop(self) {
+        let Parts {
+            cell: _cell,
+            seat: _seat,
+            board: _board,
+            reading: _reading,
+            queue: _queue,
+            work: _work,
+        } = self;
+    }
 }
 
 impl<H: House> Parts<H> {

@@ -6,7 +6,7 @@ use crate::house::House;
 use crate::reserve::Blanks;
 use crate::tests::bench::Bench;
 use crate::tests::deeds::{Deed, Faults, Told};
-use crate::tests::opening::{Devices, Parts, new_ways, opened};
+use crate::tests::opening::{Devices, Parts, Ways, new_ways, opened};
 use crate::tests::two_bytes::home_of;
 use std::alloc::{AllocError, Global};
 use std::sync::Wait;
@@ -23,8 +23,29 @@ fn new_devices(alloc: Global, faults: Faults) -> Result<Devices, AllocError>
     Ok((home, Box::new(alloc, log)?))
 }
 
+/// What a bench is made of: its devices, and its ways to a board and a queue.
+fn made(alloc: Global, faults: Faults) -> Result<(Devices, Ways), AllocError>
+    requires home { 0 < faults.home_at }
+    requires log { 0 < faults.log_at }
+{
+    let devices = new_devices(alloc, faults)?;
+    let ways = new_ways(alloc)?;
+    Ok((devices, ways))
+}
+
+/// The same, made anew where memory was refused.
+fn made_again(alloc: Global, faults: Faults) -> Result<(Devices, Ways), AllocError>
+    requires home { 0 < faults.home_at }
+    requires log { 0 < faults.log_at }
+{
+    if let Ok(first) = made(alloc, faults) {
+        return Ok(first);
+    }
+    made(alloc, faults)
+}
+
 /// Does all deeds of a table on a slot that was never mounted: the place of the first that is told something else, and what it
-/// is told.
+/// is told. What that takes is made again where memory was refused for it.
 pub fn play<H: House, R: Wait>(
     rt: &R,
     alloc: Global,
@@ -38,8 +59,7 @@ pub fn play<H: House, R: Wait>(
     requires home { 0 < faults.home_at }
     requires log { 0 < faults.log_at }
 {
-    let devices = new_devices(alloc, faults)?;
-    let ways = new_ways(alloc)?;
+    let (devices, ways) = made_again(alloc, faults)?;
     let (count, caller, shares) = opened::<H>(blanks);
     let parts = Parts::new(alloc, count, caller, shares, ways);
     let mut bench = Bench::new(alloc, parts, devices);

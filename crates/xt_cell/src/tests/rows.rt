@@ -12,8 +12,7 @@ use std::rt::HostRuntime;
 use std::sync::Wait;
 use xt_base::steps::{Errno, Reason};
 
-/// Does all deeds of a table over new ledgers, and the same from the start where memory was refused before the first:
-/// the place of the first that is told something else, and what it is told.
+/// Does all deeds of a table over new ledgers: the place of the first that is told something else, and what it is told.
 fn plays<R: Wait>(
     rt: &R,
     alloc: Global,
@@ -23,10 +22,7 @@ fn plays<R: Wait>(
     requires home { 0 < faults.home_at }
     requires log { 0 < faults.log_at }
 {
-    match play::<Brand, R>(rt, alloc, Blanks::new(), faults, table) {
-        Ok(told) => Ok(told),
-        Err(AllocError) => play::<Brand, R>(rt, alloc, Blanks::new(), faults, table),
-    }
+    play::<Brand, R>(rt, alloc, Blanks::new(), faults, table)
 }
 
 /// A device fails no call.
