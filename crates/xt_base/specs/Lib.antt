@@ -21,5 +21,6 @@ pub mod Sound
 pub mod Own
 pub mod Marks
 pub mod Isolation
+pub mod Kept
 pub mod Laws
 pub mod Lending
