@@ -21,6 +21,7 @@ pub mod Sound
 pub mod Own
 pub mod Marks
 pub mod Isolation
+pub mod Kept
 pub mod Laws
 pub mod Lending
 pub mod Replies

@@ -1,6 +1,9 @@
 //! Bytes: the content of a block, what a request carries, and lists of blocks that stay held.
 
-ghost use Rattle.std.specs.Prelude.{◌≡◌, ◌+◌, ◌≤◌, ◌<◌, ◌++◌, ◌↔◌, List, ℕ, length, take, drop, replicate, IfOk, IsSome, IfSome, OnErr};
+ghost use Rattle.std.specs.Bool.{IsTrue};
+ghost use Rattle.std.specs.Cmp.Lexicographic.{pointwise};
+ghost use Rattle.std.specs.Prelude.{◌≡◌, ◌==◌, ◌+◌, ◌≤◌, ◌<◌, ◌++◌, ◌↔◌, List, ℕ, length, take, drop, replicate, IfOk, IsSome, IfSome, OnErr};
+ghost use Rattle.xt_base.specs.Kept.{kept_bytes};
 
 use crate::form::Form;
 use crate::names::Block;
@@ -109,23 +112,50 @@ impl Content {
         let end = first + bytes.len();
         self.bytes[first..end].copy_from_slice(bytes);
     }
+
+    /// Writes data from `first` on.
+    pub fn write_data(&mut self, first: usize, bytes: &Data)
+        requires { first + length bytes.now ≤ BLOCK_BYTES }
+        ensures { self.new ≡ take first self.old ++ bytes.now ++ drop (first + length bytes.now) self.old }
+    {
+        match bytes.kept() {
+            Kept::Plain(plain) => self.write(first, plain),
+            Kept::Repeated { byte, count } => self.fill(first, *byte, *count as usize),
+        }
+    }
+
+    /// Writes one byte so many times from `first` on.
+    fn fill(&mut self, first: usize, byte: u8, count: usize)
+        requires { first + count ≤ BLOCK_BYTES }
+        ensures { self.new ≡ take first self.old ++ replicate count byte ++ drop (first + count) self.old }
+    {
+        self.bytes[first..first + count].fill(byte);
+    }
+}
+
+/// What data are kept as: their bytes, or one byte so many times, which takes little room however often that is.
+#[derive(Debug, Drop)]
+pub enum Kept {
+    Plain(Vec<u8>),
+    Repeated { byte: u8, count: u16 },
 }
 
 /// Bytes that a request carries or a device was offered: at most 4,096, in a box, so that what has data is small.
 #[derive(Debug, Drop)]
 pub struct Data {
-    bytes: Box<Vec<u8>>,
+    kept: Box<Kept>,
 }
 
 impl Model for Data {
     ghost use Rattle.std.specs.Prelude.{◌≤◌, List, ℕ, length};
+    ghost use Rattle.xt_base.specs.Kept.{kept_bytes};
     ghost use Rattle.xt_base.specs.declared.sizes.TheConstants.{DATA_BYTES};
 
     ghost Value = { List ℕ };
 
-    ghost view = { λ d. d.bytes.value.items };
+    ghost view = { λ d. kept_bytes d.kept.value };
 
-    ghost invariant = { λ d. length d.bytes.value.items ≤ DATA_BYTES };
+    ghost invariant = { λ d. length (kept_bytes d.kept.value) ≤ DATA_BYTES };
 }
 
 impl Data {
@@ -149,25 +179,111 @@ impl Data {
         if bytes.len() > DATA_BYTES {
             return Ok(None);
         }
-        let bytes = Box::new(alloc, bytes)?;
-        Ok(Some(Data { bytes }))
+        let kept = Box::new(alloc, Kept::Plain(bytes))?;
+        Ok(Some(Data { kept }))
+    }
+
+    /// One byte so many times; None where that is more than 4,096. The one error is want of memory.
+    pub fn of_repeated(alloc: Global, byte: u8, count: usize) -> Result<Option<Self>, AllocError>
+        ensures valid { IfOk result (λ found. IsSome found ↔ (count ≤ DATA_BYTES)) }
+        ensures value { IfOk result (λ found. IfSome found (λ carried. carried ≡ replicate count byte)) }
+    {
+        if count > DATA_BYTES {
+            return Ok(None);
+        }
+        let count = count as u16;
+        let kept = Box::new(alloc, Kept::Repeated { byte, count })?;
+        Ok(Some(Data { kept }))
     }
 
     /// A copy. The one error is want of memory.
     pub fn copy(&self, alloc: Global) -> Result<Self, AllocError>
         ensures { IfOk result (λ carried. carried ≡ self.now) }
     {
-        let bytes = Box::new(alloc, self.bytes.to_vec(alloc)?)?;
-        Ok(Data { bytes })
+        let kept = match self.kept() {
+            Kept::Plain(bytes) => Kept::Plain(bytes.to_vec(alloc)?),
+            Kept::Repeated { byte, count } => Kept::Repeated {
+                byte: *byte,
+                count: *count,
+            },
+        };
+        let kept = Box::new(alloc, kept)?;
+        Ok(Data { kept })
     }
 
-    /// Its bytes.
-    pub fn bytes(&self) -> &[u8]
-        ensures value { result.now ≡ self.now }
-        ensures short { length result.now ≤ DATA_BYTES }
+    /// How many bytes they are.
+    pub fn len(&self) -> usize
+        ensures value { result ≡ length self.now }
+        ensures short { result ≤ DATA_BYTES }
     {
-        &self.bytes
+        match self.kept() {
+            Kept::Plain(bytes) => bytes.len(),
+            Kept::Repeated { count, .. } => *count as usize,
+        }
     }
+
+    /// What they are kept as.
+    pub fn kept(&self) -> &Kept
+        ensures value { kept_bytes result.now ≡ self.now }
+        ensures short { length (kept_bytes result.now) ≤ DATA_BYTES }
+    {
+        &self.kept
+    }
+
+    /// Whether these are its bytes.
+    pub fn holds(&self, bytes: &[u8]) -> bool
+        ensures { IsTrue result ↔ (self.now ≡ bytes.now) }
+    {
+        match self.kept() {
+            Kept::Plain(own) => own.as_slice() == bytes,
+            Kept::Repeated { byte, count } => is_repeated(bytes, *byte, *count),
+        }
+    }
+
+    /// Whether its bytes are one byte so many times.
+    fn holds_repeated(&self, byte: u8, count: u16) -> bool
+        ensures { IsTrue result ↔ (self.now ≡ replicate count byte) }
+    {
+        match self.kept() {
+            Kept::Plain(own) => is_repeated(own, byte, count),
+            Kept::Repeated {
+                byte: own,
+                count: so_many,
+            } => *so_many == count && (count == 0 || *own == byte),
+        }
+    }
+
+    /// Whether both are the same bytes, however they are kept.
+    pub fn is(&self, other: &Data) -> bool
+        ensures { IsTrue result ↔ (self.now ≡ other.now) }
+    {
+        match other.kept() {
+            Kept::Plain(bytes) => self.holds(bytes),
+            Kept::Repeated { byte, count } => self.holds_repeated(*byte, *count),
+        }
+    }
+}
+
+/// Whether each of some bytes is this one.
+fn is_each(bytes: &[u8], byte: u8) -> bool
+    ensures { result ≡ pointwise ◌==◌ bytes.now (replicate (length bytes.now) byte) }
+{
+    let mut rest = bytes;
+    while let Some((first, behind)) = rest.split_first() {
+        if *first != byte {
+            return false;
+        }
+        rest = behind;
+    }
+    true
+}
+
+/// Whether bytes are one byte so many times.
+#[tactic(auto, using(crate::proofs::EqualityLemmas::other_length))]
+fn is_repeated(bytes: &[u8], byte: u8, count: u16) -> bool
+    ensures { IsTrue result ↔ (bytes.now ≡ replicate count byte) }
+{
+    bytes.len() == count as usize && is_each(bytes, byte)
 }
 
 /// Blocks that are handed back held, in the order in which they are told: 1 to 64, in a box, so that a reply is small.

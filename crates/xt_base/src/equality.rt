@@ -33,7 +33,7 @@ impl PartialEq for Data {
     ghost laws = { Prim.search (comparing, rules) };
 
     fn eq(&self, other: &Data) -> bool {
-        self.bytes() == other.bytes()
+        self.is(other)
     }
 }
 
@@ -55,15 +55,6 @@ impl PartialEq for HeldBlocks {
 impl Content {
     /// Whether two contents have the same bytes.
     pub fn is(&self, other: &Content) -> bool
-        ensures { IsTrue result ↔ (self.now ≡ other.now) }
-    {
-        *self == *other
-    }
-}
-
-impl Data {
-    /// Whether both are the same bytes.
-    pub fn is(&self, other: &Data) -> bool
         ensures { IsTrue result ↔ (self.now ≡ other.now) }
     {
         *self == *other

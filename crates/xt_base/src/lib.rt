@@ -17,7 +17,7 @@ pub mod sizes;
 pub mod steps;
 
 pub use chunks::Chunks;
-pub use content::{Content, Data, HeldBlocks, HeldRoom};
+pub use content::{Content, Data, HeldBlocks, HeldRoom, Kept};
 pub use form::Form;
 pub use map::NumberMap;
 pub use marks::ItemMarks;

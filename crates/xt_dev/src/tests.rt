@@ -37,7 +37,9 @@ const SYNC: Option<&[u8]> = None;
 
 fn is_offer(offer: &LogOffer, piece: Option<&[u8]>, answered: bool) -> bool {
     match offer {
-        LogOffer::Piece { bytes, ok } => piece == Some(bytes.bytes()) && *ok == answered,
+        LogOffer::Piece { bytes, ok } => {
+            piece.is_some_and(|piece| bytes.holds(piece)) && *ok == answered
+        }
         LogOffer::Sync { ok } => piece.is_none() && *ok == answered,
     }
 }

@@ -45,7 +45,7 @@ impl Machine {
         if !self.is_own(trans, block) {
             return Some(Errno::Invalid);
         }
-        let len = bytes.bytes().len();
+        let len = bytes.len();
         let size = self.accounts.form().size() as usize;
         if len == 0 || first as usize + len > size {
             return Some(Errno::Invalid);
@@ -93,8 +93,8 @@ impl Machine {
             return Ok(Reply::Refused(errno));
         }
         let mut content = self.seen(opened.leg(), block, spare)?;
-        content.write(first as usize, bytes.bytes());
-        let marked = Chunks::mark(first, bytes.bytes().len() as u32);
+        content.write_data(first as usize, bytes);
+        let marked = Chunks::mark(first, bytes.len() as u32);
         self.keep_edit(trans, block, content, marked);
         Ok(Reply::Okay)
     }

@@ -1,6 +1,5 @@
 -- Texts put one after another.
-use Rattle.std.proofs.Common.{List, None, Option, Some, [], append-nil, append_assoc, arith, length, length-append, refl, ℕ, ◌++◌, ◌+◌, ◌-◌, ◌≡◌, ◌≤◌}
-use Rattle.std.proofs.lemmas.Bool.{le-leb}
+use Rattle.std.proofs.Common.{List, None, Option, Some, [], append-nil, append_assoc, arith, length-append, refl, ℕ, ◌++◌, ◌≡◌}
 use Rattle.std.proofs.lemmas.Grind.{common_steps}
 use Rattle.xt_text.specs.Buffer.{put}
 

@@ -1,12 +1,12 @@
 -- Runs of equal bytes.
-use Rattle.std.proofs.Common.{ap, ap₂, cond, nat_eq, take, take-append-drop, ◌∙◌, Bool, List, [], arith, drop, eqb, false, get_or, length, one-add, refl, sym, subst, replicate, ◌++◌, add-one, true, ℕ, ◌+◌, ◌<◌, ◌≡◌, ◌∷◌}
-use Rattle.std.proofs.lemmas.Bool.{eq-eqb, eqb-true}
+use Rattle.std.proofs.Common.{ap, ap₂, append-nil, cond, nat_eq, take, take-append-drop, ◌∙◌, Bool, List, [], arith, drop, eqb, false, get_or, length, one-add, refl, suc, sym, subst, replicate, zero, ◌++◌, add-one, true, ℕ, ◌+◌, ◌<◌, ◌≡◌, ◌∷◌}
+use Rattle.std.proofs.lemmas.Bool.{eq-eqb, eqb-true, false≢true}
 use Rattle.std.proofs.lemmas.List.Concat.{flat_map-append}
 use Rattle.std.proofs.lemmas.List.{replicate_more}
 use Rattle.std.proofs.lemmas.List.Folds.{prefix_len-append, prefix_len-replicate}
 use Rattle.std.specs.Cmp.Lexicographic.{pointwise, same_text}
 use Rattle.std.specs.List.{flat_map, prefix_len}
-use Rattle.xt_text.specs.DataText.{hex, runs}
+use Rattle.xt_text.specs.DataText.{hex, run_text, runs, runs_text, spelling}
 use Rattle.xt_text.specs.declared.data_text.Run.{Run}
 
 -- the run of x at the front of some bytes
@@ -59,3 +59,13 @@ block_more byte block rest after is all =
 -- what starts with a block
 pub block_front : (block bytes after : List ℕ) → pointwise nat_eq (take (length block) bytes) block ≡ true → after ≡ drop (length block) bytes → bytes ≡ block ++ after
 block_front block bytes after same rest = sym (take-append-drop (length block) bytes) ∙ ap₂ (λ a b. a ++ b) (same_text (take (length block) bytes) block (sym same)) (sym rest)
+
+-- a byte that stands so many times is one run
+pub one_run : (x n : ℕ) → runs (x ∷ replicate n x) ≡ record { byte = x; count = n + 1 } ∷ []
+one_run x zero = refl
+one_run x (suc n) = rw (one_run x n, eq-eqb x x refl, add-one, add-one, add-one) refl
+
+-- and its spelling is that of the run
+pub spelling_of_run : (x n : ℕ) → nat_eq n 0 ≡ false → spelling (replicate n x) ≡ run_text (record { byte = x; count = n })
+spelling_of_run x zero none = absurd (false≢true (sym none))
+spelling_of_run x (suc n) some = ap runs_text (one_run x n) ∙ append-nil (run_text (record { byte = x; count = n + 1 })) ∙ ap (λ k. run_text (record { byte = x; count = k })) (add-one n)

@@ -1,13 +1,13 @@
 //! Data as text, both ways. A list of bytes is cut into maximal runs of equal bytes. A run of four or more is
 //! `XX*N`, shorter ones are plain digits, and a dot stands between neighbours unless both are short; no bytes are `-`.
 
-ghost use Rattle.std.specs.Prelude.{◌≡◌, ◌==◌, ◌<◌, ◌≤◌, ◌++◌, ◌∷◌, List, [], ℕ, length, drop, IfErr, IfSome, IfOk};
+ghost use Rattle.std.specs.Prelude.{◌≡◌, ◌==◌, ◌<◌, ◌≤◌, ◌++◌, ◌∷◌, List, [], ℕ, length, drop, replicate, None, Some, IfErr, IsErrOf, IfSome, IfOk};
 ghost use Rattle.std.specs.List.{All, prefix_len};
 ghost use Rattle.xt_text.specs.Buffer.{put};
 ghost use Rattle.xt_text.specs.DataReading.{at_end, byte_value, front_at, hex_value, is_count, next, read_content, read_data, reads, with_run};
 ghost use Rattle.xt_text.specs.Reading.{Gives, GivesAs};
 ghost use Rattle.xt_text.specs.Lines.{IsContent};
-ghost use Rattle.xt_text.specs.declared.bad_line.BadLine.TheVariants.{Memory};
+ghost use Rattle.xt_text.specs.declared.bad_line.BadLine.TheVariants.{Memory, Spelling};
 ghost use Rattle.xt_text.specs.declared.data_text.Place.TheVariants.{Front};
 ghost use Rattle.xt_text.specs.DataText.{IsData, hex, hex_digit, is_short, run_text, runs, spelling};
 
@@ -15,7 +15,7 @@ use crate::bad_line::BadLine;
 use crate::buffer::Text;
 use crate::numbers::{number_on, put_number};
 use std::alloc::Global;
-use xt_base::content::{Content, Data};
+use xt_base::content::{Content, Data, Kept};
 use xt_base::sizes::{BLOCK_BYTES, DATA_BYTES};
 
 /// The shortest run that is spelled with a count.
@@ -188,22 +188,49 @@ fn read_plain<'a>(bytes: &mut Vec<u8>, text: &'a [u8]) -> Result<&'a [u8], BadLi
     Ok(rest)
 }
 
-/// Reads bytes from their text, loosely: each spelling gives its bytes, and other texts may give some too.
-fn read_bytes(alloc: Global, text: &[u8]) -> Result<Vec<u8>, BadLine>
-    ensures value { GivesAs (λ bytes. bytes.items) result (read_data text.now) }
-    ensures valid { IfOk result (λ bytes. IsData bytes.items) }
+/// Reads all of a text of bytes but its end, loosely: the bytes so far, and how far its last part has been read. Each spelling gives
+/// its bytes, and other texts may give some too.
+fn read_parts(alloc: Global, text: &[u8]) -> Result<(Vec<u8>, Place), BadLine>
+    ensures value { IfOk result (λ p. at_end p.0.items p.1 ≡ read_data text.now) }
+    ensures short { IfOk result (λ p. length p.0.items ≤ DATA_BYTES) }
+    ensures bad { IsErrOf result Spelling → read_data text.now ≡ None }
 {
     let mut bytes = Vec::with_capacity(alloc, text.len() / 2)?;
-    if text != b"-".as_slice() {
-        let rest = read_plain(&mut bytes, text)?;
-        let mut place = Place::Front;
-        for c in rest {
-            place = read_character(&mut bytes, place, *c)?;
-        }
-        read_end(&mut bytes, place)?;
+    let mut place = Place::Front;
+    if text == b"-".as_slice() {
+        return Ok((bytes, place));
     }
+    let rest = read_plain(&mut bytes, text)?;
+    for c in rest {
+        place = read_character(&mut bytes, place, *c)?;
+    }
+    Ok((bytes, place))
+}
+
+/// The bytes of a text, of which all but the end was read.
+fn with_end(mut bytes: Vec<u8>, place: Place) -> Result<Vec<u8>, BadLine>
+    requires { length bytes.items ≤ DATA_BYTES }
+    ensures value { GivesAs (λ whole. whole.items) result (at_end bytes.items place) }
+    ensures valid { IfOk result (λ whole. IsData whole.items) }
+{
+    read_end(&mut bytes, place)?;
     are_bytes(&bytes);
     Ok(bytes)
+}
+
+/// The run that a text spells, where that is all that it spells: nothing stands before it.
+fn only_run(bytes: &[u8], place: Place) -> Option<Run>
+    ensures value { IfSome result (λ run. at_end bytes.now place ≡ Some (replicate run.count run.byte)) }
+    ensures short { IfSome result (λ run. run.count ≤ DATA_BYTES) }
+    ensures range { IfSome result (λ run. run.byte < 256) }
+{
+    match place {
+        Place::Count(byte, count) if bytes.is_empty() && count <= DATA_BYTES as u64 => Some(Run {
+            byte,
+            count: count as usize,
+        }),
+        _ => None,
+    }
 }
 
 /// Reads what a request carries from its text, loosely.
@@ -211,7 +238,11 @@ pub(crate) fn read_data(alloc: Global, text: &[u8]) -> Result<Data, BadLine>
     ensures value { Gives result (read_data text.now) }
     ensures valid { IfOk result IsData }
 {
-    let bytes = read_bytes(alloc, text)?;
+    let (bytes, place) = read_parts(alloc, text)?;
+    if let Some(run) = only_run(&bytes, place) {
+        return Ok(Data::of_repeated(alloc, run.byte, run.count)?.unwrap());
+    }
+    let bytes = with_end(bytes, place)?;
     Ok(Data::of_vec(alloc, bytes)?.unwrap())
 }
 
@@ -220,7 +251,8 @@ pub(crate) fn read_content(alloc: Global, text: &[u8]) -> Result<Content, BadLin
     ensures value { Gives result (read_content text.now) }
     ensures valid { IfOk result IsContent }
 {
-    let bytes = read_bytes(alloc, text)?;
+    let (bytes, place) = read_parts(alloc, text)?;
+    let bytes = with_end(bytes, place)?;
     if bytes.len() != BLOCK_BYTES {
         return Err(BadLine::Spelling);
     }
@@ -336,9 +368,38 @@ fn first_run(bytes: &[u8]) -> Run
     }
 }
 
+/// Puts the one spelling of a byte that stands so many times.
+#[tactic(auto, using(crate::proofs::RunLemmas::spelling_of_run))]
+fn put_repeated(out: &mut Text, run: Run)
+    ensures { out.new ≡ put out.old (spelling (replicate run.count run.byte)) }
+{
+    if run.count == 0 {
+        out.put(b"-");
+    } else {
+        put_run(out, run);
+    }
+}
+
+/// Puts the one spelling of what a request carries or a device was offered.
+pub(crate) fn put_data(out: &mut Text, bytes: &Data)
+    ensures text { out.new ≡ put out.old (spelling bytes.now) }
+    ensures few { length bytes.now ≤ DATA_BYTES }
+{
+    match bytes.kept() {
+        Kept::Plain(plain) => put_bytes(out, plain),
+        Kept::Repeated { byte, count } => put_repeated(
+            out,
+            Run {
+                byte: *byte,
+                count: *count as usize,
+            },
+        ),
+    }
+}
+
 /// Puts the one spelling of some bytes.
 #[tactic(auto, using(crate::proofs::BufferLemmas::put_put, crate::proofs::BufferLemmas::put_none))]
-pub(crate) fn put_data(out: &mut Text, bytes: &[u8])
+pub(crate) fn put_bytes(out: &mut Text, bytes: &[u8])
     ensures { out.new ≡ put out.old (spelling bytes.now) }
 {
     if bytes.is_empty() {

@@ -7,9 +7,10 @@ ghost use Rattle.xt_text.specs.DataText.{spelling};
 ghost use Rattle.xt_text.specs.Lines.{ckpt_text, kind_text, name_text, ok_text, trans_text};
 
 use crate::buffer::Text;
-use crate::data_text::put_data;
+use crate::data_text::{put_bytes, put_data};
 use crate::numbers::put_number;
 use crate::words::BLANK;
+use xt_base::content::Data;
 use xt_base::names::{CkptNo, JobKind, JobName, TransNo};
 use xt_base::sizes::DATA_BYTES;
 
@@ -53,14 +54,24 @@ pub(crate) fn then_ckpt(out: &mut Text, number: CkptNo)
     put_number(out, number.0);
 }
 
-/// Data.
+/// What a request carries or a device was offered.
 #[tactic(auto, using(crate::proofs::BufferLemmas::put_put, crate::proofs::Lengths::spelling_fits))]
-pub(crate) fn then_data(out: &mut Text, bytes: &[u8])
+pub(crate) fn then_data(out: &mut Text, bytes: &Data)
+    ensures text { out.new ≡ put out.old (BLANK ∷ spelling bytes.now) }
+    ensures short { length (spelling bytes.now) ≤ 2 * DATA_BYTES }
+{
+    out.push(BLANK);
+    put_data(out, bytes);
+}
+
+/// Bytes.
+#[tactic(auto, using(crate::proofs::BufferLemmas::put_put, crate::proofs::Lengths::spelling_fits))]
+pub(crate) fn then_bytes(out: &mut Text, bytes: &[u8])
     ensures text { out.new ≡ put out.old (BLANK ∷ spelling bytes.now) }
     ensures short { length bytes.now ≤ DATA_BYTES → length (spelling bytes.now) ≤ 2 * DATA_BYTES }
 {
     out.push(BLANK);
-    put_data(out, bytes);
+    put_bytes(out, bytes);
 }
 
 /// The answer of a device.

@@ -6,7 +6,7 @@ ghost use Rattle.xt_text.specs.Items.{head_text, item_text, logged_text, word_te
 
 use crate::buffer::Text;
 use crate::data_text::put_hex;
-use crate::fields::{then_data, then_number, then_word};
+use crate::fields::{then_bytes, then_number, then_word};
 use crate::numbers::put_number;
 use crate::words::BLANK;
 use xt_base::chunks::Chunks;
@@ -45,7 +45,7 @@ fn then_logged(out: &mut Text, chunks: Chunks, bytes: &[u8])
         out.put(b" cancel -");
     } else {
         then_word(out, b"data");
-        then_data(out, bytes);
+        then_bytes(out, bytes);
     }
 }
 

@@ -8,7 +8,7 @@ ghost use Rattle.xt_text.specs.Lines.{ckpt_text, ◌␣◌};
 ghost use Rattle.xt_text.specs.Replies.{held_text, home_offer_text, is_one_line, log_offer_text, reply_text, seen_text, slot_reply_text};
 
 use crate::buffer::Text;
-use crate::fields::{then_ckpt, then_data, then_number, then_ok, then_word};
+use crate::fields::{then_bytes, then_ckpt, then_data, then_number, then_ok, then_word};
 use crate::numbers::put_number;
 use crate::words::BLANK;
 use xt_base::content::HeldBlocks;
@@ -122,7 +122,7 @@ fn put_reply(reply: &Reply, out: &mut Text)
         Reply::Free => out.put(b"free"),
         Reply::Data(content) => {
             out.put(b"data");
-            then_data(out, content.bytes());
+            then_bytes(out, content.bytes());
         }
         Reply::Nothing => out.put(b"nothing"),
         Reply::Begun { number, pieces } => {
@@ -173,7 +173,7 @@ pub fn print_log_offer(slot: Slot, offer: &LogOffer, out: &mut Text)
     match offer {
         LogOffer::Piece { bytes, ok } => {
             then_word(out, b"log");
-            then_data(out, bytes.bytes());
+            then_data(out, bytes);
             then_ok(out, *ok);
         }
         LogOffer::Sync { ok } => {
@@ -195,7 +195,7 @@ pub fn print_home_offer(slot: Slot, offer: &HomeOffer, out: &mut Text)
         HomeOffer::Write { block, content, ok } => {
             then_word(out, b"home");
             then_number(out, block.0);
-            then_data(out, content.bytes());
+            then_bytes(out, content.bytes());
             then_ok(out, *ok);
         }
         HomeOffer::Sync { ok } => {

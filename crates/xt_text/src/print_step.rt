@@ -8,7 +8,9 @@ ghost use Rattle.xt_text.specs.LineReading.{parsed};
 ghost use Rattle.xt_text.specs.Lines.{IsStep, answer_text, line_of, name_text, perm_text, request_text, sync_text, trans_text, ◌·◌, ◌␣◌};
 
 use crate::buffer::Text;
-use crate::fields::{then_ckpt, then_data, then_name, then_number, then_ok, then_trans, then_word};
+use crate::fields::{
+    then_bytes, then_ckpt, then_data, then_name, then_number, then_ok, then_trans, then_word,
+};
 use crate::home_answers::then_home;
 use crate::numbers::put_number;
 use crate::words::BLANK;
@@ -55,7 +57,7 @@ fn put_log(out: &mut Text, trans: TransNo, block: Block, first: u32, bytes: &Dat
 {
     put_own(out, b"log", trans, block);
     then_number(out, first as u64);
-    then_data(out, bytes.bytes());
+    then_data(out, bytes);
 }
 
 /// A verb and a transaction.
@@ -126,7 +128,7 @@ fn put_answer(out: &mut Text, answer: &Answer)
         Answer::None => (),
         Answer::Content(content) => {
             out.put(b" =");
-            then_data(out, content.bytes());
+            then_bytes(out, content.bytes());
         }
         Answer::Failed => out.put(b" = fail"),
     }

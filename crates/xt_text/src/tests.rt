@@ -12,7 +12,7 @@ use crate::print_step::print_step;
 use std::alloc::Global;
 use std::process::Abort;
 use std::test::Fail;
-use xt_base::content::{Content, Data, HeldBlocks};
+use xt_base::content::{Content, Data, HeldBlocks, Kept};
 use xt_base::form::Form;
 use xt_base::names::{Block, CkptNo, Life, Slot, TransNo};
 use xt_base::steps::{
@@ -411,12 +411,12 @@ fn log_step(alloc: Global, data: &str) -> Option<Step> {
 }
 
 /// The data of a log request.
-fn logged(step: &Step) -> Option<&[u8]> {
+fn logged(step: &Step) -> Option<&Data> {
     match step {
         Step::Call {
             request: Request::Log { bytes, .. },
             ..
-        } => Some(bytes.bytes()),
+        } => Some(bytes),
         _ => None,
     }
 }
@@ -424,7 +424,7 @@ fn logged(step: &Step) -> Option<&[u8]> {
 /// Whether a text of data is read as these bytes.
 fn is_data(alloc: Global, data: &str, want: &[u8]) -> bool {
     match log_step(alloc, data) {
-        Some(step) => logged(&step) == Some(want),
+        Some(step) => logged(&step).is_some_and(|bytes| bytes.holds(want)),
         None => false,
     }
 }
@@ -434,9 +434,9 @@ fn is_block(alloc: Global, data: &str, first: u8) -> bool {
     let Some(step) = log_step(alloc, data) else {
         return false;
     };
-    match logged(&step) {
-        Some(bytes) => is_first_alone(bytes, first),
-        None => false,
+    match logged(&step).map(|bytes| bytes.kept()) {
+        Some(Kept::Plain(bytes)) => is_first_alone(bytes, first),
+        _ => false,
     }
 }
 

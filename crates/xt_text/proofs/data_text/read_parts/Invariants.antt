@@ -1,7 +1,7 @@
 use Rattle.std.proofs.Common.{[], drop, length, ◌≡◌, ◌≤◌}
 use Rattle.xt_text.specs.DataReading.{reads}
 use Rattle.xt_text.specs.declared.data_text.Place.TheVariants.{Front}
-use Rattle.xt_text.proofs.data_text.read_bytes.Given as goal
+use Rattle.xt_text.proofs.data_text.read_parts.Given as goal
 
 abbrev pub invariant-loop-c : goal.invariant-loop-c
 invariant-loop-c l = record {
