@@ -3,3 +3,4 @@ pub mod ScriptLemmas
 pub mod PlayLemmas
 pub mod LineLemmas
 pub mod DumpLemmas
+pub mod WindowLemmas

@@ -1,7 +1,7 @@
 //! A log read piece by piece, of which only what is not yet taken as texts is held.
 
-ghost use Rattle.std.specs.Prelude.{◌+◌, ◌≤◌, ◌≡◌, IfOk, OnOk, [], false, length};
-ghost use Rattle.xt_cli.specs.LogDump.{AreShort, IsNext, taken, with_more};
+ghost use Rattle.std.specs.Prelude.{◌+◌, ◌<◌, ◌≤◌, ◌≡◌, IfErr, IfOk, IfSome, OnOk, [], false, length};
+ghost use Rattle.xt_cli.specs.LogDump.{ahead, is_too_long, taken, with_more, AreShort, IsAhead, IsNext, IsRefilled, IsTied, IsWhy};
 
 use std::alloc::{AllocError, Global};
 use std::io::{self, ErrorKind, Read};
@@ -109,8 +109,15 @@ impl Window {
     }
 
     /// Takes the text that begins what is held, or says how the log ends; where more bytes are wanted they are read, by way of `piece`.
+    /// A reader that is interrupted is asked again.
+    #[tactic(auto, using(crate::proofs::WindowLemmas::is_ahead, crate::proofs::WindowLemmas::is_tied, crate::proofs::WindowLemmas::refilled_more, crate::proofs::WindowLemmas::refilled_none, crate::proofs::WindowLemmas::why_ahead, crate::proofs::WindowLemmas::why_other))]
     pub fn next<R: Read>(&mut self, reader: &mut R, piece: &mut [u8]) -> Result<Found, LogFault>
-        ensures { IfOk result AreShort }
+        requires room { 0 < length piece.old }
+        requires ended { IsTied self.old (R.remaining reader.old) }
+        ensures short { IfOk result AreShort }
+        ensures found { IfOk result (λ found. IfSome (ahead self.old (R.remaining reader.old)) (λ log. IsAhead self.old.offset log found self.new (R.remaining reader.new))) }
+        ensures tied { OnOk result (IsTied self.new (R.remaining reader.new)) }
+        ensures fault { IfErr result (λ fault. IfSome (ahead self.old (R.remaining reader.old)) (λ log. IsWhy (self.old.offset + length log) fault)) }
     {
         for _ in 0..u64::MAX {
             if let Some(found) = self.judge()? {
@@ -118,12 +125,14 @@ impl Window {
             }
             self.refill(reader, piece)?;
         }
-        Err(LogFault::TooLong)
+        Err(LogFault::Io(io::Error::from(ErrorKind::TimedOut)))
     }
 
     /// Judges what is held; None where more is to be read.
     fn judge(&mut self) -> Result<Option<Found>, LogFault>
-        ensures { IfOk result (λ found. IsNext self.old found self.new) }
+        ensures judged { IfOk result (λ found. IsNext self.old found self.new) }
+        ensures bound { self.old.offset + length self.old.bytes ≤ LOG_BYTES }
+        ensures fault { IfErr result (λ fault. is_too_long fault ≡ false) }
     {
         match read_checkpoint(self.alloc, self.held()) {
             Ok(Some((checkpoint, len))) => {
@@ -138,26 +147,34 @@ impl Window {
     }
 
     /// Reads some more bytes behind what is held.
-    fn refill<R: Read>(&mut self, reader: &mut R, piece: &mut [u8]) -> Result<(), LogFault> {
+    fn refill<R: Read>(&mut self, reader: &mut R, piece: &mut [u8]) -> Result<(), LogFault>
+        requires room { 0 < length piece.old }
+        requires going { self.old.is_ended ≡ false }
+        ensures more { OnOk result (IsRefilled self.old self.new (R.remaining reader.old) (R.remaining reader.new)) }
+        ensures fault { IfErr result (λ fault. IfSome (ahead self.old (R.remaining reader.old)) (λ log. IsWhy (self.old.offset + length log) fault)) }
+    {
         match reader.read(piece) {
-            Ok(0) => self.is_ended = true,
-            Ok(count) => self.keep(&piece[..count])?,
-            Err(error) if error.kind() == ErrorKind::Interrupted => {}
-            Err(error) => return Err(LogFault::Io(error)),
+            Ok(0) => {
+                self.is_ended = true;
+                Ok(())
+            }
+            Ok(count) => self.keep(&piece[..count]),
+            Err(error) if error.kind() == ErrorKind::Interrupted => Ok(()),
+            Err(error) => Err(LogFault::Io(error)),
         }
-        Ok(())
     }
 
     /// Puts bytes behind what is held; what was taken goes. `TooLong` where the log has more than 67,108,864 bytes.
     fn keep(&mut self, more: &[u8]) -> Result<(), LogFault>
-        ensures { OnOk result (self.new ≡ with_more more.now self.old) }
+        ensures kept { OnOk result (self.new ≡ with_more more.now self.old) }
+        ensures fault { IfErr result (IsWhy (self.old.offset + length self.old.bytes + length more.now)) }
     {
         let start = self.offset();
-        let mut bytes = Vec::from_slice(self.alloc, self.held())?;
+        let mut bytes = Vec::from_slice(self.alloc, self.held()).map_err(LogFault::Memory)?;
         if more.len() > LOG_BYTES - start - bytes.len() {
             return Err(LogFault::TooLong);
         }
-        bytes.extend_from_slice(more)?;
+        bytes.extend_from_slice(more).map_err(LogFault::Memory)?;
         self.bytes = bytes;
         self.start = start;
         self.taken = 0;
