@@ -1,2 +1,3 @@
 mod AgreeLemmas
 mod ReceiptLemmas
+mod WorkLemmas

@@ -1,3 +1,4 @@
 pub mod Closing
 pub mod Calls
 pub mod Commands
+pub mod Work

@@ -5,9 +5,11 @@ mod commands;
 pub mod comparing;
 pub mod counting;
 pub mod fault;
+pub mod gate;
 pub mod host;
 mod making;
 pub mod receipts;
 pub mod slots;
 #[cfg(test)]
 mod tests;
+pub mod work;
