@@ -2,3 +2,4 @@ mod AgreeLemmas
 mod ReceiptLemmas
 mod ServedLemmas
 pub mod CommandLemmas
+mod WorkLemmas

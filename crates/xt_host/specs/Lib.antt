@@ -3,3 +3,4 @@ pub mod Calls
 pub mod Commands
 pub mod Held
 pub mod Tokens
+pub mod Work
