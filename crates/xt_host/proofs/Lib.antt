@@ -1,3 +1,4 @@
 mod AgreeLemmas
 mod ReceiptLemmas
 mod ServedLemmas
+mod CommandLemmas

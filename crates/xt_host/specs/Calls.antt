@@ -1,5 +1,5 @@
 -- What a call leaves with the seat that made it.
-use Rattle.std.specs.Prelude.{[], ℕ, ◌++◌, ◌≡◌, ◌∷◌}
+use Rattle.std.specs.Prelude.{[], List, ℕ, ◌++◌, ◌≡◌, ◌∷◌}
 use Rattle.xt_base.specs.declared.steps.Reply.{Reply}
 use Rattle.xt_base.specs.declared.steps.Step.{Step}
 use Rattle.xt_cell.specs.Counting.{counted}
@@ -17,3 +17,7 @@ pub record IsReceived (slot : ℕ) (step : Step) (reply : Reply) (old new : Host
   pub number : ℕ
   pub receipts : new.receipts ≡ old.receipts ++ receipt slot number step reply ∷ []
   pub caller : new.caller ≡ old.caller
+
+-- a seat as it is, but for its counts
+abbrev pub with_counts : List ℕ → HostSeatView → HostSeatView
+with_counts counts s = record { caller = s.caller; counts = counts; receipts = s.receipts; board = s.board; room = s.room }

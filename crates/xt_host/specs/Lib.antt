@@ -1,4 +1,5 @@
 pub mod Closing
 pub mod Calls
+pub mod Commands
 pub mod Held
 pub mod Tokens

@@ -3,6 +3,7 @@
 
 mod admin;
 mod ask;
+mod commands;
 pub mod comparing;
 pub mod counting;
 pub mod fault;

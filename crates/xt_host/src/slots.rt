@@ -14,102 +14,55 @@ ghost use Rattle.xt_base.specs.declared.steps.Request.TheVariants as ARequest;
 ghost use Rattle.xt_base.specs.declared.steps.Step.{Step as AStep};
 ghost use Rattle.xt_cell.specs.Counting.{counted};
 ghost use Rattle.xt_cell.specs.HostSeats.{IsSameSeat, Shows};
+ghost use Rattle.xt_host.specs.Commands.{Did, MayBe};
 ghost use Rattle.xt_host.specs.Calls.{IsReceived, Receives};
 ghost use Rattle.xt_queue.specs.Boards.{Rises};
 ghost use Rattle.xt_queue.specs.Words.{word_of};
 
+use crate::commands::{Command, Outcome};
 use crate::host::Host;
 use std::sync::Wait;
 use xt_base::names::{JobName, Slot, Worker};
 use xt_base::steps::{Errno, Reply, Request};
-use xt_cell::cell::SlotCell;
 use xt_cell::house::House;
 use xt_cell::job::{CkptJob, DoneJob};
 use xt_cell::mount_ref::MountRef;
 use xt_cell::mounting::MountRefused;
 use xt_cell::running::EndFault;
 use xt_cell::seat::HostSeat;
-use xt_cell::shares::{Counts, Shares};
 use xt_dev::home::HomeDevice;
 use xt_dev::log::LogDevice;
-use xt_mount::mount::Stage;
-use xt_queue::board::Board;
 use xt_queue::jobs::WorkPass;
 
-/// Locks a slot's cell and does something with it.
-macro_rules! at_slot {
-    ($host:expr, $rt:expr, $slot:expr, $cell:ident => $body:expr) => {
-        match $slot.index() {
-            0 => {
-                let mut $cell = $host.c0.lock($rt);
-                $body
-            }
-            1 => {
-                let mut $cell = $host.c1.lock($rt);
-                $body
-            }
-            2 => {
-                let mut $cell = $host.c2.lock($rt);
-                $body
-            }
-            3 => {
-                let mut $cell = $host.c3.lock($rt);
-                $body
-            }
-            4 => {
-                let mut $cell = $host.c4.lock($rt);
-                $body
-            }
-            5 => {
-                let mut $cell = $host.c5.lock($rt);
-                $body
-            }
-            6 => {
-                let mut $cell = $host.c6.lock($rt);
-                $body
-            }
-            7 => {
-                let mut $cell = $host.c7.lock($rt);
-                $body
-            }
-            8 => {
-                let mut $cell = $host.c8.lock($rt);
-                $body
-            }
-            9 => {
-                let mut $cell = $host.c9.lock($rt);
-                $body
-            }
-            10 => {
-                let mut $cell = $host.c10.lock($rt);
-                $body
-            }
-            11 => {
-                let mut $cell = $host.c11.lock($rt);
-                $body
-            }
-            12 => {
-                let mut $cell = $host.c12.lock($rt);
-                $body
-            }
-            13 => {
-                let mut $cell = $host.c13.lock($rt);
-                $body
-            }
-            14 => {
-                let mut $cell = $host.c14.lock($rt);
-                $body
-            }
-            15 => {
-                let mut $cell = $host.c15.lock($rt);
-                $body
-            }
+impl<H: House> Host<H> {
+    /// Locks the slot of a command, and does it there.
+    fn serve<R: Wait>(&self, rt: &R, seat: &mut HostSeat<H>, command: Command) -> Outcome
+        requires kind { MayBe command }
+        requires board { seat.old.board.board ≡ self.now.board }
+        ensures did { Did command seat.old seat.new result }
+        ensures board { seat.new.board.board ≡ seat.old.board.board }
+    {
+        match command.slot().index() {
+            0 => command.run(rt, &mut *self.c0.lock(rt), seat, &self.board),
+            1 => command.run(rt, &mut *self.c1.lock(rt), seat, &self.board),
+            2 => command.run(rt, &mut *self.c2.lock(rt), seat, &self.board),
+            3 => command.run(rt, &mut *self.c3.lock(rt), seat, &self.board),
+            4 => command.run(rt, &mut *self.c4.lock(rt), seat, &self.board),
+            5 => command.run(rt, &mut *self.c5.lock(rt), seat, &self.board),
+            6 => command.run(rt, &mut *self.c6.lock(rt), seat, &self.board),
+            7 => command.run(rt, &mut *self.c7.lock(rt), seat, &self.board),
+            8 => command.run(rt, &mut *self.c8.lock(rt), seat, &self.board),
+            9 => command.run(rt, &mut *self.c9.lock(rt), seat, &self.board),
+            10 => command.run(rt, &mut *self.c10.lock(rt), seat, &self.board),
+            11 => command.run(rt, &mut *self.c11.lock(rt), seat, &self.board),
+            12 => command.run(rt, &mut *self.c12.lock(rt), seat, &self.board),
+            13 => command.run(rt, &mut *self.c13.lock(rt), seat, &self.board),
+            14 => command.run(rt, &mut *self.c14.lock(rt), seat, &self.board),
+            15 => command.run(rt, &mut *self.c15.lock(rt), seat, &self.board),
             _ => unreachable!(),
         }
-    };
-}
+    }
 
-impl<H: House> Host<H> {
     /// Serves a request to a mount, by whatever thread: one event of its slot, and nothing of another's. ENOMEM where memory is refused:
     /// then nothing was booked, and the same request may be tried again. An unmount is no such request.
     pub fn call<R: Wait>(
@@ -129,7 +82,10 @@ impl<H: House> Host<H> {
         ensures board { seat.new.board.board ≡ seat.old.board.board }
         ensures rises { Rises seat.old.board.seen seat.new.board.seen }
     {
-        at_slot!(self, rt, at.slot, cell => cell.call(rt, seat, &self.board, at, request))
+        match self.serve(rt, seat, Command::Call { at, request }) {
+            Outcome::Called(reply) => reply,
+            _ => unreachable!(),
+        }
     }
 
     /// Mounts a slot anew over these devices, and shows the new life on the board. Where it is refused both devices come back: `Busy`
@@ -153,7 +109,20 @@ impl<H: House> Host<H> {
         ensures unshown { OnErr result (seat.new.board ≡ seat.old.board) }
         ensures board { seat.new.board.board ≡ seat.old.board.board }
     {
-        at_slot!(self, rt, slot, cell => cell.mount(rt, seat, &self.board, log_bytes, blocks, home, log))
+        match self.serve(
+            rt,
+            seat,
+            Command::Mount {
+                slot,
+                log_bytes,
+                blocks,
+                home,
+                log,
+            },
+        ) {
+            Outcome::Mounted(result) => result,
+            _ => unreachable!(),
+        }
     }
 
     /// Unmounts a mount: both devices come back. `NoDevice` where the slot is empty, `Stale` where it has another life, `Busy` where the
@@ -170,7 +139,10 @@ impl<H: House> Host<H> {
         ensures received { IfErr result (λ errno. is_no_memory (Refused errno) ≡ false → Receives at.slot (AStep.Call at.slot at.life ARequest.Unmount Answered.None) (Refused errno) seat.old seat.new) }
         ensures board { seat.new.board ≡ seat.old.board }
     {
-        at_slot!(self, rt, at.slot, cell => cell.unmount(rt, seat, at))
+        match self.serve(rt, seat, Command::Unmount { at }) {
+            Outcome::Unmounted(result) => result,
+            _ => unreachable!(),
+        }
     }
 
     /// Takes the name at the front of the queue; None only where no name waits. What the name is of is to be done: a checkpoint by
@@ -201,7 +173,17 @@ impl<H: House> Host<H> {
         ensures named { IfSome result (λ began. IfSome began.1 (λ job. (job.worker ≡ worker) × (job.name ≡ name.now))) }
         ensures board { seat.new.board ≡ seat.old.board }
     {
-        at_slot!(self, rt, name.slot, cell => begin_waiting(rt, &mut cell, seat, worker, name))
+        match self.serve(
+            rt,
+            seat,
+            Command::Begin {
+                worker,
+                name: *name,
+            },
+        ) {
+            Outcome::Begun(result) => result,
+            _ => unreachable!(),
+        }
     }
 
     /// Ends a checkpoint that was run: its answers are booked, and its log device is back. A job that is no slot's flight comes back, and so
@@ -218,7 +200,10 @@ impl<H: House> Host<H> {
         ensures board { seat.new.board.board ≡ seat.old.board.board }
         ensures rises { Rises seat.old.board.seen seat.new.board.seen }
     {
-        at_slot!(self, rt, done.slot(), cell => cell.end(rt, seat, &self.board, done))
+        match self.serve(rt, seat, Command::End { done }) {
+            Outcome::Ended(result) => result,
+            _ => unreachable!(),
+        }
     }
 
     /// Runs a flush, where its name waits in its slot; None where it does not. ENOMEM where memory is refused: then the job waits.
@@ -237,58 +222,16 @@ impl<H: House> Host<H> {
         ensures board { seat.new.board.board ≡ seat.old.board.board }
         ensures rises { Rises seat.old.board.seen seat.new.board.seen }
     {
-        at_slot!(self, rt, name.slot, cell => flush_waiting(rt, &mut cell, seat, &self.board, worker, name))
+        match self.serve(
+            rt,
+            seat,
+            Command::Flush {
+                worker,
+                name: *name,
+            },
+        ) {
+            Outcome::Flushed(result) => result,
+            _ => unreachable!(),
+        }
     }
-}
-
-/// Begins a checkpoint of a locked slot, where its name waits there.
-fn begin_waiting<H: House, R: Wait, const S: u8>(
-    rt: &R,
-    cell: &mut SlotCell<H, S>,
-    seat: &mut HostSeat<H>,
-    worker: Worker,
-    name: &JobName,
-) -> Option<(Reply, Option<CkptJob>)>
-where
-    Shares<H>: Counts<H, S>,
-    requires slot { name.now.slot ≡ S }
-    requires kind { is_ckpt name.now.kind ≡ true }
-    ensures left { result ≡ None → IsSameSeat seat.old seat.new }
-    ensures refused { IfSome result (λ began. is_no_memory began.0 ≡ true → IsSameSeat seat.old seat.new) }
-    ensures received { IfSome result (λ began. is_no_memory began.0 ≡ false → IsReceived S (AStep.Begin worker name.now) began.0 seat.old seat.new) }
-    ensures counted { IfSome result (λ began. is_no_memory began.0 ≡ false → ⟦<Shares<H> as Counts<H, S>>⟧.counts seat.new.counts ≡ counted S (⟦<Shares<H> as Counts<H, S>>⟧.counts seat.old.counts)) }
-    ensures named { IfSome result (λ began. IfSome began.1 (λ job. (job.worker ≡ worker) × (job.name ≡ name.now))) }
-    ensures board { seat.new.board ≡ seat.old.board }
-{
-    if cell.stage(name) != Some(Stage::Waiting) {
-        return None;
-    }
-    Some(cell.begin(rt, seat, worker, name))
-}
-
-/// Runs a flush of a locked slot, where its name waits there.
-fn flush_waiting<H: House, R: Wait, const S: u8>(
-    rt: &R,
-    cell: &mut SlotCell<H, S>,
-    seat: &mut HostSeat<H>,
-    board: &Board,
-    worker: Worker,
-    name: &JobName,
-) -> Option<Reply>
-where
-    Shares<H>: Counts<H, S>,
-    requires slot { name.now.slot ≡ S }
-    requires board { seat.old.board.board ≡ board.now }
-    requires kind { is_ckpt name.now.kind ≡ false }
-    ensures left { result ≡ None → IsSameSeat seat.old seat.new }
-    ensures refused { IfSome result (λ reply. is_no_memory reply ≡ true → IsSameSeat seat.old seat.new) }
-    ensures received { IfSome result (λ reply. is_no_memory reply ≡ false → (answers : AnAnswerHome) × IsReceived S (AStep.Flush worker name.now answers) reply seat.old seat.new) }
-    ensures counted { IfSome result (λ reply. is_no_memory reply ≡ false → ⟦<Shares<H> as Counts<H, S>>⟧.counts seat.new.counts ≡ counted S (⟦<Shares<H> as Counts<H, S>>⟧.counts seat.old.counts)) }
-    ensures board { seat.new.board.board ≡ seat.old.board.board }
-    ensures rises { Rises seat.old.board.seen seat.new.board.seen }
-{
-    if cell.stage(name) != Some(Stage::Waiting) {
-        return None;
-    }
-    Some(cell.flush(rt, seat, board, worker, name))
 }
