@@ -21,10 +21,14 @@ use xt_cell::seat::HostSeat;
 use xt_queue::board::Board;
 use xt_queue::jobs::{JobQueue, WorkPass};
 
+/// The greatest limit of a book, in entries.
+pub const BOOK_ENTRIES: u64 = 1_048_576;
+
 /// A host of sixteen slots, for many threads: each slot behind a lock of its own, one queue of jobs, one board.
 #[derive(Drop)]
 pub struct Host<H: House> {
     pub(crate) alloc: Global,
+    pub(crate) book_limit: u64,
     pub(crate) board: Board,
     pub(crate) queue: Arc<JobQueue, Global>,
     pub(crate) reserve: Mutex<Reserve<H>>,
@@ -47,6 +51,13 @@ pub struct Host<H: House> {
 }
 
 impl<H: House> Host<H> {
+    /// From how many entries on a book is to be folded. No book is folded yet: each has all entries since the host was made.
+    pub fn book_limit(&self) -> u64
+        ensures { result ≡ self.now.book_limit }
+    {
+        self.book_limit
+    }
+
     /// Another seat, for another thread: it has seen of the board what this one saw. ENOSPC where the numbers of callers end.
     pub fn seat<R: Wait>(&self, rt: &R, seat: &mut HostSeat<H>) -> Result<HostSeat<H>, Errno>
         requires board { seat.old.board.board ≡ self.now.board }

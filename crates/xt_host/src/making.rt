@@ -1,14 +1,15 @@
 //! How a host is made: its queue, its board and its reserve first, and then the sixteen cells, four at a time.
 
-ghost use Rattle.std.specs.Prelude.{◌≡◌, ◌≢◌, ◌<◌, ◌+◌, ◌-◌, ◌^◌, ◌≤◌, ◌⊎◌, IfErr, IfOk, OnOk, [], replicate, take};
+ghost use Rattle.std.specs.Prelude.{◌≡◌, ◌≢◌, ◌<◌, ◌+◌, ◌-◌, ◌^◌, ◌≤◌, ◌↔◌, IsTrue, ⊥, IfErr, IfOk, OnOk, [], replicate, take};
 ghost use Rattle.std.specs.Arc.{arc_value};
 ghost use Rattle.xt_base.specs.declared.sizes.TheConstants.{SLOTS, WORKERS};
 ghost use Rattle.xt_base.specs.declared.steps.Errno.TheVariants.{Invalid, NoMemory};
 ghost use Rattle.xt_queue.specs.Passes.{fresh_posts, fresh_works};
 ghost use Rattle.xt_queue.specs.Seats.{fresh_seat};
 ghost use Rattle.xt_queue.specs.Boards.{blank_words};
+ghost use Rattle.xt_host.specs.Making.{MayHave};
 
-use crate::host::Host;
+use crate::host::{BOOK_ENTRIES, Host};
 use std::alloc::{AllocError, Global};
 use std::sync::ledger::Book;
 use std::sync::{Arc, Mutex};
@@ -132,11 +133,13 @@ fn all_cells<H: House>(
 /// The host over its cells.
 fn joined<H: House>(
     alloc: Global,
+    book_limit: u64,
     cells: Cells<H>,
     board: Board,
     queue: Arc<JobQueue, Global>,
     reserve: Reserve<H>,
 ) -> Host<H>
+    ensures limit { result.book_limit ≡ book_limit }
     ensures board { result.board ≡ board }
     ensures queue { arc_value result.queue ≡ arc_value queue }
 {
@@ -148,6 +151,7 @@ fn joined<H: House>(
     } = cells;
     Host {
         alloc,
+        book_limit,
         board,
         queue,
         reserve: Mutex::new(reserve),
@@ -173,6 +177,7 @@ fn joined<H: House>(
 /// Opens the ledgers, makes the cells, and draws the first seat. The one error is want of memory.
 fn opened<H: House>(
     alloc: Global,
+    book_limit: u64,
     blanks: Blanks,
     queue: Arc<JobQueue, Global>,
     board: Board,
@@ -184,6 +189,7 @@ fn opened<H: House>(
     requires all { H.all ≡ 2 ^ 64 - 1 }
     requires posts { posts.items ≡ fresh_posts (arc_value queue) SLOTS }
     requires seat { seat ≡ fresh_seat board blank_words }
+    ensures limit { IfOk result (λ made. made.0.book_limit ≡ book_limit) }
     ensures board { IfOk result (λ made. made.1.board ≡ fresh_seat made.0.board blank_words) }
     ensures queue { IfOk result (λ made. arc_value made.0.queue ≡ arc_value queue) }
     ensures caller { IfOk result (λ made. made.1.caller ≡ 1) }
@@ -196,30 +202,42 @@ fn opened<H: House>(
         unreachable!()
     };
     let seat = HostSeat::new(alloc, caller, shares, seat);
-    Ok((joined(alloc, cells, board, queue, reserve), seat))
+    Ok((
+        joined(alloc, book_limit, cells, board, queue, reserve),
+        seat,
+    ))
+}
+
+/// Whether a host may have so many workers, and books of such a limit.
+fn may_have(workers: usize, book_limit: u64) -> bool
+    ensures { IsTrue result ↔ MayHave workers book_limit }
+{
+    (1..=WORKERS).contains(&workers) && (1..=BOOK_ENTRIES).contains(&book_limit)
 }
 
 impl<H: House> Host<H> {
-    /// A host of sixteen empty slots, its first seat, and the passes of its workers, 1 to 8. EINVAL for another number of workers, else
-    /// ENOMEM where memory is refused. The blanks are its sixteen ledgers; a program picks their names once, where it calls this.
+    /// A host of sixteen empty slots, its first seat, and the passes of its workers, 1 to 8, with a limit of its books of 1 to 1,048,576
+    /// entries. EINVAL for other numbers, else ENOMEM where memory is refused. The blanks are its sixteen ledgers; a program picks their names once, where it calls this.
     pub fn new(
         alloc: Global,
         blanks: Blanks,
         workers: usize,
+        book_limit: u64,
     ) -> Result<(Self, HostSeat<H>, Vec<WorkPass>), Errno>
         requires names { (blanks.b0.name ≡ H.names 0) × (blanks.b1.name ≡ H.names 1) × (blanks.b2.name ≡ H.names 2) × (blanks.b3.name ≡ H.names 3) × (blanks.b4.name ≡ H.names 4) × (blanks.b5.name ≡ H.names 5) × (blanks.b6.name ≡ H.names 6) × (blanks.b7.name ≡ H.names 7) × (blanks.b8.name ≡ H.names 8) × (blanks.b9.name ≡ H.names 9) × (blanks.b10.name ≡ H.names 10) × (blanks.b11.name ≡ H.names 11) × (blanks.b12.name ≡ H.names 12) × (blanks.b13.name ≡ H.names 13) × (blanks.b14.name ≡ H.names 14) × (blanks.b15.name ≡ H.names 15) }
         requires parts { (blanks.b0.parts ≡ H.all) × (blanks.b1.parts ≡ H.all) × (blanks.b2.parts ≡ H.all) × (blanks.b3.parts ≡ H.all) × (blanks.b4.parts ≡ H.all) × (blanks.b5.parts ≡ H.all) × (blanks.b6.parts ≡ H.all) × (blanks.b7.parts ≡ H.all) × (blanks.b8.parts ≡ H.all) × (blanks.b9.parts ≡ H.all) × (blanks.b10.parts ≡ H.all) × (blanks.b11.parts ≡ H.all) × (blanks.b12.parts ≡ H.all) × (blanks.b13.parts ≡ H.all) × (blanks.b14.parts ≡ H.all) × (blanks.b15.parts ≡ H.all) }
         requires all { H.all ≡ 2 ^ 64 - 1 }
-        ensures valid { OnOk result ((1 ≤ workers) × (workers ≤ WORKERS)) }
-        ensures invalid { IfErr result (λ errno. errno ≡ Invalid → (workers ≡ 0) ⊎ (WORKERS < workers)) }
-        ensures memory { IfErr result (λ errno. errno ≢ Invalid → (errno ≡ NoMemory) × (1 ≤ workers) × (workers ≤ WORKERS)) }
+        ensures valid { OnOk result (MayHave workers book_limit) }
+        ensures invalid { IfErr result (λ errno. errno ≡ Invalid → MayHave workers book_limit → ⊥) }
+        ensures memory { IfErr result (λ errno. errno ≢ Invalid → (errno ≡ NoMemory) × MayHave workers book_limit) }
+        ensures limit { IfOk result (λ made. made.0.book_limit ≡ book_limit) }
         ensures board { IfOk result (λ made. made.1.board ≡ fresh_seat made.0.board blank_words) }
         ensures caller { IfOk result (λ made. made.1.caller ≡ 1) }
         ensures counts { IfOk result (λ made. made.1.counts ≡ replicate SLOTS 0) }
         ensures receipts { IfOk result (λ made. made.1.receipts ≡ []) }
         ensures passes { IfOk result (λ made. made.2.items ≡ take workers (fresh_works (arc_value made.0.queue) WORKERS)) }
     {
-        if workers == 0 || workers > WORKERS {
+        if !may_have(workers, book_limit) {
             return Err(Errno::Invalid);
         }
         let (queue, passes) = JobQueue::new(alloc)?;
@@ -229,7 +247,7 @@ impl<H: House> Host<H> {
         };
         let Passes { posts, mut works } = passes;
         works.truncate(workers);
-        match opened(alloc, blanks, queue, board, seat, posts) {
+        match opened(alloc, book_limit, blanks, queue, board, seat, posts) {
             Ok((host, seat)) => Ok((host, seat, works)),
             Err(_) => Err(Errno::NoMemory),
         }

@@ -44,7 +44,7 @@ fn closed<H: House, R: Wait>(
     let Ok(()) = seats.reserve(2) else {
         return Err(Errno::NoMemory);
     };
-    let (host, mut first, passes) = Host::<H>::new(alloc, blanks, 1)?;
+    let (host, mut first, passes) = Host::<H>::new(alloc, blanks, 1, 1)?;
     let mut second = host.seat(rt, &mut first)?;
     let told = is_empty(rt, &host, &mut first, slots.0)
         && is_empty(rt, &host, &mut second, slots.1);
