@@ -1,6 +1,6 @@
 //! How a host is made: its queue, its board and its reserve first, and then the sixteen cells, four at a time.
 
-ghost use Rattle.std.specs.Prelude.{◌≡◌, ◌≢◌, ◌<◌, ◌+◌, ◌-◌, ◌^◌, ◌≤◌, ◌↔◌, IsTrue, ⊥, IfErr, IfOk, OnOk, [], replicate, take};
+ghost use Rattle.std.specs.Prelude.{◌≡◌, ◌≢◌, ◌<◌, ◌+◌, ◌-◌, ◌^◌, ◌≤◌, ◌↔◌, IsTrue, IfErr, IfOk, OnOk, [], replicate, take};
 ghost use Rattle.std.specs.Arc.{arc_value};
 ghost use Rattle.xt_base.specs.declared.sizes.TheConstants.{SLOTS, WORKERS};
 ghost use Rattle.xt_base.specs.declared.steps.Errno.TheVariants.{Invalid, NoMemory};

@@ -2,6 +2,8 @@
 
 ghost use Rattle.std.specs.Prelude.{◌≡◌, ◌-◌, ◌^◌};
 
+mod example;
+
 use crate::fault::CloseFault;
 use crate::host::Host;
 use std::alloc::Global;

@@ -1,0 +1,201 @@
+//! A whole run by tokens, as a program would write it: one volume, one worker, one change.
+
+ghost use Rattle.std.specs.Prelude.{◌≡◌, ◌-◌, ◌^◌};
+ghost use Rattle.std.specs.Arc.{arc_value};
+
+use crate::fault::CloseFault;
+use crate::gate::Gate;
+use crate::host::Host;
+use crate::outcomes::{CommitFault, Forced};
+use crate::tokens::{HeldList, Trans};
+use std::alloc::{AllocError, Global};
+use std::marker::Brand;
+use std::process::Abort;
+use std::rt::HostRuntime;
+use std::sync::Wait;
+use xt_base::content::Data;
+use xt_base::names::{Block, CkptNo, JobName, Slot};
+use xt_base::steps::Errno;
+use xt_cell::house::House;
+use xt_cell::mount_ref::MountRef;
+use xt_cell::reserve::Blanks;
+use xt_cell::seat::HostSeat;
+use xt_dev::home::HomeDevice;
+use xt_dev::log::LogDevice;
+use xt_dev::mem_home::MemHome;
+use xt_dev::mem_log::MemLog;
+use xt_queue::jobs::WorkPass;
+
+/// Lets a worker go once no name waits.
+struct UntilIdle;
+
+impl Gate for UntilIdle {
+    fn before(&self, _name: &JobName) {}
+
+    fn go_on(&self) -> bool {
+        false
+    }
+}
+
+/// The devices of a volume, in memory.
+fn devices(
+    alloc: Global,
+) -> Result<(Box<dyn HomeDevice + Send>, Box<dyn LogDevice + Send>), AllocError> {
+    let home = Box::new(alloc, MemHome::new(alloc))?;
+    let log = Box::new(alloc, MemLog::new(alloc))?;
+    Ok((home, log))
+}
+
+/// Gives up all that a leg left held.
+fn release_all<H: House, R: Abort + Wait>(
+    rt: &R,
+    host: &Host<H>,
+    seat: &mut HostSeat<H>,
+    held: HeldList,
+)
+    requires board { seat.old.board.board ≡ host.now.board }
+    ensures board { seat.new.board.board ≡ seat.old.board.board }
+{
+    let mut left = held;
+    while let Some((buffer, rest)) = left.next() {
+        if let Err((_buffer, _errno)) = host.release_held(rt, seat, buffer) {
+            panic!(rt; "a buffer that can't be released");
+        }
+        left = rest;
+    }
+}
+
+/// Reads a block into a transaction and changes its first byte.
+fn fill<H: House, R: Wait>(
+    rt: &R,
+    alloc: Global,
+    host: &Host<H>,
+    seat: &mut HostSeat<H>,
+    trans: &mut Trans,
+) -> Result<(), Errno>
+    requires board { seat.old.board.board ≡ host.now.board }
+    ensures board { seat.new.board.board ≡ seat.old.board.board }
+{
+    let Ok(Some(byte)) = Data::of(alloc, &[7]) else {
+        return Err(Errno::NoMemory);
+    };
+    host.read(rt, seat, trans, Block(7))?;
+    host.log(rt, seat, trans, Block(7), 0, byte)
+}
+
+/// Ends a transaction without what it did.
+fn give_up<H: House, R: Abort + Wait>(
+    rt: &R,
+    host: &Host<H>,
+    seat: &mut HostSeat<H>,
+    trans: Trans,
+)
+    requires board { seat.old.board.board ≡ host.now.board }
+    ensures board { seat.new.board.board ≡ seat.old.board.board }
+{
+    match host.cancel(rt, seat, trans) {
+        Ok(held) => release_all(rt, host, seat, held),
+        Err((_trans, _errno)) => panic!(rt; "a transaction that can't be cancelled"),
+    }
+}
+
+/// Changes a block in a transaction of its own: the number of the checkpoint that will have it.
+fn change<H: House, R: Abort + Wait>(
+    rt: &R,
+    alloc: Global,
+    host: &Host<H>,
+    seat: &mut HostSeat<H>,
+    at: MountRef,
+) -> Result<CkptNo, Errno>
+    requires board { seat.old.board.board ≡ host.now.board }
+    ensures board { seat.new.board.board ≡ seat.old.board.board }
+{
+    let mut trans = host.begin_trans(rt, seat, at, 176, 1, false)?;
+    if let Err(errno) = fill(rt, alloc, host, seat, &mut trans) {
+        give_up(rt, host, seat, trans);
+        return Err(errno);
+    }
+    match host.commit(rt, seat, trans) {
+        Ok((number, held)) => {
+            release_all(rt, host, seat, held);
+            Ok(number)
+        }
+        Err(CommitFault::Aborted(held)) => {
+            release_all(rt, host, seat, held);
+            Err(Errno::Io)
+        }
+        Err(CommitFault::Back(trans, errno)) => {
+            give_up(rt, host, seat, trans);
+            Err(errno)
+        }
+    }
+}
+
+/// Has a worker write a checkpoint, and then the block home: how far a force had come before and after the first.
+fn write_out<H: House, R: Abort + Wait>(
+    rt: &R,
+    host: &Host<H>,
+    seat: &mut HostSeat<H>,
+    pass: &mut WorkPass,
+    at: MountRef,
+) -> Result<(Forced, Forced), Errno>
+    requires queue { pass.old.queue ≡ arc_value host.now.queue }
+    requires board { seat.old.board.board ≡ host.now.board }
+    ensures queue { pass.new.queue ≡ pass.old.queue }
+    ensures board { seat.new.board.board ≡ seat.old.board.board }
+{
+    let before = host.force(rt, seat, at)?;
+    if let Some(_stranger) = host.work(rt, pass, seat, &UntilIdle) {
+        panic!(rt; "a job came back");
+    }
+    let after = host.force(rt, seat, at)?;
+    host.push(rt, seat, at)?;
+    if let Some(_stranger) = host.work(rt, pass, seat, &UntilIdle) {
+        panic!(rt; "a job came back");
+    }
+    Ok((before, after))
+}
+
+/// What a run tells: the number of the commit, how far the two forces had come, and what the end of the host found.
+type Told = (CkptNo, (Forced, Forced), Result<(), CloseFault>);
+
+/// Mounts a volume, changes it, has it written, unmounts it, and ends the host.
+fn run<H: House, R: Abort + Wait>(rt: &R, alloc: Global, blanks: Blanks) -> Result<Told, Errno>
+    requires names { (blanks.b0.name ≡ H.names 0) × (blanks.b1.name ≡ H.names 1) × (blanks.b2.name ≡ H.names 2) × (blanks.b3.name ≡ H.names 3) × (blanks.b4.name ≡ H.names 4) × (blanks.b5.name ≡ H.names 5) × (blanks.b6.name ≡ H.names 6) × (blanks.b7.name ≡ H.names 7) × (blanks.b8.name ≡ H.names 8) × (blanks.b9.name ≡ H.names 9) × (blanks.b10.name ≡ H.names 10) × (blanks.b11.name ≡ H.names 11) × (blanks.b12.name ≡ H.names 12) × (blanks.b13.name ≡ H.names 13) × (blanks.b14.name ≡ H.names 14) × (blanks.b15.name ≡ H.names 15) }
+    requires parts { (blanks.b0.parts ≡ H.all) × (blanks.b1.parts ≡ H.all) × (blanks.b2.parts ≡ H.all) × (blanks.b3.parts ≡ H.all) × (blanks.b4.parts ≡ H.all) × (blanks.b5.parts ≡ H.all) × (blanks.b6.parts ≡ H.all) × (blanks.b7.parts ≡ H.all) × (blanks.b8.parts ≡ H.all) × (blanks.b9.parts ≡ H.all) × (blanks.b10.parts ≡ H.all) × (blanks.b11.parts ≡ H.all) × (blanks.b12.parts ≡ H.all) × (blanks.b13.parts ≡ H.all) × (blanks.b14.parts ≡ H.all) × (blanks.b15.parts ≡ H.all) }
+    requires all { H.all ≡ 2 ^ 64 - 1 }
+{
+    let (Some(slot), Ok((home, log))) = (Slot::new(0), devices(alloc)) else {
+        return Err(Errno::NoMemory);
+    };
+    let mut seats = Vec::new(alloc);
+    let Ok(()) = seats.reserve(1) else {
+        return Err(Errno::NoMemory);
+    };
+    let (host, mut seat, mut passes) = Host::<H>::new(alloc, blanks, 1, 1_048_576)?;
+    let Some(mut pass) = passes.pop() else {
+        return Err(Errno::Invalid);
+    };
+    let mounted = host.mount(rt, &mut seat, slot, 65_536, 1_024, home, log);
+    let at = mounted.map_err(|back| back.errno)?;
+    let number = change(rt, alloc, &host, &mut seat, at)?;
+    let forced = write_out(rt, &host, &mut seat, &mut pass, at)?;
+    let _devices = host.unmount(rt, &mut seat, at)?;
+    seats.push_reserved(seat);
+    Ok((number, forced, host.close(seats, passes)))
+}
+
+/// The same over new ledgers.
+fn runs<R: Abort + Wait>(rt: &R, alloc: Global, blanks: Blanks) -> Result<Told, Errno>
+    requires parts { (blanks.b0.parts ≡ 2 ^ 64 - 1) × (blanks.b1.parts ≡ 2 ^ 64 - 1) × (blanks.b2.parts ≡ 2 ^ 64 - 1) × (blanks.b3.parts ≡ 2 ^ 64 - 1) × (blanks.b4.parts ≡ 2 ^ 64 - 1) × (blanks.b5.parts ≡ 2 ^ 64 - 1) × (blanks.b6.parts ≡ 2 ^ 64 - 1) × (blanks.b7.parts ≡ 2 ^ 64 - 1) × (blanks.b8.parts ≡ 2 ^ 64 - 1) × (blanks.b9.parts ≡ 2 ^ 64 - 1) × (blanks.b10.parts ≡ 2 ^ 64 - 1) × (blanks.b11.parts ≡ 2 ^ 64 - 1) × (blanks.b12.parts ≡ 2 ^ 64 - 1) × (blanks.b13.parts ≡ 2 ^ 64 - 1) × (blanks.b14.parts ≡ 2 ^ 64 - 1) × (blanks.b15.parts ≡ 2 ^ 64 - 1) }
+{
+    run::<Brand, R>(rt, alloc, blanks)
+}
+
+/// The change goes into the first checkpoint, which a force waits for until the worker wrote it.
+#[test]
+fn a_change_is_written(rt: HostRuntime) {
+    let told = runs(&rt, rt.alloc(), Blanks::new());
+    let first = CkptNo(1);
+    assert_eq!(rt; told, Ok((first, (Forced::Wait(first), Forced::Done), Ok(()))));
+}
