@@ -2,6 +2,9 @@
 
 ghost use Rattle.std.specs.Prelude.{◌≡◌, ◌-◌, ◌^◌};
 
+mod lines;
+mod rows;
+
 use crate::fault::CloseFault;
 use crate::host::Host;
 use std::alloc::Global;
