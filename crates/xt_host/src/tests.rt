@@ -3,6 +3,8 @@
 ghost use Rattle.std.specs.Prelude.{◌≡◌, ◌-◌, ◌^◌};
 
 mod example;
+mod lines;
+mod rows;
 
 use crate::fault::CloseFault;
 use crate::host::Host;

@@ -1,0 +1,136 @@
+//! Worked scripts of one slot, called with no worker.
+
+ghost use Rattle.std.specs.Prelude.{◌≡◌, ◌-◌, ◌^◌};
+
+use crate::fault::CloseFault;
+use crate::host::Host;
+use crate::tests::lines::{Script, devices_of, first_wrong, mounted};
+use std::alloc::Global;
+use std::marker::Brand;
+use std::rt::HostRuntime;
+use std::sync::Wait;
+use xt_base::names::Life;
+use xt_base::steps::Errno;
+use xt_cell::house::House;
+use xt_cell::reserve::Blanks;
+
+/// A device fails no call.
+const NEVER: u64 = u64::MAX;
+
+/// The life that the slot has, the first line that is told something else, and what the end of the host found wrong.
+type Played = (Option<Life>, Option<usize>, Result<(), CloseFault>);
+
+/// All lines of a script by one seat, and the end of the host with that seat.
+fn played<H: House, R: Wait>(
+    rt: &R,
+    alloc: Global,
+    blanks: Blanks,
+    script: Script,
+) -> Result<Played, Errno>
+    requires names { (blanks.b0.name ≡ H.names 0) × (blanks.b1.name ≡ H.names 1) × (blanks.b2.name ≡ H.names 2) × (blanks.b3.name ≡ H.names 3) × (blanks.b4.name ≡ H.names 4) × (blanks.b5.name ≡ H.names 5) × (blanks.b6.name ≡ H.names 6) × (blanks.b7.name ≡ H.names 7) × (blanks.b8.name ≡ H.names 8) × (blanks.b9.name ≡ H.names 9) × (blanks.b10.name ≡ H.names 10) × (blanks.b11.name ≡ H.names 11) × (blanks.b12.name ≡ H.names 12) × (blanks.b13.name ≡ H.names 13) × (blanks.b14.name ≡ H.names 14) × (blanks.b15.name ≡ H.names 15) }
+    requires parts { (blanks.b0.parts ≡ H.all) × (blanks.b1.parts ≡ H.all) × (blanks.b2.parts ≡ H.all) × (blanks.b3.parts ≡ H.all) × (blanks.b4.parts ≡ H.all) × (blanks.b5.parts ≡ H.all) × (blanks.b6.parts ≡ H.all) × (blanks.b7.parts ≡ H.all) × (blanks.b8.parts ≡ H.all) × (blanks.b9.parts ≡ H.all) × (blanks.b10.parts ≡ H.all) × (blanks.b11.parts ≡ H.all) × (blanks.b12.parts ≡ H.all) × (blanks.b13.parts ≡ H.all) × (blanks.b14.parts ≡ H.all) × (blanks.b15.parts ≡ H.all) }
+    requires all { H.all ≡ 2 ^ 64 - 1 }
+{
+    let mut seats = Vec::new(alloc);
+    let Ok(()) = seats.reserve(1) else {
+        return Err(Errno::NoMemory);
+    };
+    let Ok(devices) = devices_of(alloc, script.blocks, NEVER) else {
+        return Err(Errno::NoMemory);
+    };
+    let (host, mut seat, passes) = Host::<H>::new(alloc, blanks, 1, 1)?;
+    let life = mounted(rt, &host, &mut seat, devices);
+    let wrong = first_wrong(rt, alloc, &host, &mut seat, script.lines);
+    seats.push_reserved(seat);
+    Ok((life, wrong, host.close(seats, passes)))
+}
+
+/// The same over new ledgers.
+fn plays<R: Wait>(rt: &R, alloc: Global, blanks: Blanks, script: Script) -> Result<Played, Errno>
+    requires parts { (blanks.b0.parts ≡ 2 ^ 64 - 1) × (blanks.b1.parts ≡ 2 ^ 64 - 1) × (blanks.b2.parts ≡ 2 ^ 64 - 1) × (blanks.b3.parts ≡ 2 ^ 64 - 1) × (blanks.b4.parts ≡ 2 ^ 64 - 1) × (blanks.b5.parts ≡ 2 ^ 64 - 1) × (blanks.b6.parts ≡ 2 ^ 64 - 1) × (blanks.b7.parts ≡ 2 ^ 64 - 1) × (blanks.b8.parts ≡ 2 ^ 64 - 1) × (blanks.b9.parts ≡ 2 ^ 64 - 1) × (blanks.b10.parts ≡ 2 ^ 64 - 1) × (blanks.b11.parts ≡ 2 ^ 64 - 1) × (blanks.b12.parts ≡ 2 ^ 64 - 1) × (blanks.b13.parts ≡ 2 ^ 64 - 1) × (blanks.b14.parts ≡ 2 ^ 64 - 1) × (blanks.b15.parts ≡ 2 ^ 64 - 1) }
+{
+    played::<Brand, R>(rt, alloc, blanks, script)
+}
+
+/// All lines are told what they should be, and the host ends with nothing wrong.
+const AS_WANTED: Result<Played, Errno> = Ok((Some(Life(1)), None, Ok(())));
+
+/// Two transactions at one block.
+const LOCKED_ELSEWHERE: Script = Script {
+    blocks: &[],
+    lines: &[
+        ("0.1 alloc 176 1 plain", "t1"),
+        ("0.1 alloc 176 1 plain", "t2"),
+        ("0.1 read t1 9 = 00*4096", "ok"),
+        ("0.1 log t1 9 0 11", "ok"),
+        ("0.1 relse t1 9", "kept"),
+        ("0.1 get t2 9", "EAGAIN"),
+        ("0.1 commit t1", "c1"),
+        ("0.1 get t2 9", "ok"),
+        ("0.1 view t2 9", "data 11.00*4095"),
+    ],
+};
+
+/// A held block goes from one transaction to the next.
+const HELD: Script = Script {
+    blocks: &[(5, 0x33)],
+    lines: &[
+        ("0.1 alloc 176 1 plain", "t1"),
+        ("0.1 read t1 5 = 33*4096", "ok"),
+        ("0.1 hold t1 5", "ok"),
+        ("0.1 commit t1", "c0 held 5"),
+        ("0.1 alloc 176 1 plain", "t2"),
+        ("0.1 get t2 5", "EAGAIN"),
+        ("0.1 join t2 5", "ok"),
+        ("0.1 cancel t2", "ok"),
+        ("0.1 alloc 176 1 plain", "t3"),
+        ("0.1 get t3 5", "ok"),
+        ("0.1 view t3 5", "data 33*4096"),
+    ],
+};
+
+/// Two legs of a permanent transaction. At the end another one is cancelled dirty, which shuts the mount, and the seat sees it.
+const ROLLED: Script = Script {
+    blocks: &[],
+    lines: &[
+        ("peek 0", "seen 1 live"),
+        ("0.1 alloc 176 1 plain", "t1"),
+        ("0.1 read t1 7 = 00*4096", "ok"),
+        ("0.1 log t1 7 0 11", "ok"),
+        ("0.1 log t1 7 128 22", "ENOSPC"),
+        ("0.1 view t1 7", "data 11.00*4095"),
+        ("0.1 roll t1", "EINVAL"),
+        ("0.1 alloc 176 2 perm", "t2"),
+        ("0.1 read t2 8 = 00*4096", "ok"),
+        ("0.1 log t2 8 0 11", "ok"),
+        ("0.1 roll t2", "c1"),
+        ("0.1 alloc 65008 1 plain", "t3"),
+        ("0.1 get t2 8", "ok"),
+        ("0.1 log t2 8 128 22", "ok"),
+        ("0.1 roll t2", "EAGAIN"),
+        ("0.1 view t2 8", "data 11.00*127.22.00*3967"),
+        ("0.1 cancel t3", "ok"),
+        ("0.1 roll t2", "c1"),
+        ("0.1 cancel t1", "ok"),
+        ("peek 0", "seen 1 CORRUPT_INCORE"),
+        ("0.1 force", "EIO"),
+    ],
+};
+
+#[test]
+fn a_block_is_locked_elsewhere(rt: HostRuntime) {
+    assert_eq!(rt;
+        plays(&rt, rt.alloc(), Blanks::new(), LOCKED_ELSEWHERE),
+        AS_WANTED
+    );
+}
+
+#[test]
+fn a_held_block_is_joined(rt: HostRuntime) {
+    assert_eq!(rt; plays(&rt, rt.alloc(), Blanks::new(), HELD), AS_WANTED);
+}
+
+#[test]
+fn a_dirty_cancel_is_seen(rt: HostRuntime) {
+    assert_eq!(rt; plays(&rt, rt.alloc(), Blanks::new(), ROLLED), AS_WANTED);
+}
