@@ -65,7 +65,7 @@ fn release_all<H: House, R: Abort + Wait>(
     }
 }
 
-/// Reads a block into a transaction and changes its first byte.
+/// Locks a block in a transaction, unread, and writes it whole.
 fn fill<H: House, R: Wait>(
     rt: &R,
     alloc: Global,
@@ -76,11 +76,11 @@ fn fill<H: House, R: Wait>(
     requires board { seat.old.board.board ≡ host.now.board }
     ensures board { seat.new.board.board ≡ seat.old.board.board }
 {
-    let Ok(Some(byte)) = Data::of(alloc, &[7]) else {
+    let Ok(Some(bytes)) = Data::of_repeated(alloc, 0xaa, 4_096) else {
         return Err(Errno::NoMemory);
     };
-    host.read(rt, seat, trans, Block(7))?;
-    host.log(rt, seat, trans, Block(7), 0, byte)
+    host.get(rt, seat, trans, Block(7))?;
+    host.log(rt, seat, trans, Block(7), 0, bytes)
 }
 
 /// Ends a transaction without what it did.
@@ -110,7 +110,7 @@ fn change<H: House, R: Abort + Wait>(
     requires board { seat.old.board.board ≡ host.now.board }
     ensures board { seat.new.board.board ≡ seat.old.board.board }
 {
-    let mut trans = host.begin_trans(rt, seat, at, 176, 1, false)?;
+    let mut trans = host.begin_trans(rt, seat, at, 5_000, 1, false)?;
     if let Err(errno) = fill(rt, alloc, host, seat, &mut trans) {
         give_up(rt, host, seat, trans);
         return Err(errno);
@@ -192,7 +192,7 @@ fn runs<R: Abort + Wait>(rt: &R, alloc: Global, blanks: Blanks) -> Result<Told, 
     run::<Brand, R>(rt, alloc, blanks)
 }
 
-/// The change goes into the first checkpoint, which a force waits for until the worker wrote it.
+/// One block of one transaction goes into the first checkpoint, of two pieces, which a force waits for until the worker wrote it.
 #[test]
 fn a_change_is_written(rt: HostRuntime) {
     let told = runs(&rt, rt.alloc(), Blanks::new());

@@ -1,6 +1,6 @@
 //! A host driven by lines of the line language.
 
-ghost use Rattle.std.specs.Prelude.{◌≡◌, ◌<◌};
+ghost use Rattle.std.specs.Prelude.{◌≡◌};
 
 use crate::host::Host;
 use std::alloc::{AllocError, Global};
@@ -10,11 +10,9 @@ use xt_base::steps::{Reply, Request, Step};
 use xt_cell::house::House;
 use xt_cell::mount_ref::MountRef;
 use xt_cell::seat::HostSeat;
-use xt_dev::fail_at::FailAt;
 use xt_dev::home::HomeDevice;
 use xt_dev::log::LogDevice;
 use xt_dev::mem_home::MemHome;
-use xt_dev::mem_log::MemLog;
 use xt_text::print_reply::print_reply;
 use xt_text::{Text, parse_line};
 
@@ -32,7 +30,7 @@ pub struct Script {
 pub type Devices = (Box<dyn HomeDevice + Send>, Box<dyn LogDevice + Send>);
 
 /// A home device in memory with these blocks.
-fn home_of(alloc: Global, blocks: &[(u64, u8)]) -> Result<MemHome, AllocError> {
+pub fn home_of(alloc: Global, blocks: &[(u64, u8)]) -> Result<MemHome, AllocError> {
     let mut home = MemHome::new(alloc);
     for (block, byte) in blocks {
         let Ok(()) = home.write(Block(*block), &[*byte; 4096]) else {
@@ -40,15 +38,6 @@ fn home_of(alloc: Global, blocks: &[(u64, u8)]) -> Result<MemHome, AllocError> {
         };
     }
     Ok(home)
-}
-
-/// Devices in memory, the home device with these blocks. The log device fails one call, counted from 1.
-pub fn devices_of(alloc: Global, blocks: &[(u64, u8)], log_at: u64) -> Result<Devices, AllocError>
-    requires { 0 < log_at }
-{
-    let home = Box::new(alloc, home_of(alloc, blocks)?)?;
-    let log = FailAt::over_log(alloc, MemLog::new(alloc), log_at);
-    Ok((home, Box::new(alloc, log)?))
 }
 
 /// Mounts slot 0 over devices: the life that it has.

@@ -4,7 +4,7 @@ ghost use Rattle.std.specs.Prelude.{◌≡◌, ◌-◌, ◌^◌};
 
 use crate::fault::CloseFault;
 use crate::host::Host;
-use crate::tests::lines::{Script, devices_of, first_wrong, mounted};
+use crate::tests::lines::{Script, first_wrong, home_of, mounted};
 use std::alloc::Global;
 use std::marker::Brand;
 use std::rt::HostRuntime;
@@ -13,9 +13,7 @@ use xt_base::names::Life;
 use xt_base::steps::Errno;
 use xt_cell::house::House;
 use xt_cell::reserve::Blanks;
-
-/// A device fails no call.
-const NEVER: u64 = u64::MAX;
+use xt_dev::mem_log::MemLog;
 
 /// The life that the slot has, the first line that is told something else, and what the end of the host found wrong.
 type Played = (Option<Life>, Option<usize>, Result<(), CloseFault>);
@@ -35,11 +33,14 @@ fn played<H: House, R: Wait>(
     let Ok(()) = seats.reserve(1) else {
         return Err(Errno::NoMemory);
     };
-    let Ok(devices) = devices_of(alloc, script.blocks, NEVER) else {
+    let Ok(home) = home_of(alloc, script.blocks) else {
+        return Err(Errno::NoMemory);
+    };
+    let (Ok(home), Ok(log)) = (Box::new(alloc, home), Box::new(alloc, MemLog::new(alloc))) else {
         return Err(Errno::NoMemory);
     };
     let (host, mut seat, passes) = Host::<H>::new(alloc, blanks, 1, 1)?;
-    let life = mounted(rt, &host, &mut seat, devices);
+    let life = mounted(rt, &host, &mut seat, (home, log));
     let wrong = first_wrong(rt, alloc, &host, &mut seat, script.lines);
     seats.push_reserved(seat);
     Ok((life, wrong, host.close(seats, passes)))
