@@ -8,7 +8,7 @@ use crate::gate::Gate;
 use crate::host::Host;
 use crate::outcomes::{CommitFault, Forced};
 use crate::tokens::{HeldList, Trans};
-use std::alloc::{AllocError, Global};
+use std::alloc::Global;
 use std::marker::Brand;
 use std::process::Abort;
 use std::rt::HostRuntime;
@@ -20,8 +20,6 @@ use xt_cell::house::House;
 use xt_cell::mount_ref::MountRef;
 use xt_cell::reserve::Blanks;
 use xt_cell::seat::HostSeat;
-use xt_dev::home::HomeDevice;
-use xt_dev::log::LogDevice;
 use xt_dev::mem_home::MemHome;
 use xt_dev::mem_log::MemLog;
 use xt_queue::jobs::WorkPass;
@@ -37,31 +35,10 @@ impl Gate for UntilIdle {
     }
 }
 
-/// The devices of a volume, in memory.
-fn devices(
-    alloc: Global,
-) -> Result<(Box<dyn HomeDevice + Send>, Box<dyn LogDevice + Send>), AllocError> {
-    let home = Box::new(alloc, MemHome::new(alloc))?;
-    let log = Box::new(alloc, MemLog::new(alloc))?;
-    Ok((home, log))
-}
-
-/// Gives up all that a leg left held.
-fn release_all<H: House, R: Abort + Wait>(
-    rt: &R,
-    host: &Host<H>,
-    seat: &mut HostSeat<H>,
-    held: HeldList,
-)
-    requires board { seat.old.board.board ≡ host.now.board }
-    ensures board { seat.new.board.board ≡ seat.old.board.board }
-{
-    let mut left = held;
-    while let Some((buffer, rest)) = left.next() {
-        if let Err((_buffer, _errno)) = host.release_held(rt, seat, buffer) {
-            panic!(rt; "a buffer that can't be released");
-        }
-        left = rest;
+/// Takes a list apart of which it is known that nothing was held.
+fn none_held<R: Abort>(rt: &R, held: HeldList) {
+    if let Some((_buffer, _rest)) = held.next() {
+        panic!(rt; "a buffer was held");
     }
 }
 
@@ -84,17 +61,12 @@ fn fill<H: House, R: Wait>(
 }
 
 /// Ends a transaction without what it did.
-fn give_up<H: House, R: Abort + Wait>(
-    rt: &R,
-    host: &Host<H>,
-    seat: &mut HostSeat<H>,
-    trans: Trans,
-)
+fn give_up<H: House, R: Abort + Wait>(rt: &R, host: &Host<H>, seat: &mut HostSeat<H>, trans: Trans)
     requires board { seat.old.board.board ≡ host.now.board }
     ensures board { seat.new.board.board ≡ seat.old.board.board }
 {
     match host.cancel(rt, seat, trans) {
-        Ok(held) => release_all(rt, host, seat, held),
+        Ok(held) => none_held(rt, held),
         Err((_trans, _errno)) => panic!(rt; "a transaction that can't be cancelled"),
     }
 }
@@ -117,11 +89,11 @@ fn change<H: House, R: Abort + Wait>(
     }
     match host.commit(rt, seat, trans) {
         Ok((number, held)) => {
-            release_all(rt, host, seat, held);
+            none_held(rt, held);
             Ok(number)
         }
         Err(CommitFault::Aborted(held)) => {
-            release_all(rt, host, seat, held);
+            none_held(rt, held);
             Err(Errno::Io)
         }
         Err(CommitFault::Back(trans, errno)) => {
@@ -137,19 +109,19 @@ fn write_out<H: House, R: Abort + Wait>(
     host: &Host<H>,
     seat: &mut HostSeat<H>,
     pass: &mut WorkPass,
-    at: MountRef,
+    at: &MountRef,
 ) -> Result<(Forced, Forced), Errno>
     requires queue { pass.old.queue ≡ arc_value host.now.queue }
     requires board { seat.old.board.board ≡ host.now.board }
     ensures queue { pass.new.queue ≡ pass.old.queue }
     ensures board { seat.new.board.board ≡ seat.old.board.board }
 {
-    let before = host.force(rt, seat, at)?;
+    let before = host.force(rt, seat, *at)?;
     if let Some(_stranger) = host.work(rt, pass, seat, &UntilIdle) {
         panic!(rt; "a job came back");
     }
-    let after = host.force(rt, seat, at)?;
-    host.push(rt, seat, at)?;
+    let after = host.force(rt, seat, *at)?;
+    host.push(rt, seat, *at)?;
     if let Some(_stranger) = host.work(rt, pass, seat, &UntilIdle) {
         panic!(rt; "a job came back");
     }
@@ -165,7 +137,13 @@ fn run<H: House, R: Abort + Wait>(rt: &R, alloc: Global, blanks: Blanks) -> Resu
     requires parts { (blanks.b0.parts ≡ H.all) × (blanks.b1.parts ≡ H.all) × (blanks.b2.parts ≡ H.all) × (blanks.b3.parts ≡ H.all) × (blanks.b4.parts ≡ H.all) × (blanks.b5.parts ≡ H.all) × (blanks.b6.parts ≡ H.all) × (blanks.b7.parts ≡ H.all) × (blanks.b8.parts ≡ H.all) × (blanks.b9.parts ≡ H.all) × (blanks.b10.parts ≡ H.all) × (blanks.b11.parts ≡ H.all) × (blanks.b12.parts ≡ H.all) × (blanks.b13.parts ≡ H.all) × (blanks.b14.parts ≡ H.all) × (blanks.b15.parts ≡ H.all) }
     requires all { H.all ≡ 2 ^ 64 - 1 }
 {
-    let (Some(slot), Ok((home, log))) = (Slot::new(0), devices(alloc)) else {
+    let Some(slot) = Slot::new(0) else {
+        return Err(Errno::Invalid);
+    };
+    let (Ok(home), Ok(log)) = (
+        Box::new(alloc, MemHome::new(alloc)),
+        Box::new(alloc, MemLog::new(alloc)),
+    ) else {
         return Err(Errno::NoMemory);
     };
     let mut seats = Vec::new(alloc);
@@ -177,10 +155,10 @@ fn run<H: House, R: Abort + Wait>(rt: &R, alloc: Global, blanks: Blanks) -> Resu
         return Err(Errno::Invalid);
     };
     let mounted = host.mount(rt, &mut seat, slot, 65_536, 1_024, home, log);
-    let at = mounted.map_err(|back| back.errno)?;
-    let number = change(rt, alloc, &host, &mut seat, at)?;
+    let at = &mounted.map_err(|back| back.errno)?;
+    let number = change(rt, alloc, &host, &mut seat, *at)?;
     let forced = write_out(rt, &host, &mut seat, &mut pass, at)?;
-    let _devices = host.unmount(rt, &mut seat, at)?;
+    let _devices = host.unmount(rt, &mut seat, *at)?;
     seats.push_reserved(seat);
     Ok((number, forced, host.close(seats, passes)))
 }
@@ -197,5 +175,8 @@ fn runs<R: Abort + Wait>(rt: &R, alloc: Global, blanks: Blanks) -> Result<Told, 
 fn a_change_is_written(rt: HostRuntime) {
     let told = runs(&rt, rt.alloc(), Blanks::new());
     let first = CkptNo(1);
-    assert_eq!(rt; told, Ok((first, (Forced::Wait(first), Forced::Done), Ok(()))));
+    assert_eq!(rt;
+        told,
+        Ok((first, (Forced::Wait(first), Forced::Done), Ok(())))
+    );
 }
