@@ -234,11 +234,11 @@ impl Accounts {
     }
 
     // ---- log space
-    /// What the commit list costs.
+    /// What the commit list costs, as the space has it: so nothing is added up.
     pub fn cil_cost(&self) -> u64
         ensures { result ≡ cost self.now.form.ends self.now.items.cil }
     {
-        self.items.cil_cost(self.form)
+        self.space.cil()
     }
 
     /// Whether this can't be granted, however much space is left.

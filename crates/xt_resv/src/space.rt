@@ -287,6 +287,13 @@ impl LogSpace {
         ticket.charged = 0;
     }
 
+    /// What the commit list costs.
+    pub fn cil(&self) -> u64
+        ensures { result ≡ self.now.cil }
+    {
+        self.cil
+    }
+
     /// What the commit list costs now. It has to find space.
     pub fn cil_cost(&mut self, cost: u64)
         requires { used (record self.old { cil = cost }) ≤ self.old.size }
