@@ -3,6 +3,7 @@
 ghost use Rattle.std.specs.Prelude.{◌≡◌, ◌≤◌, false, true, length, is_some, IfOk};
 ghost use Rattle.xt_base.specs.Alone.{carries_content, names_held};
 ghost use Rattle.xt_base.specs.Errors.{name_of, number_of};
+ghost use Rattle.xt_base.specs.Isolation.{is_no_memory};
 ghost use Rattle.xt_base.specs.Steps.{is_call, slot_of};
 
 use crate::content::{Content, Data, HeldBlocks, HeldRoom};
@@ -326,6 +327,13 @@ impl Answer {
 }
 
 impl Reply {
+    /// Whether it is ENOMEM.
+    pub fn is_no_memory(&self) -> bool
+        ensures { result ≡ is_no_memory self.now }
+    {
+        matches!(self, Reply::Refused(Errno::NoMemory))
+    }
+
     /// A copy of a reply without a content; blocks that it names are copied into a room that was made before. It takes no memory.
     pub fn copy_into(&self, room: Option<HeldRoom>) -> Reply
         requires content { carries_content self.now ≡ false }

@@ -8,7 +8,8 @@ use Rattle.std.proofs.Common.{true, false}
 use Rattle.std.specs.Prelude.{if◌then◌else◌}
 use Rattle.xt_base.specs.declared.steps.Step.{Step}
 use Rattle.xt_base.specs.declared.steps.Step.TheVariants.{Begin, Call, End, Flush, Mount, Peek, Post, Show, Take}
-use Rattle.xt_cell.specs.Books.{IsTrueBook, Replays, base_of, count_of, entry, is_call, is_post}
+use Rattle.xt_base.specs.Steps.{is_call}
+use Rattle.xt_cell.specs.Books.{IsTrueBook, Replays, base_of, count_of, entry, is_post}
 use Rattle.xt_cell.specs.declared.records.Entry.{Entry}
 use Rattle.xt_mount.specs.Slots.{IsServed, SlotState}
 

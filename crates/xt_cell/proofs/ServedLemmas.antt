@@ -17,7 +17,8 @@ use Rattle.xt_base.specs.declared.steps.Reply.TheVariants.{Okay}
 use Rattle.xt_base.specs.declared.steps.Request.{Request}
 use Rattle.xt_base.specs.declared.steps.Step.{Step}
 use Rattle.xt_base.specs.declared.steps.Step.TheVariants.{Begin, Call, End, Flush, Mount, Peek, Post, Show, Take}
-use Rattle.xt_cell.specs.Books.{is_call, may_hold}
+use Rattle.xt_base.specs.Steps.{is_call}
+use Rattle.xt_cell.specs.Books.{may_hold}
 use Rattle.xt_mount.specs.Slots.{IsServed, IsServedUnlessMemory, SlotState, lone_with}
 
 module _ (x : Step) (r : Reply) (new old : SlotState) where

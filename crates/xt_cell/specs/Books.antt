@@ -66,11 +66,6 @@ base_of slot folded events = record { state = unused slot; folded = folded; even
 abbrev pub unwritten : ℕ → BookView
 unwritten slot = record { base = base_of slot 0 0; entries = []; state = unused slot; room = 0 }
 
--- whether a step is a call
-abbrev pub is_call : Step → Bool
-is_call (Call slot life request answer) = true
-is_call other = false
-
 -- whether a step may leave blocks held
 abbrev pub may_hold : Step → Bool
 may_hold (Call slot life request answer) = may_leave_held request

@@ -9,3 +9,4 @@ pub mod Facts
 pub mod Posts
 pub mod Cells
 pub mod Accounts
+pub mod Ledgers

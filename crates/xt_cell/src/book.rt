@@ -5,12 +5,12 @@ ghost use Rattle.xt_base.specs.Alone.{carries_content, has_begun, names_held};
 ghost use Rattle.xt_base.specs.Isolation.{is_no_memory};
 ghost use Rattle.xt_base.specs.Jobs.{fits_pieces, fits_plan, is_begun, is_ckpt, is_owed_as, is_waiting};
 ghost use Rattle.xt_base.specs.Order.{mount_is, suits};
-ghost use Rattle.xt_base.specs.Steps.{slot_of};
+ghost use Rattle.xt_base.specs.Steps.{is_call, slot_of};
 ghost use Rattle.xt_base.specs.declared.sizes.TheConstants.{SLOTS};
 ghost use Rattle.xt_base.specs.declared.steps.Errno.TheVariants.{NoMemory};
 ghost use Rattle.xt_base.specs.declared.steps.Reply.{Reply as AReply};
 ghost use Rattle.xt_base.specs.declared.steps.Step.{Step as AStep};
-ghost use Rattle.xt_cell.specs.Books.{Adds, IsSameBook, count_of, entry, events_of, is_call, is_post, may_hold, next_number, unwritten};
+ghost use Rattle.xt_cell.specs.Books.{Adds, IsSameBook, count_of, entry, events_of, is_post, may_hold, next_number, unwritten};
 ghost use Rattle.xt_cell.specs.Counting.{counted};
 ghost use Rattle.xt_cell.specs.Events.{IsBooked};
 ghost use Rattle.xt_cell.specs.HostSeats.{Notes};
@@ -362,7 +362,7 @@ fn serve(
     ensures kept { OnErr result (slot.new ≡ slot.old) }
 {
     let reply = called(slot, step);
-    if is_no_memory(&reply) {
+    if reply.is_no_memory() {
         return Err(Errno::NoMemory);
     }
     match rooms.twin(alloc, &reply) {
@@ -385,7 +385,7 @@ fn serve_mount(
     ensures kept { OnErr result (slot.new ≡ slot.old) }
 {
     let reply = slot.mount(log_bytes, blocks);
-    if is_no_memory(&reply) {
+    if reply.is_no_memory() {
         return Err(Errno::NoMemory);
     }
     let told = plain_twin(&reply);
@@ -410,7 +410,7 @@ fn serve_begin(
     ensures kept { OnErr result (slot.new ≡ slot.old) }
 {
     let (reply, pieces) = slot.begin_shared(*name);
-    if is_no_memory(&reply) {
+    if reply.is_no_memory() {
         return Err(Errno::NoMemory);
     }
     let told = plain_twin(&reply);
@@ -596,13 +596,6 @@ fn is_post(step: &Step) -> bool
     ensures { result ≡ is_post step.now }
 {
     matches!(step, Step::Post(_))
-}
-
-/// Whether a reply is ENOMEM.
-pub(crate) fn is_no_memory(reply: &Reply) -> bool
-    ensures { result ≡ is_no_memory reply.now }
-{
-    matches!(reply, Reply::Refused(Errno::NoMemory))
 }
 
 /// What a slot makes of the step of a call.

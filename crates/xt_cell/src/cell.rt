@@ -28,7 +28,7 @@ ghost use Rattle.xt_queue.specs.Words.{word_of};
 
 use crate::account::Account;
 use crate::asking;
-use crate::book::{SlotBook, is_no_memory};
+use crate::book::SlotBook;
 use crate::event::{make_room, show_shut};
 use crate::house::House;
 use crate::mount_ref::MountRef;
@@ -144,7 +144,7 @@ impl<H: House, const S: u8> SlotCell<H, S> {
             ..
         } = self;
         let reply = serve_call(rt, *alloc, book, poster, seat, home, at.life, request);
-        if !is_no_memory(&reply) {
+        if !reply.is_no_memory() {
             show_shut(book, seat, board, is_asked, before);
         }
         reply
@@ -250,7 +250,7 @@ where
         return Reply::Refused(Errno::NoMemory);
     };
     let reply = book.call(seat, step, rooms);
-    if !is_no_memory(&reply) {
+    if !reply.is_no_memory() {
         post_both(rt, book, poster, seat.caller());
     }
     reply

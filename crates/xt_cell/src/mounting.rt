@@ -16,7 +16,7 @@ ghost use Rattle.xt_queue.specs.Names.{last_of, unposted};
 ghost use Rattle.xt_queue.specs.Words.{word_of};
 ghost use Rattle.xt_queue.specs.Boards.{Rises};
 
-use crate::book::{SlotBook, is_no_memory};
+use crate::book::SlotBook;
 use crate::cell::SlotCell;
 use crate::event::make_room;
 use crate::house::House;
@@ -152,7 +152,7 @@ where
         return Err(Errno::NoMemory);
     };
     let reply = book.mount(seat, log_bytes, blocks);
-    if is_no_memory(&reply) {
+    if reply.is_no_memory() {
         return Err(Errno::NoMemory);
     }
     post_both(rt, book, poster, seat.caller());
@@ -200,7 +200,7 @@ where
     };
     let slot = book.slot().slot();
     let reply = book.call(seat, unmount_twin(slot, life), Rooms::none());
-    if is_no_memory(&reply) {
+    if reply.is_no_memory() {
         return Err(Errno::NoMemory);
     }
     post_both(rt, book, poster, seat.caller());

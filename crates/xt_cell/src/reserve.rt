@@ -2,6 +2,7 @@
 
 ghost use Rattle.std.specs.Prelude.{◌≡◌, ◌+◌, ◌-◌, ◌<◌, ◌^◌, ◌↔◌, replicate, sum, length, None, IsSome, IfSome};
 ghost use Rattle.xt_base.specs.declared.sizes.TheConstants.{SLOTS};
+ghost use Rattle.xt_cell.specs.Ledgers.{AreCut, AreNamed};
 
 use crate::house::{House, Of};
 use crate::shares::Shares;
@@ -34,7 +35,7 @@ pub struct Blanks {
 impl Blanks {
     /// Sixteen ledgers, each cut into as many parts as a u64 counts: one for every seat that can ever be made.
     pub fn new() -> Self
-        ensures parts { (result.b0.parts ≡ 2 ^ 64 - 1) × (result.b1.parts ≡ 2 ^ 64 - 1) × (result.b2.parts ≡ 2 ^ 64 - 1) × (result.b3.parts ≡ 2 ^ 64 - 1) × (result.b4.parts ≡ 2 ^ 64 - 1) × (result.b5.parts ≡ 2 ^ 64 - 1) × (result.b6.parts ≡ 2 ^ 64 - 1) × (result.b7.parts ≡ 2 ^ 64 - 1) × (result.b8.parts ≡ 2 ^ 64 - 1) × (result.b9.parts ≡ 2 ^ 64 - 1) × (result.b10.parts ≡ 2 ^ 64 - 1) × (result.b11.parts ≡ 2 ^ 64 - 1) × (result.b12.parts ≡ 2 ^ 64 - 1) × (result.b13.parts ≡ 2 ^ 64 - 1) × (result.b14.parts ≡ 2 ^ 64 - 1) × (result.b15.parts ≡ 2 ^ 64 - 1) }
+        ensures parts { AreCut (2 ^ 64 - 1) result }
     {
         Blanks {
             b0: Blank::new(u64::MAX),
@@ -224,8 +225,8 @@ impl<H: House> Model for Reserve<H> {
 impl<H: House> Reserve<H> {
     /// Opens the sixteen ledgers of the house: their books, and the reserve, whose first seat has the number 1.
     pub fn open(blanks: Blanks) -> (Books<H>, Self)
-        requires names { (blanks.b0.name ≡ H.names 0) × (blanks.b1.name ≡ H.names 1) × (blanks.b2.name ≡ H.names 2) × (blanks.b3.name ≡ H.names 3) × (blanks.b4.name ≡ H.names 4) × (blanks.b5.name ≡ H.names 5) × (blanks.b6.name ≡ H.names 6) × (blanks.b7.name ≡ H.names 7) × (blanks.b8.name ≡ H.names 8) × (blanks.b9.name ≡ H.names 9) × (blanks.b10.name ≡ H.names 10) × (blanks.b11.name ≡ H.names 11) × (blanks.b12.name ≡ H.names 12) × (blanks.b13.name ≡ H.names 13) × (blanks.b14.name ≡ H.names 14) × (blanks.b15.name ≡ H.names 15) }
-        requires parts { (blanks.b0.parts ≡ H.all) × (blanks.b1.parts ≡ H.all) × (blanks.b2.parts ≡ H.all) × (blanks.b3.parts ≡ H.all) × (blanks.b4.parts ≡ H.all) × (blanks.b5.parts ≡ H.all) × (blanks.b6.parts ≡ H.all) × (blanks.b7.parts ≡ H.all) × (blanks.b8.parts ≡ H.all) × (blanks.b9.parts ≡ H.all) × (blanks.b10.parts ≡ H.all) × (blanks.b11.parts ≡ H.all) × (blanks.b12.parts ≡ H.all) × (blanks.b13.parts ≡ H.all) × (blanks.b14.parts ≡ H.all) × (blanks.b15.parts ≡ H.all) }
+        requires names { AreNamed H.names blanks }
+        requires parts { AreCut H.all blanks }
         requires all { H.all ≡ 2 ^ 64 - 1 }
         ensures totals { (result.0.b0.total ≡ 0) × (result.0.b1.total ≡ 0) × (result.0.b2.total ≡ 0) × (result.0.b3.total ≡ 0) × (result.0.b4.total ≡ 0) × (result.0.b5.total ≡ 0) × (result.0.b6.total ≡ 0) × (result.0.b7.total ≡ 0) × (result.0.b8.total ≡ 0) × (result.0.b9.total ≡ 0) × (result.0.b10.total ≡ 0) × (result.0.b11.total ≡ 0) × (result.0.b12.total ≡ 0) × (result.0.b13.total ≡ 0) × (result.0.b14.total ≡ 0) × (result.0.b15.total ≡ 0) }
         ensures next { result.1 ≡ 1 }

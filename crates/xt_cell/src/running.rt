@@ -23,7 +23,7 @@ ghost use Rattle.xt_queue.specs.Names.{last_of, unposted};
 ghost use Rattle.xt_queue.specs.Boards.{Rises};
 
 use crate::asking;
-use crate::book::{SlotBook, is_no_memory};
+use crate::book::SlotBook;
 use crate::cell::SlotCell;
 use crate::event::{make_room, show_shut};
 use crate::house::House;
@@ -241,7 +241,7 @@ where
         return (Reply::Refused(Errno::NoMemory), None);
     };
     let (reply, pieces) = started(book, seat, worker, name);
-    if is_no_memory(&reply) {
+    if reply.is_no_memory() {
         return (reply, pieces);
     }
     post_both(rt, book, poster, seat.caller());

@@ -112,7 +112,7 @@ impl HostCore {
         ensures range { slot_of step.now < SLOTS }
     {
         let reply = self.cells[step.slot().index()].serve(step);
-        if !is_no_memory(&reply) {
+        if !reply.is_no_memory() {
             self.turns.pass_on(step, &reply);
         }
         reply
@@ -156,7 +156,7 @@ impl HostCore {
         let slot = step.slot();
         let offers = self.cells[slot.index()].offers(self.alloc, step)?;
         let reply = self.serve(step);
-        if is_no_memory(&reply) {
+        if reply.is_no_memory() {
             let offers = Offers::none(slot);
             return Ok(Turn { reply, offers });
         }
@@ -173,20 +173,13 @@ impl HostCore {
     }
 }
 
-/// Whether a reply is ENOMEM.
-fn is_no_memory(reply: &Reply) -> bool
-    ensures { result ≡ is_no_memory reply.now }
-{
-    matches!(reply, Reply::Refused(Errno::NoMemory))
-}
-
 /// Notes a turn, and why its slot is shut then. The one error is want of memory.
 fn note(outcomes: &mut Outcomes, turn: Turn, reason: Option<Reason>) -> Result<(), AllocError>
     ensures told { OnOk result (outcomes.new ≡ told_then outcomes.old turn reason) }
     ensures range { OnOk result (turn.slot < SLOTS) }
 {
     let slot = turn.slot();
-    let refused = is_no_memory(&turn.reply);
+    let refused = turn.reply.is_no_memory();
     outcomes.add(turn)?;
     outcomes.note_shut(slot, reason);
     if refused {

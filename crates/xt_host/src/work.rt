@@ -103,7 +103,7 @@ impl<H: House> Host<H> {
             if let Some(job) = job {
                 return Some(job);
             }
-            if !is_no_memory(&reply) {
+            if !reply.is_no_memory() {
                 return None;
             }
             thread::yield_now();
@@ -142,18 +142,11 @@ impl<H: House> Host<H> {
             let Some(reply) = self.flush(rt, seat, worker, name) else {
                 return;
             };
-            if !is_no_memory(&reply) {
+            if !reply.is_no_memory() {
                 return;
             }
             thread::yield_now();
         }
         unreachable!()
     }
-}
-
-/// Whether a reply is ENOMEM.
-fn is_no_memory(reply: &Reply) -> bool
-    ensures { result ≡ is_no_memory reply.now }
-{
-    matches!(reply, Reply::Refused(Errno::NoMemory))
 }

@@ -18,7 +18,7 @@ pub struct Faults {
 }
 
 /// What is done to the slot.
-#[derive(Clone, Copy, Debug, PartialEq)]
+#[derive(Clone, Copy)]
 pub enum Deed {
     /// Mounts it, over the devices that are at hand.
     Mount,

@@ -2,6 +2,7 @@
 
 ghost use Rattle.std.specs.Prelude.{◌≡◌, ◌-◌, ◌^◌};
 ghost use Rattle.std.specs.Arc.{arc_value};
+ghost use Rattle.xt_cell.specs.Ledgers.{AreCut, AreNamed};
 
 use crate::fault::CloseFault;
 use crate::gate::Gate;
@@ -133,8 +134,8 @@ type Told = (CkptNo, (Forced, Forced), Result<(), CloseFault>);
 
 /// Mounts a volume, changes it, has it written, unmounts it, and ends the host.
 fn run<H: House, R: Abort + Wait>(rt: &R, alloc: Global, blanks: Blanks) -> Result<Told, Errno>
-    requires names { (blanks.b0.name ≡ H.names 0) × (blanks.b1.name ≡ H.names 1) × (blanks.b2.name ≡ H.names 2) × (blanks.b3.name ≡ H.names 3) × (blanks.b4.name ≡ H.names 4) × (blanks.b5.name ≡ H.names 5) × (blanks.b6.name ≡ H.names 6) × (blanks.b7.name ≡ H.names 7) × (blanks.b8.name ≡ H.names 8) × (blanks.b9.name ≡ H.names 9) × (blanks.b10.name ≡ H.names 10) × (blanks.b11.name ≡ H.names 11) × (blanks.b12.name ≡ H.names 12) × (blanks.b13.name ≡ H.names 13) × (blanks.b14.name ≡ H.names 14) × (blanks.b15.name ≡ H.names 15) }
-    requires parts { (blanks.b0.parts ≡ H.all) × (blanks.b1.parts ≡ H.all) × (blanks.b2.parts ≡ H.all) × (blanks.b3.parts ≡ H.all) × (blanks.b4.parts ≡ H.all) × (blanks.b5.parts ≡ H.all) × (blanks.b6.parts ≡ H.all) × (blanks.b7.parts ≡ H.all) × (blanks.b8.parts ≡ H.all) × (blanks.b9.parts ≡ H.all) × (blanks.b10.parts ≡ H.all) × (blanks.b11.parts ≡ H.all) × (blanks.b12.parts ≡ H.all) × (blanks.b13.parts ≡ H.all) × (blanks.b14.parts ≡ H.all) × (blanks.b15.parts ≡ H.all) }
+    requires names { AreNamed H.names blanks }
+    requires parts { AreCut H.all blanks }
     requires all { H.all ≡ 2 ^ 64 - 1 }
 {
     let Some(slot) = Slot::new(0) else {
@@ -165,7 +166,7 @@ fn run<H: House, R: Abort + Wait>(rt: &R, alloc: Global, blanks: Blanks) -> Resu
 
 /// The same over new ledgers.
 fn runs<R: Abort + Wait>(rt: &R, alloc: Global, blanks: Blanks) -> Result<Told, Errno>
-    requires parts { (blanks.b0.parts ≡ 2 ^ 64 - 1) × (blanks.b1.parts ≡ 2 ^ 64 - 1) × (blanks.b2.parts ≡ 2 ^ 64 - 1) × (blanks.b3.parts ≡ 2 ^ 64 - 1) × (blanks.b4.parts ≡ 2 ^ 64 - 1) × (blanks.b5.parts ≡ 2 ^ 64 - 1) × (blanks.b6.parts ≡ 2 ^ 64 - 1) × (blanks.b7.parts ≡ 2 ^ 64 - 1) × (blanks.b8.parts ≡ 2 ^ 64 - 1) × (blanks.b9.parts ≡ 2 ^ 64 - 1) × (blanks.b10.parts ≡ 2 ^ 64 - 1) × (blanks.b11.parts ≡ 2 ^ 64 - 1) × (blanks.b12.parts ≡ 2 ^ 64 - 1) × (blanks.b13.parts ≡ 2 ^ 64 - 1) × (blanks.b14.parts ≡ 2 ^ 64 - 1) × (blanks.b15.parts ≡ 2 ^ 64 - 1) }
+    requires parts { AreCut (2 ^ 64 - 1) blanks }
 {
     run::<Brand, R>(rt, alloc, blanks)
 }
