@@ -1,0 +1,6 @@
+use Rattle.std.proofs.Common.{◌≡◌}
+use Rattle.xt_host_speed.proofs.calls.make_busy.Given as goal
+
+-- the seat is of the host's board
+abbrev pub invariant-loop-turn : goal.invariant-loop-turn
+invariant-loop-turn g l = l.seat.board.board ≡ l.host.board

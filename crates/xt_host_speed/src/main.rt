@@ -1,0 +1,189 @@
+//! How fast a host of many slots serves, over devices that keep nothing.
+//!
+//! `xt_host_speed COUNT` does each thing that is measured so often, and prints transactions a second and what a call costs.
+//! Without COUNT it does a few and says how many.
+#![tactic(auto)]
+
+mod calls;
+mod client;
+mod null;
+mod rig;
+
+use crate::calls::{Call, Crowd, Trial};
+use crate::client::Change;
+use crate::rig::{Plan, Task, time};
+use anyhow::{Context, Result};
+use std::alloc::Global;
+use std::env;
+use std::sync::Wait;
+use std::time::{Clock, Duration};
+use xt_cell::reserve::Blanks;
+
+const SMALL: &str = "128 bytes of one block";
+
+const WHOLE: &str = "eight whole blocks";
+
+/// What the host has while calls are measured.
+const CROWDS: [Crowd; 7] = [
+    Crowd {
+        open: 1,
+        busy: 1,
+        mounts: 1,
+    },
+    Crowd {
+        open: 8,
+        busy: 1,
+        mounts: 1,
+    },
+    Crowd {
+        open: 32,
+        busy: 1,
+        mounts: 1,
+    },
+    Crowd {
+        open: 1,
+        busy: 16,
+        mounts: 1,
+    },
+    Crowd {
+        open: 1,
+        busy: 64,
+        mounts: 1,
+    },
+    Crowd {
+        open: 1,
+        busy: 1,
+        mounts: 4,
+    },
+    Crowd {
+        open: 1,
+        busy: 1,
+        mounts: 16,
+    },
+];
+
+/// How many a second.
+fn rate(count: u32, took: Duration) -> u128 {
+    let micros = took.as_micros();
+    if micros == 0 {
+        0
+    } else {
+        u128::from(count) * 1_000_000 / micros
+    }
+}
+
+/// Nanoseconds of one.
+fn cost(count: u32, took: Duration) -> u128 {
+    if count == 0 {
+        0
+    } else {
+        took.as_nanos() / u128::from(count)
+    }
+}
+
+/// The transactions that are measured, with their labels.
+fn plans(alloc: Global, count: u32) -> [(&'static str, Plan); 3] {
+    let small = Task::Transact(Change::small(alloc));
+    let whole = Task::Transact(Change::whole(alloc));
+    [
+        (
+            SMALL,
+            Plan {
+                task: small,
+                count,
+                mounts: 1,
+            },
+        ),
+        (
+            WHOLE,
+            Plan {
+                task: whole,
+                count: count / 8,
+                mounts: 1,
+            },
+        ),
+        (
+            SMALL,
+            Plan {
+                task: small,
+                count: count / 16,
+                mounts: 16,
+            },
+        ),
+    ]
+}
+
+/// What is printed of a measurement: its figures, or how often it was done.
+#[derive(Clone, Copy)]
+struct Report {
+    alloc: Global,
+    count: u32,
+    has_figures: bool,
+}
+
+/// Measures so many transactions of each of so many mounts, and prints how many a second.
+fn print_transactions<R: Wait + Clock + Print>(
+    rt: &R,
+    report: Report,
+    label: &str,
+    plan: &Plan,
+) -> Result<()> {
+    let Plan { count, mounts, .. } = *plan;
+    let took = time(rt, report.alloc, Blanks::new(), plan)?;
+    if report.has_figures {
+        let rate = rate(count.saturating_mul(u32::from(mounts)), took);
+        println!(rt; "{label}, {mounts} mounted: {rate} transactions/s")?;
+    } else {
+        println!(rt; "{label}, {mounts} mounted: {count} transactions of each")?;
+    }
+    Ok(())
+}
+
+/// What a call costs in a crowd, in nanoseconds.
+fn call_cost<R: Wait + Clock>(rt: &R, report: Report, call: Call, crowd: Crowd) -> Result<u128> {
+    let plan = Plan {
+        task: Task::Call(Trial { call, crowd }),
+        count: report.count,
+        mounts: crowd.mounts,
+    };
+    Ok(cost(report.count, time(rt, report.alloc, Blanks::new(), &plan)?))
+}
+
+/// Measures the calls in a crowd, and prints what one costs.
+fn print_calls<R: Wait + Clock + Print>(rt: &R, report: Report, crowd: Crowd) -> Result<()> {
+    let Crowd { open, busy, mounts } = crowd;
+    let lock = call_cost(rt, report, Call::Lock, crowd)?;
+    let log = call_cost(rt, report, Call::Log, crowd)?;
+    if report.has_figures {
+        println!(rt;
+            "{open} open, {busy} busy, {mounts} mounted: get and relse {lock} ns, log {log} ns"
+        )?;
+    } else {
+        println!(rt;
+            "{open} open, {busy} busy, {mounts} mounted: {} calls",
+            report.count
+        )?;
+    }
+    Ok(())
+}
+
+fn main(rt: HostRuntime) -> Result<()> {
+    let alloc = rt.alloc();
+    let word = env::args(&rt)?.nth(1);
+    let count = match &word {
+        Some(word) => word.parse::<u32>().context("COUNT")?,
+        None => 1000,
+    };
+    let report = Report {
+        alloc,
+        count,
+        has_figures: word.is_some(),
+    };
+    for (label, plan) in plans(alloc, count) {
+        print_transactions(&rt, report, label, &plan)?;
+    }
+    for crowd in CROWDS {
+        print_calls(&rt, report, crowd)?;
+    }
+    Ok(())
+}
