@@ -40,6 +40,14 @@ impl Account {
         self.count
     }
 
+    /// Its entries since its base, in order: the events of the slot, with the posts after them.
+    pub fn entries(&self) -> &[Entry]
+        ensures value { result.now ≡ self.now.entries }
+        ensures book { IsTrueAccount self.now }
+    {
+        &self.entries
+    }
+
     /// Whether a receipt that a caller kept has its entry here: at its number an entry of that caller with the receipt's step and
     /// reply. One that is older than the base has none any more, and is taken as it is.
     pub fn has_entry(&self, caller: Caller, receipt: &Receipt) -> bool

@@ -3,3 +3,4 @@ mod ReceiptLemmas
 mod ServedLemmas
 pub mod CommandLemmas
 mod WorkLemmas
+pub mod CrossLemmas

@@ -1,7 +1,7 @@
 -- What a worker leaves with its seat, one step after another.
 use Rattle.std.proofs.Common.{List, [], arith, ap, refl, subst, sym, ℕ, ◌++◌, ◌≡◌, ◌∙◌, ◌∷◌}
 use Rattle.std.proofs.Common.{Bool, false, true}
-use Rattle.std.specs.List.{All, Contains}
+use Rattle.std.specs.List.{Contains}
 use Rattle.xt_base.specs.Isolation.{is_no_memory}
 use Rattle.std.proofs.lemmas.List.{append-nil, append_assoc}
 use Rattle.std.proofs.lemmas.List.Elements.{All-append, All-cons, All-nil, Contains-append_left, Contains-append_right}

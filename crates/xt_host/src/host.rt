@@ -1,6 +1,6 @@
 //! The running host: sixteen locked slots, the queue of jobs, the board, and the seats to come.
 
-ghost use Rattle.std.specs.Prelude.{◌≡◌, ◌<◌, ◌+◌, ◌^◌, IfOk, IsErr, IfErr, OnErr, None, [], replicate, slice_index, slice_set};
+ghost use Rattle.std.specs.Prelude.{◌≡◌, ◌<◌, ◌+◌, ◌^◌, IfOk, IsErr, IfErr, OnErr, None, [], length, replicate, slice_index, slice_set};
 ghost use Rattle.std.specs.Arc.{arc_value};
 ghost use Rattle.xt_base.specs.declared.sizes.TheConstants.{SLOTS};
 ghost use Rattle.xt_base.specs.declared.steps.Errno.TheVariants.{NoSpace};
@@ -13,7 +13,9 @@ use crate::fault::CloseFault;
 use std::alloc::Global;
 use std::sync::{Arc, Mutex, Wait};
 use xt_base::names::{Life, Slot};
+use xt_base::sizes::SLOTS;
 use xt_base::steps::{Errno, Reason};
+use xt_cell::account::Account;
 use xt_cell::cell::SlotCell;
 use xt_cell::house::House;
 use xt_cell::reserve::Reserve;
@@ -89,11 +91,10 @@ impl<H: House> Host<H> {
         seat.peek(&self.board, slot)
     }
 
-    /// Ends the host: closes its sixteen books and compares them with the seats that came back. Nothing is handed back in either case.
-    pub fn close(self, seats: Vec<HostSeat<H>>, passes: Vec<WorkPass>) -> Result<(), CloseFault>
-        ensures { IsClosed seats.items result }
+    /// Closes its sixteen books.
+    pub(crate) fn into_books(self) -> [Account; SLOTS]
+        ensures { length result ≡ SLOTS }
     {
-        let _passes = passes;
         let Host {
             c0,
             c1,
@@ -113,7 +114,7 @@ impl<H: House> Host<H> {
             c15,
             ..
         } = self;
-        let books = [
+        [
             c0.into_inner().into_account(),
             c1.into_inner().into_account(),
             c2.into_inner().into_account(),
@@ -130,7 +131,15 @@ impl<H: House> Host<H> {
             c13.into_inner().into_account(),
             c14.into_inner().into_account(),
             c15.into_inner().into_account(),
-        ];
+        ]
+    }
+
+    /// Ends the host: closes its sixteen books and compares them with the seats that came back. Nothing is handed back in either case.
+    pub fn close(self, seats: Vec<HostSeat<H>>, passes: Vec<WorkPass>) -> Result<(), CloseFault>
+        ensures { IsClosed seats.items result }
+    {
+        let _passes = passes;
+        let books = self.into_books();
         compare_all(&books, &seats)
     }
 }

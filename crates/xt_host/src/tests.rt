@@ -5,7 +5,12 @@ ghost use Rattle.xt_cell.specs.Ledgers.{AreCut, AreNamed};
 
 mod example;
 mod lines;
+mod replay;
 mod rows;
+mod taking;
+mod tape;
+mod threads;
+mod volumes;
 
 use crate::fault::CloseFault;
 use crate::host::Host;

@@ -26,7 +26,7 @@ use xt_dev::mem_log::MemLog;
 use xt_queue::jobs::WorkPass;
 
 /// Lets a worker go once no name waits.
-struct UntilIdle;
+pub struct UntilIdle;
 
 impl Gate for UntilIdle {
     fn before(&self, _name: &JobName) {}
@@ -62,7 +62,12 @@ fn fill<H: House, R: Wait>(
 }
 
 /// Ends a transaction without what it did.
-fn give_up<H: House, R: Abort + Wait>(rt: &R, host: &Host<H>, seat: &mut HostSeat<H>, trans: Trans)
+pub fn give_up<H: House, R: Abort + Wait>(
+    rt: &R,
+    host: &Host<H>,
+    seat: &mut HostSeat<H>,
+    trans: Trans,
+)
     requires board { seat.old.board.board ≡ host.now.board }
     ensures board { seat.new.board.board ≡ seat.old.board.board }
 {
@@ -72,22 +77,17 @@ fn give_up<H: House, R: Abort + Wait>(rt: &R, host: &Host<H>, seat: &mut HostSea
     }
 }
 
-/// Changes a block in a transaction of its own: the number of the checkpoint that will have it.
-fn change<H: House, R: Abort + Wait>(
+/// Commits a transaction that holds nothing, and ends it without what it did where that is refused: the number of the checkpoint that
+/// will have it.
+pub fn finish<H: House, R: Abort + Wait>(
     rt: &R,
-    alloc: Global,
     host: &Host<H>,
     seat: &mut HostSeat<H>,
-    at: MountRef,
+    trans: Trans,
 ) -> Result<CkptNo, Errno>
     requires board { seat.old.board.board ≡ host.now.board }
     ensures board { seat.new.board.board ≡ seat.old.board.board }
 {
-    let mut trans = host.begin_trans(rt, seat, at, 5_000, 1, false)?;
-    if let Err(errno) = fill(rt, alloc, host, seat, &mut trans) {
-        give_up(rt, host, seat, trans);
-        return Err(errno);
-    }
     match host.commit(rt, seat, trans) {
         Ok((number, held)) => {
             none_held(rt, held);
@@ -102,6 +102,25 @@ fn change<H: House, R: Abort + Wait>(
             Err(errno)
         }
     }
+}
+
+/// Changes a block in a transaction of its own: the number of the checkpoint that will have it.
+pub fn change<H: House, R: Abort + Wait>(
+    rt: &R,
+    alloc: Global,
+    host: &Host<H>,
+    seat: &mut HostSeat<H>,
+    at: MountRef,
+) -> Result<CkptNo, Errno>
+    requires board { seat.old.board.board ≡ host.now.board }
+    ensures board { seat.new.board.board ≡ seat.old.board.board }
+{
+    let mut trans = host.begin_trans(rt, seat, at, 5_000, 1, false)?;
+    if let Err(errno) = fill(rt, alloc, host, seat, &mut trans) {
+        give_up(rt, host, seat, trans);
+        return Err(errno);
+    }
+    finish(rt, host, seat, trans)
 }
 
 /// Has a worker write a checkpoint, and then the block home: how far a force had come before and after the first.

@@ -57,7 +57,7 @@ pub fn mounted<H: House, R: Wait>(
 }
 
 /// Asks a mount something, or unmounts it.
-fn ask<H: House, R: Wait>(
+pub fn ask<H: House, R: Wait>(
     rt: &R,
     host: &Host<H>,
     seat: &mut HostSeat<H>,

@@ -1,0 +1,44 @@
+-- What a host lends to other threads.
+use denote.RattleType.{RattleType}
+use denote.Param.{number}
+use denote.Param.Object as object
+use denote.Struct.Declared.{shape}
+use denote.Param.Sent.{Sends}
+use denote.Param.Send.{AllSync, IsSend, IsSync, recorded_sync, struct_sync, sendable}
+use Rattle.std.proofs.Crossing.{crosses, dyn_box_send, Arc-sync}
+use Rattle.std.specs.contracts.sync.Mutex as mutex
+use Rattle.xt_cell.specs.declared.house.House.{Ghosts}
+use Rattle.xt_cell.specs.contracts.cell.SlotCell as cell
+use Rattle.xt_cell.proofs.book.SlotBook.TheSendSync as book
+use Rattle.xt_cell.proofs.poster.Poster.TheSendSync as poster
+use Rattle.xt_cell.specs.contracts.reserve.Reserve as reserves
+use Rattle.xt_cell.proofs.reserve.Reserve.TheSendSync as reserve
+use Rattle.xt_host.specs.contracts.host.Host as host
+use Rattle.xt_queue.proofs.board.Board.TheSendSync as board
+use Rattle.xt_queue.proofs.jobs.JobQueue.TheSendSync as queue
+
+module _ (H A B : RattleType) (g : Ghosts H.Denot) (ga : object.Ghosts A.Denot) (gb : object.Ghosts B.Denot)
+    (sa : Sends (object.table_of A.Denot ga)) (a : IsSend A) (sb : Sends (object.table_of B.Denot gb)) (b : IsSend B) where
+  pub cell_send : (S : RattleType) → IsSend (cell.the_row H S A B g ga gb)
+  cell_send S =
+      let home = dyn_box_send A ga sa a in
+      let log = dyn_box_send B gb sb b in
+      let post = poster.the_send S in
+      let page = book.the_send H S g in
+      search sendable depth 20
+
+  pub lock_sync : (S : RattleType) → IsSync (mutex.the_row (cell.the_row H S A B g ga gb))
+  lock_sync S = search (crosses, cell_send)
+
+  pub reserve_sync : IsSync (mutex.the_row (reserves.the_row H g))
+  reserve_sync = let r = reserve.the_send H g in search crosses
+
+  pub host_sync : IsSync (host.the_row H A B g ga gb)
+  host_sync =
+      let l = lock_sync in
+      let d = board.the_sync in
+      let q = Arc-sync _ queue.the_send queue.the_sync in
+      let r = reserve_sync in
+      let s = shape (host.the_type H A B g ga gb) in
+      let fields : AllSync s.fields = (search (sendable, crosses) depth 20, (search (sendable, crosses) depth 20, (d, (q, (r, (l (number 0), (l (number 1), (l (number 2), (l (number 3), (l (number 4), (l (number 5), (l (number 6), (l (number 7), (l (number 8), (l (number 9), (l (number 10), (l (number 11), (l (number 12), (l (number 13), (l (number 14), (l (number 15), tt))))))))))))))))))))) in
+      recorded_sync _ _ _ (host.the_type H A B g ga gb).to_one (struct_sync s fields)
