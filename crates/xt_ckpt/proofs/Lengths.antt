@@ -32,7 +32,7 @@ length-item : (block : ℕ) (set content : List ℕ) → length (item_text block
 length-item block set content = omega arith
 
 -- the items take what they cost
-length-items : (items : List Item) → AllByRecursion HasForm items → length (flat_map item_bytes items) ≡ sum_by item_len items
+pub length-items : (items : List Item) → AllByRecursion HasForm items → length (flat_map item_bytes items) ≡ sum_by item_len items
 length-items [] form = refl
 length-items (i ∷ is) form =
     let rest = length-items is form.1 in

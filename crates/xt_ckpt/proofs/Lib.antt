@@ -1,5 +1,6 @@
 pub mod Pieces
 pub mod Lengths
+pub mod Places
 pub mod Ways
 pub mod Steps
 pub mod TextReads

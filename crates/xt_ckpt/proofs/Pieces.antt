@@ -1,7 +1,8 @@
 -- A text that is cut every 4,096 bytes.
 use Rattle.std.proofs.Common.{◌≡◌, ◌∙◌, ℕ, zero, suc, ◌+◌, ◌-◌, ◌*◌, ◌/◌, ◌<◌, ◌≤◌, List, [], ◌∷◌, ◌++◌, length, get_or, take, drop, min, sym, ap, refl, arith, append_assoc}
 use Rattle.std.specs.List.{concat}
-use Rattle.std.proofs.lemmas.List.{drop-drop, length-take, length-drop, nil_from_length, take-append-drop, take_min, drop_min}
+use Rattle.std.specs.Prelude.{IsNone, Option, Some, ◌↔◌}
+use Rattle.std.proofs.lemmas.List.{drop-drop, drop_at, length-take, length-drop, nil_from_length, take-append-drop, take_at, take_min, drop_min}
 use Rattle.xt_base.specs.Text.{first_pieces, piece_count, pieces}
 
 -- what is not empty has one piece more than what is behind its first
@@ -14,12 +15,20 @@ pieces-more text h =
     let count : piece_count text ≡ suc (piece_count (drop 4096 text)) = count_more (length text) h ∙ ap (λ n. suc ((n + 4095) / 4096)) (sym (length-drop 4096 text)) in
     ap (λ n. first_pieces n text) count
 
--- one more piece is cut off
-pub cut_more : (done : List (List ℕ)) (rest : List ℕ) (all : List (List ℕ)) → 0 < length rest → done ++ pieces rest ≡ all
-    → (done ++ take (min 4096 (length rest)) rest ∷ []) ++ pieces (drop (min 4096 (length rest)) rest) ≡ all
-cut_more done rest all h e =
-    rw (take_min 4096 rest, drop_min 4096 rest, append_assoc done (take 4096 rest ∷ []) (pieces (drop 4096 rest)))
-    (ap (λ ps. done ++ ps) (sym (pieces-more rest h)) ∙ e)
+-- one more piece is given
+pub cut_more : (done : List (List ℕ)) (rest piece left : List ℕ) (all : List (List ℕ)) → 0 < length rest → rest ≡ piece ++ left → length piece ≡ min 4096 (length rest) → done ++ pieces rest ≡ all
+    → (done ++ piece ∷ []) ++ pieces left ≡ all
+cut_more done rest piece left all h parts size e =
+    let front : take 4096 rest ≡ piece = sym (take_min 4096 rest) ∙ ap (take (min 4096 (length rest))) parts ∙ take_at piece left (min 4096 (length rest)) size in
+    let back : drop 4096 rest ≡ left = sym (drop_min 4096 rest) ∙ ap (drop (min 4096 (length rest))) parts ∙ drop_at piece left (min 4096 (length rest)) size in
+    rw (append_assoc done (piece ∷ []) (pieces left)) ((ap (λ ps. done ++ ps) (sym (pieces-more rest h ∙ ap (λ p. p ∷ pieces (drop 4096 rest)) front ∙ ap (λ l. piece ∷ pieces l) back))) ∙ e)
+
+-- where a piece is given, there was something to come
+pub some_rest : (rest : List ℕ) (given : Option (List ℕ)) (piece : List ℕ) → given ≡ Some piece → (IsNone given ↔ (rest ≡ [])) → 0 < length rest
+some_rest [] given piece is none =
+    let nothing = none.1 refl in
+    absurd cc
+some_rest (byte ∷ rest) given piece is none = omega arith
 
 -- how many pieces there are
 length-first_pieces : (n : ℕ) (text : List ℕ) → length (first_pieces n text) ≡ n

@@ -11,9 +11,10 @@ use Rattle.xt_base.specs.Sound.{RisesFromKeys}
 use Rattle.xt_base.specs.Text.{item_text, pieces}
 use Rattle.xt_base.proofs.ChunkLemmas.{places_of-zero}
 use Rattle.xt_ckpt.specs.declared.item.Item.{Item}
-use Rattle.xt_ckpt.specs.Items.{item_bytes, checkpoint_text, HasForm, IsStored, BlocksRise}
-use Rattle.xt_ckpt.proofs.Pieces.{concat_pieces}
-use Rattle.xt_ckpt.specs.Grammar.{Entry, entry, entries, IsItem, AreItems, IsText}
+use Rattle.xt_ckpt.specs.Items.{item_bytes, checkpoint_len, checkpoint_text, HasForm, IsStored, BlocksRise}
+use Rattle.xt_ckpt.proofs.Lengths.{length_text}
+use Rattle.xt_ckpt.proofs.Pieces.{concat_pieces, few}
+use Rattle.xt_ckpt.specs.Grammar.{entry, entries, IsItem, AreItems, IsText}
 
 -- a set that is not empty has a word that is not 0
 some_word : (k : ℕ) (set : List ℕ) → places_of (word_of (k ∷ set)) ≡ k ∷ set → 0 < word_of (k ∷ set)
@@ -67,5 +68,11 @@ text_is number items first range some few stored form rises =
     }
 
 -- so are its pieces together
-pub pieces_are : (number : ℕ) (items : List Entry) (text : List ℕ) (cut : List (List ℕ)) → IsText text number items → cut ≡ pieces text → IsText (concat cut) number items
-pieces_are number items text cut is e = subst (λ t. IsText t number items) (sym (ap concat e ∙ concat_pieces text)) is
+pub is_text : (number : ℕ) (items : List Item) (cut : List (List ℕ)) → cut ≡ pieces (checkpoint_text number items) → 1 ≤ number → number < 2 ^ 64 → 1 ≤ length items → length items ≤ 64 → All IsStored items → All HasForm items → BlocksRise items
+    → IsText (concat cut) number (entries items)
+is_text number items cut e first range some many stored form rises =
+    subst (λ t. IsText t number (entries items)) (sym (ap concat e ∙ concat_pieces (checkpoint_text number items))) (text_is number items first range some many stored form rises)
+
+-- and there are at most 65 of them
+pub are_few : (number : ℕ) (items : List Item) (cut : List (List ℕ)) → cut ≡ pieces (checkpoint_text number items) → checkpoint_len items ≤ 263200 → All HasForm items → length cut ≤ 65
+are_few number items cut e cost form = subst (λ ps. length ps ≤ 65) (sym e) (few (checkpoint_text number items) (omega (arith, cost, length_text number items form)))

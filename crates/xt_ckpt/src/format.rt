@@ -5,3 +5,9 @@ pub const START: u32 = 0x5843_5031;
 
 /// The word behind its items, `XCE1`.
 pub const END: u32 = 0x5843_4531;
+
+/// The bytes of the three fields before the items, and of the three behind them.
+pub const END_BYTES: usize = 16;
+
+/// The bytes of an item's block, map and flag.
+pub const FIELD_BYTES: usize = 16;

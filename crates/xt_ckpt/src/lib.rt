@@ -1,15 +1,19 @@
 //! The text of a checkpoint: written from its items, and read again.
 #![tactic(auto)]
 
+mod costs;
 mod draft;
 pub mod format;
 pub mod item;
 pub mod laws;
+pub mod piece_writer;
+mod place;
 pub mod reading;
 #[cfg(test)]
 mod tests;
 pub mod writing;
 
 pub use item::Item;
+pub use piece_writer::PieceWriter;
 pub use reading::{Checkpoint, CkptFault, ReadFault, read_checkpoint};
 pub use writing::write_checkpoint;

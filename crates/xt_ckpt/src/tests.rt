@@ -3,20 +3,23 @@
 //! A test function is proved too, at a cost that grows with the square of its length. So rows stand
 //! in constants, helpers compare, and a test has few assertions.
 
-ghost use Rattle.std.specs.Prelude.{◌≡◌, ◌<◌, IfOk, IfSome};
+ghost use Rattle.std.specs.Prelude.{◌≡◌, ◌<◌, ◌≤◌, All, length, IfOk, IfSome};
 ghost use Rattle.xt_ckpt.specs.Items.{HasForm};
+ghost use Rattle.xt_ckpt.specs.Pieces.{IsOf};
 
 mod texts;
 
 use crate::item::Item;
+use crate::piece_writer::PieceWriter;
 use crate::reading::{Checkpoint, CkptFault, ReadFault, read_checkpoint};
 use crate::writing::write_checkpoint;
 use bytes::Bytes;
-use std::alloc::Global;
+use std::alloc::{AllocError, Global};
 use std::test::*;
 use texts::{OF_4096, OF_8192};
 use xt_base::chunks::Chunks;
 use xt_base::names::{Block, CkptNo};
+use xt_base::steps::Errno;
 
 /// One chunk of block 7, 176 bytes.
 const OF_176: &str =
@@ -319,7 +322,7 @@ fn logs(rt: HostRuntime) -> Result<(), Fail> {
 }
 
 /// The item of one block, with all bytes of its chunks the same.
-fn item_of(alloc: Global, block: u64, map: u32, byte: u8) -> Result<Item, Fail>
+fn item_of(alloc: Global, block: u64, map: u32, byte: u8) -> Result<Item, AllocError>
     ensures block { IfOk result (λ item. item.block ≡ block) }
     ensures form { IfOk result HasForm }
 {
@@ -356,6 +359,142 @@ fn cancel_written(rt: HostRuntime) -> Result<(), Fail> {
     let pieces = pieces_of(rt.alloc(), 0, 0)?;
     let text = bytes_of(rt.alloc(), OF_48)?;
     assert!(rt; matches!(pieces.as_slice(), [piece] if piece.as_slice() == text.as_slice()));
+    Ok(())
+}
+
+/// An item of one block, with these bytes.
+fn item_with(alloc: Global, block: u64, map: u32, spelled: &str) -> Result<Item, Fail>
+    ensures { IfOk result HasForm }
+{
+    let chunks = Chunks::of_word(map);
+    let content = bytes_of(alloc, spelled)?;
+    if content.len() != 128 * chunks.count() as usize {
+        return Err("128 bytes for each chunk".into());
+    }
+    Ok(Item {
+        block: Block(block),
+        chunks,
+        content,
+    })
+}
+
+/// Items of blocks one after another: up to `logged` with these chunks and bytes, from there
+/// on to `end` cancels.
+fn items_with(
+    alloc: Global,
+    blocks: (u64, u64, u64),
+    map: u32,
+    spelled: &str,
+) -> Result<Vec<Item>, Fail>
+    ensures { IfOk result (λ items. All HasForm items.items) }
+{
+    let (first, logged, end) = blocks;
+    let mut items = Vec::new(alloc);
+    for block in first..end {
+        let item = if block < logged {
+            item_with(alloc, block, map, spelled)?
+        } else {
+            item_with(alloc, block, 0, "")?
+        };
+        items.push(item)?;
+    }
+    Ok(items)
+}
+
+/// The pieces of checkpoint 1, one by one.
+fn one_by_one(alloc: Global, items: &[Item]) -> Result<Vec<Bytes>, Fail>
+    requires few { length items.now ≤ 64 }
+    requires form { All HasForm items.now }
+{
+    let mut writer = PieceWriter::new(CkptNo(1), items.len() as u32);
+    let mut pieces = Vec::new(alloc);
+    while let Some(piece) = writer.next(alloc, items)? {
+        pieces.push(piece)?;
+    }
+    Ok(pieces)
+}
+
+/// Whether pieces are a text that is cut every 4,096 bytes.
+fn are_cut(pieces: &[Bytes], text: &[u8]) -> bool {
+    let mut rest = text;
+    for piece in pieces {
+        match rest.split_at_checked(piece.len()) {
+            Some((front, behind)) if front == piece.as_slice() => {
+                if front.len() != 4096 && !behind.is_empty() {
+                    return false;
+                }
+                rest = behind;
+            }
+            _ => return false,
+        }
+    }
+    rest.is_empty()
+}
+
+/// Blocks with their chunks and bytes, the text of them, and how many pieces it has.
+type Written = ((u64, u64, u64), u32, &'static str, &'static str, usize);
+
+const WRITTEN: &[Written] = &[
+    ((7, 8, 8), 0xffff_ffff, "aa*4096", OF_4144, 2),
+    ((7, 8, 8), 0x2, "00*2.0102.00*124", OF_176, 1),
+    ((0, 28, 30), 0x1, "11*128", OF_4096, 1),
+    ((0, 30, 30), 0x3, "00*127.2222.00*127", OF_8192, 2),
+];
+
+/// How many pieces are given of items, where they are the text.
+fn count_of_text(alloc: Global, items: &[Item], spelled: &str) -> Result<usize, Fail>
+    requires { All HasForm items.now }
+{
+    let text = bytes_of(alloc, spelled)?;
+    if items.len() > 64 {
+        return Err("at most 64 items".into());
+    }
+    let pieces = one_by_one(alloc, items)?;
+    if !are_cut(&pieces, &text) {
+        return Err("the text, cut every 4,096 bytes".into());
+    }
+    Ok(pieces.len())
+}
+
+#[test]
+fn pieces_written(rt: HostRuntime) -> Result<(), Fail> {
+    for (blocks, map, spelled, text, count) in WRITTEN {
+        let items = items_with(rt.alloc(), *blocks, *map, spelled)?;
+        assert_eq!(rt; count_of_text(rt.alloc(), &items, text)?, *count);
+    }
+    Ok(())
+}
+
+/// How long the next piece is, asked again where a growth was refused.
+fn len_of_next(
+    writer: &mut PieceWriter,
+    alloc: Global,
+    items: &[Item],
+) -> Result<Option<usize>, Errno>
+    requires same { IsOf items.now writer.old }
+    requires few { length items.now ≤ 64 }
+    requires form { All HasForm items.now }
+    ensures { IsOf items.now writer.new }
+{
+    let piece = match writer.next(alloc, items) {
+        Err(Errno::NoMemory) => writer.next(alloc, items)?,
+        answer => answer?,
+    };
+    Ok(piece.map(|piece| piece.len()))
+}
+
+/// Where a growth is refused, the same call again gives the piece. Run it with each allocation
+/// failing in turn.
+#[test]
+fn piece_refused(rt: HostRuntime) -> Result<(), Errno> {
+    let Ok(item) = item_of(rt.alloc(), 7, 0xffff_ffff, 0xaa) else {
+        return Ok(());
+    };
+    let items = [item];
+    let mut writer = PieceWriter::new(CkptNo(1), 1);
+    for len in [Some(4096), Some(48), None] {
+        assert!(rt; len_of_next(&mut writer, rt.alloc(), &items)? == len);
+    }
     Ok(())
 }
 
