@@ -1,6 +1,9 @@
 pub mod AnswerLemmas
 pub mod ChainLemmas
 pub mod CutLemmas
+pub mod HostChains
+pub mod HostLemmas
 pub mod IntakeLemmas
 pub mod Loops
+pub mod SessionMaps
 pub mod StreamLemmas

@@ -1,4 +1,8 @@
 pub mod Cut
-pub mod Session
+pub mod Holding
+pub mod HostCalls
+pub mod HostSession
 pub mod Intake
+pub mod Names
+pub mod Session
 pub mod Turns
