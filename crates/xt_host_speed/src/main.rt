@@ -6,16 +6,19 @@
 
 mod calls;
 mod client;
+mod crew;
 mod null;
 mod rig;
 
 use crate::calls::{Call, Crowd, Trial};
 use crate::client::Change;
+use crate::crew::time_crew;
 use crate::rig::{Plan, Task, time};
 use anyhow::{Context, Result};
 use std::alloc::Global;
 use std::env;
 use std::sync::Wait;
+use std::thread::Threads;
 use std::time::{Clock, Duration};
 use xt_cell::reserve::Blanks;
 
@@ -139,6 +142,20 @@ fn print_transactions<R: Wait + Clock + Print>(
     Ok(())
 }
 
+/// Measures so many transactions of each of sixteen mounts by four threads, and prints how many a second.
+fn print_crew<R: Threads + Wait + Clock + Print + Sync>(rt: &R, report: Report) -> Result<()> {
+    let count = report.count / 16;
+    let change = Change::small(report.alloc);
+    let took = time_crew(rt, report.alloc, Blanks::new(), change, count)?;
+    if report.has_figures {
+        let rate = rate(count.saturating_mul(16), took);
+        println!(rt; "{SMALL}, 16 mounted, four threads: {rate} transactions/s")?;
+    } else {
+        println!(rt; "{SMALL}, 16 mounted, four threads: {count} transactions of each")?;
+    }
+    Ok(())
+}
+
 /// What a call costs in a crowd, in nanoseconds.
 fn call_cost<R: Wait + Clock>(rt: &R, report: Report, call: Call, crowd: Crowd) -> Result<u128> {
     let plan = Plan {
@@ -182,6 +199,7 @@ fn main(rt: HostRuntime) -> Result<()> {
     for (label, plan) in plans(alloc, count) {
         print_transactions(&rt, report, label, &plan)?;
     }
+    print_crew(&rt, report)?;
     for crowd in CROWDS {
         print_calls(&rt, report, crowd)?;
     }

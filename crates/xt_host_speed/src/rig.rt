@@ -2,6 +2,7 @@
 
 ghost use Rattle.std.specs.Prelude.{◌≡◌, ◌-◌, ◌^◌};
 ghost use Rattle.std.specs.Arc.{arc_value};
+ghost use Rattle.xt_cell.specs.Ledgers.{AreCut, AreNamed};
 
 use crate::calls::{Trial, time_calls};
 use crate::client::{Change, Client, refused, transact_all};
@@ -18,10 +19,10 @@ use xt_cell::reserve::Blanks;
 use xt_host::host::{BOOK_ENTRIES, Host};
 
 /// The bytes of a log.
-const LOG_BYTES: u32 = 16_777_216;
+pub const LOG_BYTES: u32 = 16_777_216;
 
 /// The blocks of a home device.
-const HOME_BLOCKS: u64 = 1_024;
+pub const HOME_BLOCKS: u64 = 1_024;
 
 /// What is measured.
 #[derive(Clone, Copy)]
@@ -88,7 +89,7 @@ fn time_task<H: House, R: Wait + Clock>(
 }
 
 /// Unmounts these mounts.
-fn unmount_all<H: House, R: Wait>(
+pub fn unmount_all<H: House, R: Wait>(
     rt: &R,
     host: &Host<H>,
     client: &mut Client<H>,
@@ -109,8 +110,8 @@ fn run<H: House, R: Wait + Clock>(
     blanks: Blanks,
     plan: &Plan,
 ) -> Result<Duration>
-    requires names { (blanks.b0.name ≡ H.names 0) × (blanks.b1.name ≡ H.names 1) × (blanks.b2.name ≡ H.names 2) × (blanks.b3.name ≡ H.names 3) × (blanks.b4.name ≡ H.names 4) × (blanks.b5.name ≡ H.names 5) × (blanks.b6.name ≡ H.names 6) × (blanks.b7.name ≡ H.names 7) × (blanks.b8.name ≡ H.names 8) × (blanks.b9.name ≡ H.names 9) × (blanks.b10.name ≡ H.names 10) × (blanks.b11.name ≡ H.names 11) × (blanks.b12.name ≡ H.names 12) × (blanks.b13.name ≡ H.names 13) × (blanks.b14.name ≡ H.names 14) × (blanks.b15.name ≡ H.names 15) }
-    requires parts { (blanks.b0.parts ≡ H.all) × (blanks.b1.parts ≡ H.all) × (blanks.b2.parts ≡ H.all) × (blanks.b3.parts ≡ H.all) × (blanks.b4.parts ≡ H.all) × (blanks.b5.parts ≡ H.all) × (blanks.b6.parts ≡ H.all) × (blanks.b7.parts ≡ H.all) × (blanks.b8.parts ≡ H.all) × (blanks.b9.parts ≡ H.all) × (blanks.b10.parts ≡ H.all) × (blanks.b11.parts ≡ H.all) × (blanks.b12.parts ≡ H.all) × (blanks.b13.parts ≡ H.all) × (blanks.b14.parts ≡ H.all) × (blanks.b15.parts ≡ H.all) }
+    requires names { AreNamed H.names blanks }
+    requires parts { AreCut H.all blanks }
     requires all { H.all ≡ 2 ^ 64 - 1 }
 {
     let (mut mounts, mut seats) = (Vec::new(alloc), Vec::with_capacity(alloc, 1)?);
@@ -138,7 +139,7 @@ fn run<H: House, R: Wait + Clock>(
 
 /// How long a plan takes, over new ledgers.
 pub fn time<R: Wait + Clock>(rt: &R, alloc: Global, blanks: Blanks, plan: &Plan) -> Result<Duration>
-    requires parts { (blanks.b0.parts ≡ 2 ^ 64 - 1) × (blanks.b1.parts ≡ 2 ^ 64 - 1) × (blanks.b2.parts ≡ 2 ^ 64 - 1) × (blanks.b3.parts ≡ 2 ^ 64 - 1) × (blanks.b4.parts ≡ 2 ^ 64 - 1) × (blanks.b5.parts ≡ 2 ^ 64 - 1) × (blanks.b6.parts ≡ 2 ^ 64 - 1) × (blanks.b7.parts ≡ 2 ^ 64 - 1) × (blanks.b8.parts ≡ 2 ^ 64 - 1) × (blanks.b9.parts ≡ 2 ^ 64 - 1) × (blanks.b10.parts ≡ 2 ^ 64 - 1) × (blanks.b11.parts ≡ 2 ^ 64 - 1) × (blanks.b12.parts ≡ 2 ^ 64 - 1) × (blanks.b13.parts ≡ 2 ^ 64 - 1) × (blanks.b14.parts ≡ 2 ^ 64 - 1) × (blanks.b15.parts ≡ 2 ^ 64 - 1) }
+    requires parts { AreCut (2 ^ 64 - 1) blanks }
 {
     run::<Brand, R>(rt, alloc, blanks, plan)
 }
