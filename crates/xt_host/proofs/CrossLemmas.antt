@@ -14,6 +14,7 @@ use Rattle.xt_cell.proofs.poster.Poster.TheSendSync as poster
 use Rattle.xt_cell.specs.contracts.reserve.Reserve as reserves
 use Rattle.xt_cell.proofs.reserve.Reserve.TheSendSync as reserve
 use Rattle.xt_host.specs.contracts.host.Host as host
+use Rattle.xt_host.specs.contracts.slot_lock.SlotLock as lock
 use Rattle.xt_queue.proofs.board.Board.TheSendSync as board
 use Rattle.xt_queue.proofs.jobs.JobQueue.TheSendSync as queue
 
@@ -27,8 +28,14 @@ module _ (H A B : RattleType) (g : Ghosts H.Denot) (ga : object.Ghosts A.Denot) 
       let page = book.the_send H S g in
       search sendable depth 20
 
-  pub lock_sync : (S : RattleType) → IsSync (mutex.the_row (cell.the_row H S A B g ga gb))
-  lock_sync S = search (crosses, cell_send)
+  pub mutex_sync : (S : RattleType) → IsSync (mutex.the_row (cell.the_row H S A B g ga gb))
+  mutex_sync S = search (crosses, cell_send)
+
+  pub lock_sync : (S : RattleType) → IsSync (lock.the_field H S A B g ga gb).row
+  lock_sync S =
+      let s = shape (lock.the_type H S A B g ga gb) in
+      let fields : AllSync s.fields = (mutex_sync S, (search (sendable, crosses) depth 20, tt)) in
+      struct_sync s fields
 
   pub reserve_sync : IsSync (mutex.the_row (reserves.the_row H g))
   reserve_sync = let r = reserve.the_send H g in search crosses

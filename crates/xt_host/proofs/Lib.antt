@@ -4,3 +4,4 @@ mod ServedLemmas
 pub mod CommandLemmas
 mod WorkLemmas
 pub mod CrossLemmas
+mod WaitLemmas

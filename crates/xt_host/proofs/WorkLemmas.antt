@@ -17,7 +17,7 @@ use Rattle.xt_host.specs.Calls.{Receives}
 use Rattle.xt_host.specs.Work.{IsJobStep, IsWorkOf, Worked, counted_each}
 
 -- the counts after two lists of receipts
-each_append : (xs ys : List Receipt) (counts : List ℕ) → counted_each (xs ++ ys) counts ≡ counted_each ys (counted_each xs counts)
+pub each_append : (xs ys : List Receipt) (counts : List ℕ) → counted_each (xs ++ ys) counts ≡ counted_each ys (counted_each xs counts)
 each_append [] ys counts = refl
 each_append (x ∷ xs) ys counts = each_append xs ys (counted x.slot counts)
 

@@ -1,5 +1,5 @@
 -- What each command makes of the seat that it is given by.
-use Rattle.std.specs.Prelude.{IfErr, IfOk, IfSome, None, OnErr, OnOk, false, slice_index, true, ℕ, ⊤, ◌<◌, ◌≡◌}
+use Rattle.std.specs.Prelude.{Bool, IfErr, IfOk, IfSome, None, OnErr, OnOk, false, slice_index, true, ℕ, ⊤, ◌<◌, ◌≡◌}
 use Rattle.xt_base.specs.Calls.{is_unmount}
 use Rattle.xt_base.specs.Isolation.{is_no_memory}
 use Rattle.xt_base.specs.Jobs.{is_ckpt}
@@ -22,23 +22,28 @@ use Rattle.xt_queue.specs.Words.{word_of}
 module _ {A B : Type 0} {IsA : A → Type 0} {IsB : B → Type 0} where
   -- the slot of a command
   abbrev pub slot_of : Command A B IsA IsB → ℕ
-  slot_of (Do.Call at request) = at.slot
+  slot_of (Do.Call at request waits) = at.slot
   slot_of (Do.Mount slot log_bytes blocks home log) = slot
   slot_of (Do.Unmount at) = at.slot
   slot_of (Do.Begin worker name) = name.slot
   slot_of (Do.End done) = done.name.slot
   slot_of (Do.Flush worker name) = name.slot
 
+  -- whether a command is a call that waits
+  abbrev pub does_wait : Command A B IsA IsB → Bool
+  does_wait (Do.Call at request waits) = waits
+  does_wait other = false
+
   -- no call is an unmount, and a job is begun or flushed by its kind
   abbrev pub MayBe : Command A B IsA IsB → Type 0
-  MayBe (Do.Call at request) = is_unmount request ≡ false
+  MayBe (Do.Call at request waits) = is_unmount request ≡ false
   MayBe (Do.Begin worker name) = is_ckpt name.kind ≡ true
   MayBe (Do.Flush worker name) = is_ckpt name.kind ≡ false
   MayBe other = ⊤
 
   -- what comes of a command, and of the seat
   abbrev pub Did : Command A B IsA IsB → HostSeatView → HostSeatView → Outcome A B IsA IsB → Type 0
-  Did (Do.Call at request) old new (Came.Called reply) =
+  Did (Do.Call at request waits) old new (Came.Called reply) =
       (is_no_memory reply ≡ true → IsSameSeat old new)
       × (is_no_memory reply ≡ false → (answer : Answer) × Receives at.slot (Step.Call at.slot at.life request answer) reply old new)
       × (is_no_memory reply ≡ false → is_read request ≡ false → Receives at.slot (Step.Call at.slot at.life request Answered.None) reply old new)

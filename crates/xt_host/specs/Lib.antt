@@ -4,4 +4,5 @@ pub mod Commands
 pub mod Held
 pub mod Making
 pub mod Tokens
+pub mod Waiting
 pub mod Work

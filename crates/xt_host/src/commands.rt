@@ -11,7 +11,7 @@ ghost use Rattle.xt_base.specs.declared.steps.Request.TheVariants as ARequest;
 ghost use Rattle.xt_base.specs.declared.steps.Step.{Step as AStep};
 ghost use Rattle.xt_cell.specs.HostSeats.{IsSameSeat};
 ghost use Rattle.xt_host.specs.Calls.{Receives, with_counts};
-ghost use Rattle.xt_host.specs.Commands.{Did, MayBe, slot_of};
+ghost use Rattle.xt_host.specs.Commands.{Did, MayBe, does_wait, slot_of};
 ghost use Rattle.xt_queue.specs.Boards.{Rises};
 ghost use Rattle.xt_queue.specs.Words.{word_of};
 
@@ -33,10 +33,11 @@ use xt_queue::board::Board;
 
 /// Something to do with one locked slot.
 pub enum Command {
-    /// Serves a request to a mount.
+    /// Serves a request to a mount. One that waits sleeps until the slot changes, where its reply asks to try again.
     Call {
         at: MountRef,
         request: Request,
+        waits: bool,
     },
     /// Mounts the slot anew over these devices.
     Mount {
@@ -89,6 +90,13 @@ impl Command {
         }
     }
 
+    /// Whether it is a call that waits.
+    pub fn waits(&self) -> bool
+        ensures { result ≡ does_wait self.now }
+    {
+        matches!(self, Command::Call { waits: true, .. })
+    }
+
     /// Does it with its slot.
     pub fn run<H: House, R: Wait, const S: u8>(
         self,
@@ -106,9 +114,11 @@ impl Command {
         ensures board { seat.new.board.board ≡ seat.old.board.board }
     {
         match self {
-            Command::Call { at, request } => {
-                Outcome::Called(called(rt, cell, seat, board, at, request))
-            }
+            Command::Call {
+                at,
+                request,
+                waits: _,
+            } => Outcome::Called(called(rt, cell, seat, board, at, request)),
             Command::Mount {
                 slot: _,
                 log_bytes,

@@ -10,13 +10,13 @@ ghost use Rattle.xt_queue.specs.Words.{word_of};
 
 use crate::comparing::compare_all;
 use crate::fault::CloseFault;
+use crate::slot_lock::SlotLock;
 use std::alloc::Global;
 use std::sync::{Arc, Mutex, Wait};
 use xt_base::names::{Life, Slot};
 use xt_base::sizes::SLOTS;
 use xt_base::steps::{Errno, Reason};
 use xt_cell::account::Account;
-use xt_cell::cell::SlotCell;
 use xt_cell::house::House;
 use xt_cell::reserve::Reserve;
 use xt_cell::seat::HostSeat;
@@ -34,22 +34,22 @@ pub struct Host<H: House> {
     pub(crate) board: Board,
     pub(crate) queue: Arc<JobQueue, Global>,
     pub(crate) reserve: Mutex<Reserve<H>>,
-    pub(crate) c0: Mutex<SlotCell<H, 0>>,
-    pub(crate) c1: Mutex<SlotCell<H, 1>>,
-    pub(crate) c2: Mutex<SlotCell<H, 2>>,
-    pub(crate) c3: Mutex<SlotCell<H, 3>>,
-    pub(crate) c4: Mutex<SlotCell<H, 4>>,
-    pub(crate) c5: Mutex<SlotCell<H, 5>>,
-    pub(crate) c6: Mutex<SlotCell<H, 6>>,
-    pub(crate) c7: Mutex<SlotCell<H, 7>>,
-    pub(crate) c8: Mutex<SlotCell<H, 8>>,
-    pub(crate) c9: Mutex<SlotCell<H, 9>>,
-    pub(crate) c10: Mutex<SlotCell<H, 10>>,
-    pub(crate) c11: Mutex<SlotCell<H, 11>>,
-    pub(crate) c12: Mutex<SlotCell<H, 12>>,
-    pub(crate) c13: Mutex<SlotCell<H, 13>>,
-    pub(crate) c14: Mutex<SlotCell<H, 14>>,
-    pub(crate) c15: Mutex<SlotCell<H, 15>>,
+    pub(crate) c0: SlotLock<H, 0>,
+    pub(crate) c1: SlotLock<H, 1>,
+    pub(crate) c2: SlotLock<H, 2>,
+    pub(crate) c3: SlotLock<H, 3>,
+    pub(crate) c4: SlotLock<H, 4>,
+    pub(crate) c5: SlotLock<H, 5>,
+    pub(crate) c6: SlotLock<H, 6>,
+    pub(crate) c7: SlotLock<H, 7>,
+    pub(crate) c8: SlotLock<H, 8>,
+    pub(crate) c9: SlotLock<H, 9>,
+    pub(crate) c10: SlotLock<H, 10>,
+    pub(crate) c11: SlotLock<H, 11>,
+    pub(crate) c12: SlotLock<H, 12>,
+    pub(crate) c13: SlotLock<H, 13>,
+    pub(crate) c14: SlotLock<H, 14>,
+    pub(crate) c15: SlotLock<H, 15>,
 }
 
 impl<H: House> Host<H> {
@@ -115,22 +115,22 @@ impl<H: House> Host<H> {
             ..
         } = self;
         [
-            c0.into_inner().into_account(),
-            c1.into_inner().into_account(),
-            c2.into_inner().into_account(),
-            c3.into_inner().into_account(),
-            c4.into_inner().into_account(),
-            c5.into_inner().into_account(),
-            c6.into_inner().into_account(),
-            c7.into_inner().into_account(),
-            c8.into_inner().into_account(),
-            c9.into_inner().into_account(),
-            c10.into_inner().into_account(),
-            c11.into_inner().into_account(),
-            c12.into_inner().into_account(),
-            c13.into_inner().into_account(),
-            c14.into_inner().into_account(),
-            c15.into_inner().into_account(),
+            c0.into_account(),
+            c1.into_account(),
+            c2.into_account(),
+            c3.into_account(),
+            c4.into_account(),
+            c5.into_account(),
+            c6.into_account(),
+            c7.into_account(),
+            c8.into_account(),
+            c9.into_account(),
+            c10.into_account(),
+            c11.into_account(),
+            c12.into_account(),
+            c13.into_account(),
+            c14.into_account(),
+            c15.into_account(),
         ]
     }
 

@@ -3,6 +3,7 @@
 
 mod admin;
 mod ask;
+mod attempt;
 mod commands;
 pub mod comparing;
 pub mod counting;
@@ -14,10 +15,12 @@ mod leg;
 mod making;
 pub mod outcomes;
 pub mod receipts;
+mod slot_lock;
 pub mod slots;
 #[cfg(test)]
 mod tests;
 pub mod tokens;
 mod told;
 mod trans;
+mod waiting;
 pub mod work;

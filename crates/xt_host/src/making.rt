@@ -11,6 +11,7 @@ ghost use Rattle.xt_host.specs.Making.{MayHave};
 ghost use Rattle.xt_cell.specs.Ledgers.{AreCut, AreNamed};
 
 use crate::host::{BOOK_ENTRIES, Host};
+use crate::slot_lock::SlotLock;
 use std::alloc::{AllocError, Global};
 use std::sync::ledger::Book;
 use std::sync::{Arc, Mutex};
@@ -29,10 +30,10 @@ use xt_queue::jobs::{JobQueue, Passes, PostPass, WorkPass};
 /// Four cells.
 #[derive(Drop)]
 struct Four<H: House, const A: u8, const B: u8, const C: u8, const D: u8> {
-    a: Mutex<SlotCell<H, A>>,
-    b: Mutex<SlotCell<H, B>>,
-    c: Mutex<SlotCell<H, C>>,
-    d: Mutex<SlotCell<H, D>>,
+    a: SlotLock<H, A>,
+    b: SlotLock<H, B>,
+    c: SlotLock<H, C>,
+    d: SlotLock<H, D>,
 }
 
 /// All sixteen.
@@ -50,7 +51,7 @@ fn next_cell<H: House, const S: u8>(
     count: Book<Of<H, S>>,
     queue: &Arc<JobQueue, Global>,
     posts: &mut Vec<PostPass>,
-) -> Result<Mutex<SlotCell<H, S>>, AllocError>
+) -> Result<SlotLock<H, S>, AllocError>
     requires slot { S < SLOTS }
     requires none { count.total ≡ 0 }
     requires posts { posts.old.items ≡ fresh_posts (arc_value queue.now) (S + 1) }
@@ -62,7 +63,7 @@ fn next_cell<H: House, const S: u8>(
     };
     let poster = Poster::new(queue, pass);
     let book = SlotBook::new(alloc, slot, count);
-    Ok(Mutex::new(SlotCell::new(alloc, book, poster, None, None)))
+    Ok(SlotLock::new(SlotCell::new(alloc, book, poster, None, None)))
 }
 
 /// The cells of four slots, from the highest down, with the last four of the passes that are left. The one error is want of memory.

@@ -36,29 +36,29 @@ use xt_queue::jobs::WorkPass;
 
 impl<H: House> Host<H> {
     /// Locks the slot of a command, and does it there.
-    fn serve<R: Wait>(&self, rt: &R, seat: &mut HostSeat<H>, command: Command) -> Outcome
+    pub(crate) fn serve<R: Wait>(&self, rt: &R, seat: &mut HostSeat<H>, command: Command) -> Outcome
         requires kind { MayBe command }
         requires board { seat.old.board.board ≡ self.now.board }
         ensures did { Did command seat.old seat.new result }
         ensures board { seat.new.board.board ≡ seat.old.board.board }
     {
         match command.slot().index() {
-            0 => command.run(rt, &mut *self.c0.lock(rt), seat, &self.board),
-            1 => command.run(rt, &mut *self.c1.lock(rt), seat, &self.board),
-            2 => command.run(rt, &mut *self.c2.lock(rt), seat, &self.board),
-            3 => command.run(rt, &mut *self.c3.lock(rt), seat, &self.board),
-            4 => command.run(rt, &mut *self.c4.lock(rt), seat, &self.board),
-            5 => command.run(rt, &mut *self.c5.lock(rt), seat, &self.board),
-            6 => command.run(rt, &mut *self.c6.lock(rt), seat, &self.board),
-            7 => command.run(rt, &mut *self.c7.lock(rt), seat, &self.board),
-            8 => command.run(rt, &mut *self.c8.lock(rt), seat, &self.board),
-            9 => command.run(rt, &mut *self.c9.lock(rt), seat, &self.board),
-            10 => command.run(rt, &mut *self.c10.lock(rt), seat, &self.board),
-            11 => command.run(rt, &mut *self.c11.lock(rt), seat, &self.board),
-            12 => command.run(rt, &mut *self.c12.lock(rt), seat, &self.board),
-            13 => command.run(rt, &mut *self.c13.lock(rt), seat, &self.board),
-            14 => command.run(rt, &mut *self.c14.lock(rt), seat, &self.board),
-            15 => command.run(rt, &mut *self.c15.lock(rt), seat, &self.board),
+            0 => self.c0.serve(rt, seat, &self.board, command),
+            1 => self.c1.serve(rt, seat, &self.board, command),
+            2 => self.c2.serve(rt, seat, &self.board, command),
+            3 => self.c3.serve(rt, seat, &self.board, command),
+            4 => self.c4.serve(rt, seat, &self.board, command),
+            5 => self.c5.serve(rt, seat, &self.board, command),
+            6 => self.c6.serve(rt, seat, &self.board, command),
+            7 => self.c7.serve(rt, seat, &self.board, command),
+            8 => self.c8.serve(rt, seat, &self.board, command),
+            9 => self.c9.serve(rt, seat, &self.board, command),
+            10 => self.c10.serve(rt, seat, &self.board, command),
+            11 => self.c11.serve(rt, seat, &self.board, command),
+            12 => self.c12.serve(rt, seat, &self.board, command),
+            13 => self.c13.serve(rt, seat, &self.board, command),
+            14 => self.c14.serve(rt, seat, &self.board, command),
+            15 => self.c15.serve(rt, seat, &self.board, command),
             _ => unreachable!(),
         }
     }
@@ -82,7 +82,12 @@ impl<H: House> Host<H> {
         ensures board { seat.new.board.board ≡ seat.old.board.board }
         ensures rises { Rises seat.old.board.seen seat.new.board.seen }
     {
-        match self.serve(rt, seat, Command::Call { at, request }) {
+        let command = Command::Call {
+            at,
+            request,
+            waits: false,
+        };
+        match self.serve(rt, seat, command) {
             Outcome::Called(reply) => reply,
             _ => unreachable!(),
         }

@@ -11,6 +11,7 @@ mod taking;
 mod tape;
 mod threads;
 mod volumes;
+mod waiting;
 
 use crate::fault::CloseFault;
 use crate::host::Host;

@@ -1,4 +1,3 @@
-use Rattle.std.proofs.Common.{rules, ◌≡◌}
 use Rattle.xt_host.proofs.host.Host.close.Goals as goal
 
 -- the comparison of its sixteen books
