@@ -9,7 +9,7 @@ use Rattle.std.specs.Prelude.{if◌then◌else◌}
 use Rattle.xt_base.specs.declared.steps.Step.{Step}
 use Rattle.xt_base.specs.declared.steps.Step.TheVariants.{Begin, Call, End, Flush, Mount, Peek, Post, Show, Take}
 use Rattle.xt_base.specs.Steps.{is_call}
-use Rattle.xt_cell.specs.Books.{IsTrueBook, Replays, base_of, count_of, entry, is_post}
+use Rattle.xt_cell.specs.Books.{BaseView, IsTrueBook, Replays, count_of, entry, is_post}
 use Rattle.xt_cell.specs.declared.records.Entry.{Entry}
 use Rattle.xt_mount.specs.Slots.{IsServed, SlotState}
 
@@ -61,19 +61,20 @@ count_few (e ∷ es) =
     let rest = count_few es in
     omega (arith, split, one, rest)
 
-module _ (slot folded events : ℕ) (entries later : List Entry) (old new : SlotState) (total caller : ℕ) (x y : Step) (r q : Reply) where
+module _ (slot : ℕ) (base : BaseView) (entries later : List Entry) (old new : SlotState) (total caller : ℕ) (x y : Step) (r q : Reply) where
   written : y ≡ x → q ≡ r → entries ++ entry caller y q ∷ [] ≡ entries ++ entry caller x r ∷ []
   written step_is reply_is = ap (λ z. entries ++ entry caller z q ∷ []) step_is ∙ ap (λ z. entries ++ entry caller x z ∷ []) reply_is
 
   -- a book with one event more
-  pub written_book : (more : ℕ) → IsTrueBook slot folded events entries old total → IsServed x r new old → is_post x ≡ false → length entries < 2 ^ 62
-      → later ≡ entries ++ entry caller y q ∷ [] → y ≡ x → q ≡ r → more ≡ total + 1 → IsTrueBook slot folded events later new more
+  pub written_book : (more : ℕ) → IsTrueBook slot base entries old total → IsServed x r new old → is_post x ≡ false → length entries < 2 ^ 62
+      → later ≡ entries ++ entry caller y q ∷ [] → y ≡ x → q ≡ r → more ≡ total + 1 → IsTrueBook slot base later new more
   written_book more book served other room is step_is reply_is raised =
       let count = count_call entries caller x r other in
       let size = length-append entries (entry caller x r ∷ []) in
       let was = book.counts in
-      subst (λ es. IsTrueBook slot folded events es new more) (sym (is ∙ written step_is reply_is)) (record {
-        replays = replays_snoc (base_of slot folded events).state entries old new caller x r book.replays served;
+      subst (λ es. IsTrueBook slot base es new more) (sym (is ∙ written step_is reply_is)) (record {
+        replays = replays_snoc base.state entries old new caller x r book.replays served;
+        base_number = book.base_number;
         number = served.slot ∙ book.number;
         counts = omega (arith, count, was, raised);
         some_folded = book.some_folded;
@@ -82,14 +83,15 @@ module _ (slot folded events : ℕ) (entries later : List Entry) (old new : Slot
       })
 
   -- a book with one post more
-  pub posted_book : IsTrueBook slot folded events entries old total → IsServed x r new old → is_post x ≡ true → length entries < 2 ^ 62
-      → later ≡ entries ++ entry caller y q ∷ [] → y ≡ x → q ≡ r → IsTrueBook slot folded events later new total
+  pub posted_book : IsTrueBook slot base entries old total → IsServed x r new old → is_post x ≡ true → length entries < 2 ^ 62
+      → later ≡ entries ++ entry caller y q ∷ [] → y ≡ x → q ≡ r → IsTrueBook slot base later new total
   posted_book book served post room is step_is reply_is =
       let count = count_post entries caller x r post in
       let size = length-append entries (entry caller x r ∷ []) in
       let was = book.counts in
-      subst (λ es. IsTrueBook slot folded events es new total) (sym (is ∙ written step_is reply_is)) (record {
-        replays = replays_snoc (base_of slot folded events).state entries old new caller x r book.replays served;
+      subst (λ es. IsTrueBook slot base es new total) (sym (is ∙ written step_is reply_is)) (record {
+        replays = replays_snoc base.state entries old new caller x r book.replays served;
+        base_number = book.base_number;
         number = served.slot ∙ book.number;
         counts = omega (arith, count, was);
         some_folded = book.some_folded;
@@ -98,8 +100,8 @@ module _ (slot folded events : ℕ) (entries later : List Entry) (old new : Slot
       })
 
 -- there is room for one event more in the ledger
-pub few_events : (slot folded events : ℕ) (entries : List Entry) (state : SlotState) (total : ℕ) → IsTrueBook slot folded events entries state total → length entries < 2 ^ 62 → total < 2 ^ 63
-few_events slot folded events entries state total book room =
+pub few_events : (slot : ℕ) (base : BaseView) (entries : List Entry) (state : SlotState) (total : ℕ) → IsTrueBook slot base entries state total → length entries < 2 ^ 62 → total < 2 ^ 63
+few_events slot base entries state total book room =
     let count = count_few entries in let was = book.counts in let some = book.some_folded in let folded_few = book.few_folded in
     omega (arith, count, was, some, folded_few, room)
 
@@ -108,3 +110,7 @@ pub count_first : (e : Entry) (es : List Entry) → count_of (e ∷ es) ≡ (if 
 count_first e es =
     let split : count_of (e ∷ es) ≡ 0 + (if not (is_post e.step) then 1 else 0) + count_of es = sum_by-append _ (e ∷ []) es in
     omega (arith, split)
+
+-- a book is true of the number that its base keeps
+pub own_number : (slot : ℕ) (base : BaseView) (entries : List Entry) (state : SlotState) (total : ℕ) → IsTrueBook slot base entries state total → IsTrueBook base.state.slot base entries state total
+own_number slot base entries state total book = subst (λ n. IsTrueBook n base entries state total) (sym book.base_number) book

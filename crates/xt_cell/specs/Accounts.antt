@@ -13,7 +13,7 @@ pub record AccountView : Type 0 where
 
 -- its entries lead from its base to some state of the slot, with those replies, and it counts those that are no posts, folded ones too
 abbrev pub IsTrueAccount : AccountView → Type 0
-IsTrueAccount a = (state : SlotState) × IsTrueBook a.base.state.slot a.base.folded a.base.events a.entries state a.count
+IsTrueAccount a = (state : SlotState) × IsTrueBook a.base.state.slot a.base a.entries state a.count
 
 -- an entry is that of a receipt which a caller kept
 abbrev pub IsEntryOf : ℕ → Receipt → Entry → Type 0

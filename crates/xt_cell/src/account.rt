@@ -5,13 +5,14 @@ ghost use Rattle.xt_cell.specs.Accounts.{HasEntry, IsEntryOf, IsTrueAccount};
 
 use crate::records::{Entry, Receipt};
 use std::marker::Model;
-use xt_base::names::{Caller, Slot};
+use xt_base::names::Caller;
+use xt_mount::state::SlotState;
 
 /// A closed book: a contract sees its base, its entries, and how many events it counts, folded ones too. Of every closed book it
 /// holds that it is a true one: its entries lead from its base to some state of the slot.
 #[derive(Drop)]
 pub struct Account {
-    pub(crate) slot: Slot,
+    pub(crate) base: SlotState,
     pub(crate) folded: u64,
     pub(crate) events: u64,
     pub(crate) entries: Vec<Entry>,
@@ -26,12 +27,26 @@ impl Model for Account {
 
     ghost Value = { AccountView };
 
-    ghost view = { λ a. record { base = base_of a.slot a.folded a.events; entries = a.entries.items; count = a.count } };
+    ghost view = { λ a. record { base = base_of a.base a.folded a.events; entries = a.entries.items; count = a.count } };
 
-    ghost invariant = { λ a. (state : SlotState) × IsTrueBook a.slot a.folded a.events a.entries.items state a.count };
+    ghost invariant = { λ a. (state : SlotState) × IsTrueBook a.base.slot (base_of a.base a.folded a.events) a.entries.items state a.count };
 }
 
 impl Account {
+    /// The slot where the book begins: one that was never mounted, or what it was at the last fold.
+    pub fn base(&self) -> &SlotState
+        ensures { result.now ≡ self.now.base.state }
+    {
+        &self.base
+    }
+
+    /// How many entries were folded into the base: the number of the first entry that the book still has.
+    pub fn folded(&self) -> u64
+        ensures { result ≡ self.now.base.folded }
+    {
+        self.folded
+    }
+
     /// How many of its entries are no posts, folded ones counted.
     pub fn count(&self) -> u64
         ensures value { result ≡ self.now.count }

@@ -1,5 +1,6 @@
 //! The book of a slot: its mount, and every event that brought the mount there.
 
+ghost use Rattle.std.specs.Bool.{OnFalse, OnTrue};
 ghost use Rattle.std.specs.Prelude.{◌≡◌, ◌+◌, ◌++◌, ◌∷◌, ◌≤◌, ◌<◌, ◌^◌, [], None, IfErr, IfOk, OnErr, OnOk, length, true, false, vec_capacity, ℕ};
 ghost use Rattle.xt_base.specs.Alone.{carries_content, has_begun, names_held};
 ghost use Rattle.xt_base.specs.Isolation.{is_no_memory};
@@ -10,7 +11,7 @@ ghost use Rattle.xt_base.specs.declared.sizes.TheConstants.{SLOTS};
 ghost use Rattle.xt_base.specs.declared.steps.Errno.TheVariants.{NoMemory};
 ghost use Rattle.xt_base.specs.declared.steps.Reply.{Reply as AReply};
 ghost use Rattle.xt_base.specs.declared.steps.Step.{Step as AStep};
-ghost use Rattle.xt_cell.specs.Books.{Adds, IsSameBook, count_of, entry, events_of, is_post, may_hold, next_number, unwritten};
+ghost use Rattle.xt_cell.specs.Books.{Adds, Folds, IsSameBook, Readies, count_of, entry, events_of, is_post, may_hold, next_number, unwritten};
 ghost use Rattle.xt_cell.specs.Counting.{counted};
 ghost use Rattle.xt_cell.specs.Events.{IsBooked};
 ghost use Rattle.xt_cell.specs.HostSeats.{Notes};
@@ -31,6 +32,7 @@ use std::sync::ledger::Book;
 use xt_base::names::{Caller, JobName, Slot, Worker};
 use xt_base::steps::{Errno, HomeAnswers, LogAnswers, Reply, Step};
 use xt_mount::slot::MountSlot;
+use xt_mount::state::SlotState;
 
 /// The most entries that a book has: so many that no run gets there.
 const MOST_ENTRIES: usize = 1 << 62;
@@ -46,6 +48,8 @@ const EVENT_ENTRIES: usize = 3;
 pub struct SlotBook<H: House, const S: u8> {
     alloc: Global,
     mount: MountSlot,
+    /// The slot where the book begins.
+    base: SlotState,
     /// How many entries were folded into the base.
     folded: u64,
     /// How many of these were no posts.
@@ -60,9 +64,9 @@ impl<H: House, const S: u8> Model for SlotBook<H, S> {
 
     ghost Value = { BookView };
 
-    ghost view = { λ b. record { base = base_of S b.folded b.events; entries = b.entries.items; state = b.mount; room = min (vec_capacity b.entries) (2 ^ 62) - length b.entries.items } };
+    ghost view = { λ b. record { base = base_of b.base b.folded b.events; entries = b.entries.items; state = b.mount; room = min (vec_capacity b.entries) (2 ^ 62) - length b.entries.items } };
 
-    ghost invariant = { λ b. IsTrueBook S b.folded b.events b.entries.items b.mount b.count.total };
+    ghost invariant = { λ b. IsTrueBook S (base_of b.base b.folded b.events) b.entries.items b.mount b.count.total };
 }
 
 impl<H: House, const S: u8> SlotBook<H, S> {
@@ -75,6 +79,7 @@ impl<H: House, const S: u8> SlotBook<H, S> {
         SlotBook {
             alloc,
             mount: MountSlot::new(alloc, slot),
+            base: SlotState::empty(slot),
             folded: 0,
             events: 0,
             entries: Vec::new(alloc),
@@ -97,6 +102,13 @@ impl<H: House, const S: u8> SlotBook<H, S> {
         &self.entries
     }
 
+    /// How many entries were folded into the base: the number of the first entry that the book still has.
+    pub fn folded(&self) -> u64
+        ensures { result ≡ self.now.base.folded }
+    {
+        self.folded
+    }
+
     /// The number of the next entry, folded ones counted.
     fn next_number(&self) -> u64
         ensures { result ≡ next_number self.now }
@@ -112,20 +124,50 @@ impl<H: House, const S: u8> SlotBook<H, S> {
         ensures count { result.count ≡ events_of self }
     {
         let SlotBook {
-            mount,
+            base,
             folded,
             events,
             entries,
             ..
         } = self;
-        let slot = mount.slot();
         let count = events + count_events(&entries);
         Account {
-            slot,
+            base,
             folded,
             events,
             entries,
             count,
+        }
+    }
+
+    /// Folds all entries into the base, which is then the slot as it is now: so the book is short again, and the numbers of its entries
+    /// go on. Where memory for the state is refused it stays as it is, and so does a book that folded as many entries as its numbers can
+    /// count, which no run gets to.
+    pub(crate) fn fold(&mut self) -> bool
+        ensures folded { OnTrue result (Folds self.old self.new) }
+        ensures kept { OnFalse result (self.new ≡ self.old) }
+    {
+        let length = self.entries.len() as u64;
+        if length > MOST_ENTRIES as u64 - self.folded {
+            return false;
+        }
+        let Ok(base) = self.mount.snapshot() else {
+            return false;
+        };
+        self.events += count_events(&self.entries);
+        self.folded += length;
+        self.base = base;
+        self.entries.clear();
+        true
+    }
+
+    /// Folds where there are at least so many entries, if there is memory.
+    pub(crate) fn fold_from(&mut self, limit: u64)
+        ensures book { Readies limit self.old self.new }
+        ensures state { self.new.state ≡ self.old.state }
+    {
+        if self.entries.len() as u64 >= limit {
+            let _is_folded = self.fold();
         }
     }
 

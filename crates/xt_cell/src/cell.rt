@@ -13,7 +13,7 @@ ghost use Rattle.xt_base.specs.declared.steps.Reply.TheVariants.{Okay};
 ghost use Rattle.xt_base.specs.declared.steps.Request.TheVariants as ARequest;
 ghost use Rattle.xt_base.specs.declared.steps.Step.{Step as AStep};
 ghost use Rattle.xt_cell.specs.Asking.{read_calls, step_calls};
-ghost use Rattle.xt_cell.specs.Books.{IsSameBook, events_of, may_hold, unwritten};
+ghost use Rattle.xt_cell.specs.Books.{IsSameBook, Readies, events_of, may_hold, unwritten};
 ghost use Rattle.xt_cell.specs.Counting.{counted};
 ghost use Rattle.xt_cell.specs.Cells.{IsEvent, IsShown, IsStepOf, is_shutdown, word_shown};
 ghost use Rattle.xt_cell.specs.Facts.{has_log, is_flown_by_job, is_last_post};
@@ -51,6 +51,8 @@ use xt_queue::board::Board;
 #[derive(Drop)]
 pub struct SlotCell<H: House, const S: u8> {
     alloc: Global,
+    /// From how many entries on the book is folded.
+    limit: u64,
     pub(crate) book: SlotBook<H, S>,
     pub(crate) poster: Poster<S>,
     pub(crate) home: Option<Box<dyn HomeDevice + Send>>,
@@ -62,9 +64,10 @@ pub struct SlotCell<H: House, const S: u8> {
 }
 
 impl<H: House, const S: u8> SlotCell<H, S> {
-    /// A slot that was never mounted: its book, its way to the queue, and no device.
+    /// A slot that was never mounted: from how many entries on its book is to be folded, its book, its way to the queue, and no device.
     pub fn new(
         alloc: Global,
+        limit: u64,
         book: SlotBook<H, S>,
         poster: Poster<S>,
         home: Option<Box<dyn HomeDevice + Send>>,
@@ -73,11 +76,13 @@ impl<H: House, const S: u8> SlotCell<H, S> {
         requires book { IsSameBook (unwritten S) book }
         requires poster { poster.posted ≡ [] }
         requires devices { (is_some home ≡ false) × (is_some log ≡ false) }
+        ensures limit { result.limit ≡ limit }
         ensures book { result.book ≡ book }
         ensures poster { result.poster ≡ poster.entry }
     {
         SlotCell {
             alloc,
+            limit,
             book,
             poster,
             home,
@@ -91,6 +96,18 @@ impl<H: House, const S: u8> SlotCell<H, S> {
         ensures { result ≡ stage_in name.now self.now.book.state }
     {
         self.book.slot().stage(name)
+    }
+
+    /// Makes the slot ready for its next event: a book that has at least as many entries as its limit is folded, where there is memory for
+    /// the state of the slot. Where there is none the book stays, grows by the event, and the next one tries again.
+    pub fn fold(&mut self)
+        ensures book { Readies self.old.limit self.old.book self.new.book }
+        ensures state { self.new.book.state ≡ self.old.book.state }
+        ensures limit { self.new.limit ≡ self.old.limit }
+        ensures poster { self.new.poster ≡ self.old.poster }
+        ensures devices { (self.new.home ≡ self.old.home) × (self.new.log ≡ self.old.log) }
+    {
+        self.book.fold_from(self.limit);
     }
 
     /// Closes the slot: its book, in which nothing more is written. Its devices, if it has any, are let go.

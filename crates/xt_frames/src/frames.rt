@@ -79,6 +79,27 @@ impl Frames {
         self.committed.get(block)
     }
 
+    /// The committed contents, by rising block.
+    pub fn committed(&self) -> &[(u64, Content)]
+        ensures { result.now ≡ self.now.committed }
+    {
+        self.committed.entries()
+    }
+
+    /// The idle contents, the most recent first.
+    pub fn idle(&self) -> &[(u64, Content)]
+        ensures { result.now ≡ self.now.idle }
+    {
+        &self.idle
+    }
+
+    /// The fresh blocks, ascending, in a list of their own. The one error is want of memory.
+    pub fn fresh(&self, alloc: Global) -> Result<Vec<u64>, AllocError>
+        ensures { IfOk result (λ blocks. blocks.items ≡ self.now.fresh) }
+    {
+        self.fresh.blocks(alloc)
+    }
+
     /// A block becomes busy: with its idle content, or fresh. It takes no memory.
     pub fn bring(&mut self, block: u64)
         requires committed { length self.old.committed < ROOM }

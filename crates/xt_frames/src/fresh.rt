@@ -3,6 +3,7 @@
 ghost use Rattle.std.specs.Prelude.{◌≡◌, ◌+◌, ◌<◌, ◌≤◌, ◌++◌, [], Some, drop, length, slice_get, take, true, IfOk};
 ghost use Rattle.xt_base.specs.Maps.{has, with_member, without_member};
 ghost use Rattle.xt_base.specs.Marks.{marks_of, no_marks};
+ghost use Rattle.xt_frames.specs.Fresh.{fresh_of};
 
 use std::alloc::{AllocError, Global};
 use std::marker::Model;
@@ -56,6 +57,13 @@ impl FreshBlocks {
         }
     }
 
+    /// The fresh blocks, ascending, in a list of their own. The one error is want of memory.
+    pub fn blocks(&self, alloc: Global) -> Result<Vec<u64>, AllocError>
+        ensures { IfOk result (λ blocks. blocks.items ≡ self.now) }
+    {
+        fresh_blocks(alloc, self.marks.entries())
+    }
+
     /// A block is fresh. It takes no memory.
     pub fn insert(&mut self, block: u64)
         requires { length self.old < ROOM }
@@ -86,6 +94,19 @@ impl FreshBlocks {
     {
         let _marks = self.marks.remove_at(index);
     }
+}
+
+/// The blocks of these marks that have the fresh one.
+fn fresh_blocks(alloc: Global, marks: &[(u64, ItemMarks)]) -> Result<Vec<u64>, AllocError>
+    ensures { IfOk result (λ blocks. blocks.items ≡ fresh_of marks.now) }
+{
+    let mut blocks = Vec::new(alloc);
+    for e in marks {
+        if e.1.is_fresh() {
+            blocks.push(e.0)?;
+        }
+    }
+    Ok(blocks)
 }
 
 /// The fresh mark alone.

@@ -4,7 +4,7 @@ use denote.Param.{number}
 use denote.Param.Object as object
 use denote.Struct.Declared.{shape}
 use denote.Param.Sent.{Sends}
-use denote.Param.Send.{AllSync, IsSend, IsSync, recorded_sync, struct_sync, sendable}
+use denote.Param.Send.{AllSend, AllSync, IsSend, IsSync, recorded_send, recorded_sync, struct_send, struct_sync, sendable}
 use Rattle.std.proofs.Crossing.{crosses, dyn_box_send, Arc-sync}
 use Rattle.std.specs.contracts.sync.Mutex as mutex
 use Rattle.xt_cell.specs.declared.house.House.{Ghosts}
@@ -26,7 +26,9 @@ module _ (H A B : RattleType) (g : Ghosts H.Denot) (ga : object.Ghosts A.Denot) 
       let log = dyn_box_send B gb sb b in
       let post = poster.the_send S in
       let page = book.the_send H S g in
-      search sendable depth 20
+      let s = shape (cell.the_type H S A B g ga gb) in
+      let fields : AllSend s.fields = (search sendable depth 20, (search sendable depth 20, (search sendable depth 20, (search sendable depth 20, (search sendable depth 20, (search sendable depth 20, tt)))))) in
+      recorded_send _ _ _ (cell.the_type H S A B g ga gb).to_one (struct_send s fields)
 
   pub mutex_sync : (S : RattleType) → IsSync (mutex.the_row (cell.the_row H S A B g ga gb))
   mutex_sync S = search (crosses, cell_send)

@@ -53,7 +53,8 @@ pub struct Host<H: House> {
 }
 
 impl<H: House> Host<H> {
-    /// From how many entries on a book is to be folded. No book is folded yet: each has all entries since the host was made.
+    /// From how many entries on a book is folded: an event that finds so many folds them first, where there is memory for the state of
+    /// its slot.
     pub fn book_limit(&self) -> u64
         ensures { result ≡ self.now.book_limit }
     {

@@ -48,6 +48,7 @@ struct Cells<H: House> {
 /// The cell of slot S, with the last of the passes that are left. The one error is want of memory.
 fn next_cell<H: House, const S: u8>(
     alloc: Global,
+    book_limit: u64,
     count: Book<Of<H, S>>,
     queue: &Arc<JobQueue, Global>,
     posts: &mut Vec<PostPass>,
@@ -63,12 +64,13 @@ fn next_cell<H: House, const S: u8>(
     };
     let poster = Poster::new(queue, pass);
     let book = SlotBook::new(alloc, slot, count);
-    Ok(SlotLock::new(SlotCell::new(alloc, book, poster, None, None)))
+    Ok(SlotLock::new(SlotCell::new(alloc, book_limit, book, poster, None, None)))
 }
 
 /// The cells of four slots, from the highest down, with the last four of the passes that are left. The one error is want of memory.
 fn next_four<H: House, const A: u8, const B: u8, const C: u8, const D: u8>(
     alloc: Global,
+    book_limit: u64,
     counts: (
         Book<Of<H, A>>,
         Book<Of<H, B>>,
@@ -84,16 +86,17 @@ fn next_four<H: House, const A: u8, const B: u8, const C: u8, const D: u8>(
     ensures { OnOk result (posts.new.items ≡ fresh_posts (arc_value queue.now) D) }
 {
     let (a, b, c, d) = counts;
-    let a = next_cell(alloc, a, queue, posts)?;
-    let b = next_cell(alloc, b, queue, posts)?;
-    let c = next_cell(alloc, c, queue, posts)?;
-    let d = next_cell(alloc, d, queue, posts)?;
+    let a = next_cell(alloc, book_limit, a, queue, posts)?;
+    let b = next_cell(alloc, book_limit, b, queue, posts)?;
+    let c = next_cell(alloc, book_limit, c, queue, posts)?;
+    let d = next_cell(alloc, book_limit, d, queue, posts)?;
     Ok(Four { a, b, c, d })
 }
 
 /// The cells of all slots. The one error is want of memory.
 fn all_cells<H: House>(
     alloc: Global,
+    book_limit: u64,
     books: Books<H>,
     queue: &Arc<JobQueue, Global>,
     posts: Vec<PostPass>,
@@ -120,10 +123,10 @@ fn all_cells<H: House>(
         b15,
     } = books;
     let mut posts = posts;
-    let high = next_four(alloc, (b15, b14, b13, b12), queue, &mut posts)?;
-    let upper = next_four(alloc, (b11, b10, b9, b8), queue, &mut posts)?;
-    let lower = next_four(alloc, (b7, b6, b5, b4), queue, &mut posts)?;
-    let low = next_four(alloc, (b3, b2, b1, b0), queue, &mut posts)?;
+    let high = next_four(alloc, book_limit, (b15, b14, b13, b12), queue, &mut posts)?;
+    let upper = next_four(alloc, book_limit, (b11, b10, b9, b8), queue, &mut posts)?;
+    let lower = next_four(alloc, book_limit, (b7, b6, b5, b4), queue, &mut posts)?;
+    let low = next_four(alloc, book_limit, (b3, b2, b1, b0), queue, &mut posts)?;
     Ok(Cells {
         high,
         upper,
@@ -199,7 +202,7 @@ fn opened<H: House>(
     ensures receipts { IfOk result (λ made. made.1.receipts ≡ []) }
 {
     let (books, mut reserve) = Reserve::open(blanks);
-    let cells = all_cells(alloc, books, &queue, posts)?;
+    let cells = all_cells(alloc, book_limit, books, &queue, posts)?;
     let Some((caller, shares)) = reserve.draw() else {
         unreachable!()
     };

@@ -30,8 +30,9 @@ impl<H: House, const S: u8> SlotLock<H, S> {
         }
     }
 
-    /// Does a command with the slot, and then wakes all who wait for a change of it. A call that waits, and is told to try again, lets
-    /// nobody go: it wakes nobody, and sleeps. It does so from the same hold on, so that it misses no change after its reply.
+    /// Does a command with the slot, whose book is folded first where it is at its limit, and then wakes all who wait for a change of it.
+    /// A call that waits, and is told to try again, lets nobody go: it wakes nobody, and sleeps. It does so from the same hold on, so that
+    /// it misses no change after its reply.
     pub fn serve<R: Wait>(
         &self,
         rt: &R,
@@ -49,6 +50,7 @@ impl<H: House, const S: u8> SlotLock<H, S> {
     {
         let waits = command.waits();
         let mut cell = self.cell.lock(rt);
+        cell.fold();
         let outcome = command.run(rt, &mut *cell, seat, board);
         if waits && is_to_sleep(&outcome) {
             let _cell = self.changed.wait(rt, cell);

@@ -4,6 +4,7 @@ ghost use Rattle.std.specs.Prelude.{◌≡◌, ◌-◌, ◌^◌};
 ghost use Rattle.xt_cell.specs.Ledgers.{AreCut, AreNamed};
 
 mod example;
+mod folding;
 mod lines;
 mod replay;
 mod rows;

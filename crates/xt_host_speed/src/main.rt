@@ -1,7 +1,8 @@
 //! How fast a host of many slots serves, over devices that keep nothing.
 //!
 //! `xt_host_speed COUNT` does each thing that is measured so often, and prints transactions a second and what a call costs.
-//! Without COUNT it does a few and says how many.
+//! Without COUNT it does a few and says how many. `xt_host_speed COUNT LIMIT` does only small changes of one mount, on a host whose books
+//! are folded from LIMIT entries on, so that the memory of a long run can be looked at from outside.
 #![tactic(auto)]
 
 mod calls;
@@ -21,6 +22,7 @@ use std::sync::Wait;
 use std::thread::Threads;
 use std::time::{Clock, Duration};
 use xt_cell::reserve::Blanks;
+use xt_host::host::BOOK_ENTRIES;
 
 const SMALL: &str = "128 bytes of one block";
 
@@ -65,6 +67,9 @@ const CROWDS: [Crowd; 7] = [
     },
 ];
 
+/// From how many entries on books are folded, where that is measured: at each event, and less and less often.
+const BOOK_LIMITS: [u64; 4] = [1, 64, 4_096, BOOK_ENTRIES];
+
 /// How many a second.
 fn rate(count: u32, took: Duration) -> u128 {
     let micros = took.as_micros();
@@ -95,6 +100,7 @@ fn plans(alloc: Global, count: u32) -> [(&'static str, Plan); 3] {
                 task: small,
                 count,
                 mounts: 1,
+                book_limit: BOOK_ENTRIES,
             },
         ),
         (
@@ -103,6 +109,7 @@ fn plans(alloc: Global, count: u32) -> [(&'static str, Plan); 3] {
                 task: whole,
                 count: count / 8,
                 mounts: 1,
+                book_limit: BOOK_ENTRIES,
             },
         ),
         (
@@ -111,6 +118,7 @@ fn plans(alloc: Global, count: u32) -> [(&'static str, Plan); 3] {
                 task: small,
                 count: count / 16,
                 mounts: 16,
+                book_limit: BOOK_ENTRIES,
             },
         ),
     ]
@@ -142,6 +150,25 @@ fn print_transactions<R: Wait + Clock + Print>(
     Ok(())
 }
 
+/// Measures small changes of one mount on a host whose books are folded from so many entries on, and prints how many a second.
+fn print_folds<R: Wait + Clock + Print>(rt: &R, report: Report, book_limit: u64) -> Result<()> {
+    let plan = Plan {
+        task: Task::Transact(Change::small(report.alloc)),
+        count: report.count,
+        mounts: 1,
+        book_limit,
+    };
+    let took = time(rt, report.alloc, Blanks::new(), &plan)?;
+    let count = report.count;
+    if report.has_figures {
+        let rate = rate(count, took);
+        println!(rt; "{SMALL}, books of {book_limit} entries: {rate} transactions/s")?;
+    } else {
+        println!(rt; "{SMALL}, books of {book_limit} entries: {count} transactions")?;
+    }
+    Ok(())
+}
+
 /// Measures so many transactions of each of sixteen mounts by four threads, and prints how many a second.
 fn print_crew<R: Threads + Wait + Clock + Print + Sync>(rt: &R, report: Report) -> Result<()> {
     let count = report.count / 16;
@@ -162,6 +189,7 @@ fn call_cost<R: Wait + Clock>(rt: &R, report: Report, call: Call, crowd: Crowd) 
         task: Task::Call(Trial { call, crowd }),
         count: report.count,
         mounts: crowd.mounts,
+        book_limit: BOOK_ENTRIES,
     };
     Ok(cost(report.count, time(rt, report.alloc, Blanks::new(), &plan)?))
 }
@@ -184,6 +212,21 @@ fn print_calls<R: Wait + Clock + Print>(rt: &R, report: Report, crowd: Crowd) ->
     Ok(())
 }
 
+/// Measures everything, and prints it.
+fn print_all<R: Threads + Wait + Clock + Print + Sync>(rt: &R, report: Report) -> Result<()> {
+    for (label, plan) in plans(report.alloc, report.count) {
+        print_transactions(rt, report, label, &plan)?;
+    }
+    print_crew(rt, report)?;
+    for crowd in CROWDS {
+        print_calls(rt, report, crowd)?;
+    }
+    for book_limit in BOOK_LIMITS {
+        print_folds(rt, report, book_limit)?;
+    }
+    Ok(())
+}
+
 fn main(rt: HostRuntime) -> Result<()> {
     let alloc = rt.alloc();
     let word = env::args(&rt)?.nth(1);
@@ -196,12 +239,8 @@ fn main(rt: HostRuntime) -> Result<()> {
         count,
         has_figures: word.is_some(),
     };
-    for (label, plan) in plans(alloc, count) {
-        print_transactions(&rt, report, label, &plan)?;
+    match env::args(&rt)?.nth(2) {
+        Some(limit) => print_folds(&rt, report, limit.parse::<u64>().context("LIMIT")?),
+        None => print_all(&rt, report),
     }
-    print_crew(&rt, report)?;
-    for crowd in CROWDS {
-        print_calls(&rt, report, crowd)?;
-    }
-    Ok(())
 }

@@ -16,7 +16,7 @@ use xt_base::names::Slot;
 use xt_cell::house::House;
 use xt_cell::mount_ref::MountRef;
 use xt_cell::reserve::Blanks;
-use xt_host::host::{BOOK_ENTRIES, Host};
+use xt_host::host::Host;
 
 /// The bytes of a log.
 pub const LOG_BYTES: u32 = 16_777_216;
@@ -33,12 +33,13 @@ pub enum Task {
     Call(Trial),
 }
 
-/// What is measured, how often it is done, and on a host of how many mounts.
+/// What is measured, how often it is done, on a host of how many mounts, and from how many entries on its books are folded.
 #[derive(Clone, Copy)]
 pub struct Plan {
     pub task: Task,
     pub count: u32,
     pub mounts: u8,
+    pub book_limit: u64,
 }
 
 /// So many transactions of each mount, one mount after the other.
@@ -115,7 +116,7 @@ fn run<H: House, R: Wait + Clock>(
     requires all { H.all ≡ 2 ^ 64 - 1 }
 {
     let (mut mounts, mut seats) = (Vec::new(alloc), Vec::with_capacity(alloc, 1)?);
-    let (host, mut seat, mut passes) = match Host::<H>::new(alloc, blanks, 1, BOOK_ENTRIES) {
+    let (host, mut seat, mut passes) = match Host::<H>::new(alloc, blanks, 1, plan.book_limit) {
         Ok(made) => made,
         Err(errno) => return Err(refused(errno)),
     };

@@ -44,6 +44,21 @@ impl JobTable {
         }
     }
 
+    /// The same jobs in a table of their own.
+    pub fn copy(&self) -> Self
+        ensures { result ≡ self.now }
+    {
+        JobTable {
+            slot: self.slot,
+            life: self.life,
+            asked_ckpt: self.asked_ckpt,
+            asked_flush: self.asked_flush,
+            ckpt: self.ckpt,
+            flush: self.flush,
+            last_serial: self.last_serial,
+        }
+    }
+
     /// The slot.
     pub fn slot(&self) -> Slot
         ensures { result ≡ self.now.slot }

@@ -1,6 +1,6 @@
 //! The accounts of a mount: its open transactions with their tickets, its item lists, and the log space that both use.
 
-ghost use Rattle.std.specs.Prelude.{◌≡◌, ◌+◌, ◌*◌, ◌≤◌, ◌<◌, ◌||◌, [], Some, None, false, true, is_none, is_some, length, nat_le, nat_lt, not, ◌==◌, IfOk, IfSome, OnOk, OnErr, option_copied};
+ghost use Rattle.std.specs.Prelude.{◌≡◌, ◌+◌, ◌*◌, ◌≤◌, ◌<◌, ◌||◌, ◌++◌, [], Some, None, false, true, is_none, is_some, length, nat_le, nat_lt, not, ◌==◌, IfOk, IfSome, OnOk, OnErr, option_copied};
 ghost use Rattle.xt_base.specs.Calls.{edited, invalidated, legs_after, new_trans, without_hold};
 ghost use Rattle.xt_base.specs.Jobs.{fits_plan, flight_pieces, gone};
 ghost use Rattle.xt_base.specs.Legs.{clean_leg, with_marks};
@@ -144,6 +144,13 @@ impl Accounts {
         self.transactions.contains(trans)
     }
 
+    /// The open transactions, by rising number.
+    pub fn transactions(&self) -> &[(u64, OpenTrans)]
+        ensures { result.now ≡ self.now.transactions }
+    {
+        self.transactions.entries()
+    }
+
     /// How many transactions are open.
     pub fn open_count(&self) -> usize
         ensures { result ≡ length self.now.transactions }
@@ -231,6 +238,13 @@ impl Accounts {
         ensures { result.now ≡ flight_pieces self.now.items.flight }
     {
         self.items.pieces()
+    }
+
+    /// What each landed checkpoint costs that still counts, by its number: the older ones, and then the younger ones.
+    pub fn landed(&self) -> (&[(u64, u64)], &[(u64, u64)])
+        ensures { result.0.now ++ result.1.now ≡ self.now.items.landed }
+    {
+        self.space.landed()
     }
 
     // ---- log space

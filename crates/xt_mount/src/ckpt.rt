@@ -177,7 +177,7 @@ impl Machine {
 }
 
 /// Other owners of these pieces.
-fn shared_pieces(alloc: Global, pieces: &[Bytes]) -> Result<Vec<Bytes>, AllocError>
+pub(crate) fn shared_pieces(alloc: Global, pieces: &[Bytes]) -> Result<Vec<Bytes>, AllocError>
     ensures { IfOk result (λ shared. shared.items ≡ pieces.now) }
 {
     let mut shared = Vec::with_capacity(alloc, pieces.len())?;

@@ -25,8 +25,11 @@ mod roll;
 mod serve;
 mod settle;
 pub mod slot;
+mod snapshot;
+pub mod state;
 mod unmount;
 mod view;
 
 pub use mount::{Mount, Stage};
 pub use slot::MountSlot;
+pub use state::{SlotState, State};

@@ -14,6 +14,7 @@ ghost use Rattle.xt_mount.specs.Machines.{IsSameMount};
 ghost use Rattle.xt_mount.specs.Stages.{stage_of};
 
 use crate::machine::Machine;
+use crate::state::State;
 use bytes::Bytes;
 use std::alloc::Global;
 use std::marker::Model;
@@ -117,6 +118,18 @@ impl Mount {
         ensures short { All (λ piece. length piece ≤ PIECE_BYTES) result.now }
     {
         self.machine.accounts.pieces()
+    }
+
+    /// The mount as a plain value: the state that it has now, in a copy that stands still where the mount goes on. The one error is
+    /// `NoMemory`, where memory is refused.
+    pub fn snapshot(&self) -> Result<State, Errno>
+        ensures value { IfOk result (λ state. state ≡ self.now) }
+        ensures memory { IfErr result (λ errno. errno ≡ NoMemory) }
+    {
+        match self.machine.snapshot() {
+            Ok(state) => Ok(state),
+            Err(_) => Err(Errno::NoMemory),
+        }
     }
 
     /// The block that a request must ask the home device for, if there is one: a read's, where nothing refuses it and

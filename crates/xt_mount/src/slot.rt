@@ -1,17 +1,19 @@
 //! One slot of the host: the last life given, and the mount if there is one.
 
-ghost use Rattle.std.specs.Prelude.{◌≡◌, ◌≤◌, ◌&&◌, All, IfSome, Ok, Some, if◌then◌else◌, is_some, length, option_copied, true, false, None, [], ℕ};
+ghost use Rattle.std.specs.Prelude.{◌≡◌, ◌≤◌, ◌&&◌, All, IfErr, IfOk, IfSome, IsOk, Ok, Some, if◌then◌else◌, is_some, length, option_copied, true, false, None, [], ℕ};
 ghost use Rattle.xt_base.specs.Alone.{has_begun, is_okay, reason_of};
 ghost use Rattle.xt_base.specs.Calls.{is_unmount};
 ghost use Rattle.xt_base.specs.Jobs.{fits_pieces, fits_plan, is_begun, is_ckpt, is_owed_as, is_waiting};
 ghost use Rattle.xt_base.specs.Maps.{at, is_in};
 ghost use Rattle.xt_base.specs.Order.{is_there, mount_is, of_life};
+ghost use Rattle.xt_base.specs.declared.steps.Errno.TheVariants.{NoMemory};
 ghost use Rattle.xt_base.specs.declared.steps.Reply.{Reply as AReply};
 ghost use Rattle.xt_base.specs.declared.steps.Step.{Step as AStep};
 ghost use Rattle.xt_mount.specs.Come.{read_block};
 ghost use Rattle.xt_mount.specs.Slots.{contents_in, form_in, life_in, owed_in, pieces_in, plan_in, stage_in, unused, IsAnsweredUnlessMemory, IsServed, IsServedUnlessMemory};
 
 use crate::mount::{Mount, Stage};
+use crate::state::SlotState;
 use bytes::Bytes;
 use std::alloc::Global;
 use std::marker::Model;
@@ -69,6 +71,24 @@ impl MountSlot {
         ensures { result ≡ self.now.last_life }
     {
         self.last_life
+    }
+
+    /// The slot as a plain value, in a copy that stands still where the slot goes on. The one error is `NoMemory`, where memory is
+    /// refused; an empty slot takes none.
+    pub fn snapshot(&self) -> Result<SlotState, Errno>
+        ensures value { IfOk result (λ state. state ≡ self.now) }
+        ensures memory { IfErr result (λ errno. errno ≡ NoMemory) }
+        ensures empty { self.now.mounted ≡ None → IsOk result }
+    {
+        let mount = match &self.mount {
+            Some(mount) => Some(mount.snapshot()?),
+            None => None,
+        };
+        Ok(SlotState {
+            slot: self.slot,
+            last_life: self.last_life,
+            mount,
+        })
     }
 
     /// The life of the mount; None where the slot is empty.

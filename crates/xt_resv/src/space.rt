@@ -1,6 +1,6 @@
 //! The log space of one mount: who was granted what, and what its lists and landed checkpoints cost.
 
-ghost use Rattle.std.specs.Prelude.{◌≡◌, ◌^◌, ◌≤◌, ◌<◌, ◌+◌, ◌-◌, ◌*◌, Some, None, Ok, Err, true, is_none, is_some, sum_by, if◌then◌else◌, OnOk, OnErr};
+ghost use Rattle.std.specs.Prelude.{◌≡◌, ◌^◌, ◌≤◌, ◌<◌, ◌+◌, ◌-◌, ◌*◌, ◌++◌, Some, None, Ok, Err, true, is_none, is_some, sum_by, if◌then◌else◌, OnOk, OnErr};
 ghost use Rattle.std.specs.VecDeque.{deque_len, deque_capacity};
 ghost use Rattle.xt_base.specs.Maps.{put};
 ghost use Rattle.xt_base.specs.Sound.{AllBelow, IsRising};
@@ -42,6 +42,13 @@ impl Ticket {
         ensures { result ≡ self.now.legs }
     {
         self.legs
+    }
+
+    /// The log bytes of a leg.
+    pub fn unit(&self) -> u32
+        ensures { result ≡ self.now.unit }
+    {
+        self.unit
     }
 
     /// Whether the transaction may roll.
@@ -149,6 +156,13 @@ impl LogSpace {
         ensures range { result ≤ MOST_LOG }
     {
         self.size
+    }
+
+    /// What each landed checkpoint costs that still counts, by its number: the older ones, and then the younger ones.
+    pub fn landed(&self) -> (&[(u64, u64)], &[(u64, u64)])
+        ensures { result.0.now ++ result.1.now ≡ self.now.landed }
+    {
+        self.landed.as_slices()
     }
 
     /// The log bytes in use, at most the size.

@@ -51,7 +51,8 @@ impl Model for Change {
 }
 
 /// What the present leg of a transaction did, with room for the blocks of a mount: one entry for each block that it changed,
-/// invalidated or holds. Clauses see the leg. No call but `new`, `seen` and `held` takes memory.
+/// invalidated or holds. Clauses see the leg. No call but `new`, `seen`, `held`, `changes` and `holds` takes
+/// memory.
 #[derive(Debug, Drop)]
 pub struct TransRec {
     items: NumberMap<BufItem>,
@@ -215,6 +216,20 @@ impl TransRec {
     {
         let blocks = held_blocks(alloc, self.items.entries())?;
         HeldBlocks::of(alloc, blocks)
+    }
+
+    /// Copies of what the leg did to the blocks that it changed or invalidated, by rising block. The one error is want of memory.
+    pub fn changes(&self, alloc: Global) -> Result<Vec<(u64, Change)>, AllocError>
+        ensures { IfOk result (λ changes. changes.items ≡ self.now.changes) }
+    {
+        changes_of(alloc, self.items.entries())
+    }
+
+    /// The blocks with the hold mark, ascending, in a list of their own. The one error is want of memory.
+    pub fn holds(&self, alloc: Global) -> Result<Vec<Block>, AllocError>
+        ensures { IfOk result (λ blocks. blocks.items ≡ self.now.holds) }
+    {
+        held_blocks(alloc, self.items.entries())
     }
 
     /// A block has these bytes in the leg, and these chunks are marked and charged too. One that was invalidated is so no more.
@@ -382,6 +397,35 @@ fn held_blocks(alloc: Global, items: &[(u64, BufItem)]) -> Result<Vec<Block>, Al
         }
     }
     Ok(blocks)
+}
+
+/// Copies of the changes of the dirty entries.
+fn changes_of(alloc: Global, items: &[(u64, BufItem)]) -> Result<Vec<(u64, Change)>, AllocError>
+    ensures { IfOk result (λ changes. changes.items ≡ (leg_of items.now).changes) }
+{
+    let mut changes = Vec::new(alloc);
+    for e in items {
+        if e.1.marks.is_dirty() {
+            let change = change_copy(alloc, &e.1)?;
+            changes.push((e.0, change))?;
+        }
+    }
+    Ok(changes)
+}
+
+/// A copy of an entry's change. The one error is want of memory.
+fn change_copy(alloc: Global, item: &BufItem) -> Result<Change, AllocError>
+    ensures { IfOk result (λ change. change ≡ change_in item.now) }
+{
+    let edit = match &item.edit {
+        Some(content) => Some(content.copy(alloc)?),
+        None => None,
+    };
+    Ok(Change {
+        edit,
+        marks: item.chunks,
+        charged: item.charged,
+    })
 }
 
 /// The block of the first dirty entry.

@@ -9,7 +9,7 @@ use crate::mounting::MountRefused;
 use crate::running::EndFault;
 use crate::tests::deeds::{Deed, Told, answer_of, request_of};
 use crate::tests::held::{done_as, foreign, named};
-use crate::tests::opening::{Devices, Held, Parts};
+use crate::tests::opening::{BOOK_LIMIT, Devices, Held, Parts};
 use crate::tests::replay::{are_of, replays};
 use std::alloc::{AllocError, Global};
 use std::sync::Wait;
@@ -219,6 +219,20 @@ impl<H: House> Bench<H> {
         }
     }
 
+    /// Folds the book. One that is at its limit stays so only for want of memory.
+    fn fold(&mut self) -> Told {
+        self.parts.fold();
+        let book = self.parts.book();
+        let entries = book.entries().len();
+        if entries as u64 >= BOOK_LIMIT {
+            return NO_MEMORY;
+        }
+        Told::Folded {
+            folded: book.folded(),
+            entries,
+        }
+    }
+
     /// The first byte of each of the first two chunks of a block, as the device at hand gives it.
     fn home(&mut self, block: u64) -> Told {
         let mut bytes = [0; 4096];
@@ -254,6 +268,7 @@ impl<H: House> Bench<H> {
             Deed::EndAs { life, serial } => self.end_held(rt, Some(life), Some(serial)),
             Deed::EndOther(serial) => self.end_other(rt, serial),
             Deed::Flush => self.flush(rt),
+            Deed::Fold => self.fold(),
             Deed::Peek | Deed::Replay | Deed::Home(_) | Deed::Count => self.look(deed),
             asked => self.ask(rt, asked),
         }

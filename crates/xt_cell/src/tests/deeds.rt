@@ -61,6 +61,8 @@ pub enum Deed {
     Peek,
     /// How many entries the book has, and how many receipts the seat.
     Count,
+    /// Folds the book, where it is at its limit: how many entries are folded then, and how many it has.
+    Fold,
     /// Whether the entries, run again by the host core, have the same replies, and each receipt is its entry's.
     Replay,
     /// The first byte of each of the first two chunks of a block, as the home device that came back gives it.
@@ -87,6 +89,7 @@ pub enum Told {
     Missing,
     Shown { life: u32, shut: Option<Reason> },
     Counted { entries: usize, receipts: usize },
+    Folded { folded: u64, entries: usize },
     Replayed(bool),
     Bytes(u8, u8),
     /// Another reply, which no test here wants.

@@ -30,6 +30,9 @@ use xt_mount::mount::Stage;
 use xt_queue::board::{Board, Seat};
 use xt_queue::jobs::{JobQueue, PostPass, WorkPass};
 
+/// From how many entries on a cell's book is folded, where a test asks for that.
+pub const BOOK_LIMIT: u64 = 4;
+
 /// The two devices of a mount.
 pub type Devices = (Box<dyn HomeDevice + Send>, Box<dyn LogDevice + Send>);
 
@@ -165,7 +168,7 @@ fn cell_over<H: House>(
     };
     let book = SlotBook::new(alloc, slot, count);
     let poster = Poster::new(queue, post);
-    SlotCell::new(alloc, book, poster, None, None)
+    SlotCell::new(alloc, BOOK_LIMIT, book, poster, None, None)
 }
 
 /// A cell of slot 15 with the way to take what it posts, and a seat with its board.
@@ -232,6 +235,11 @@ impl<H: House> Parts<H> {
     /// The seat.
     pub fn seat(&self) -> &HostSeat<H> {
         &self.seat
+    }
+
+    /// Folds the book, where it is at its limit and there is memory.
+    pub fn fold(&mut self) {
+        self.cell.fold();
     }
 
     /// Mounts the slot.

@@ -280,3 +280,82 @@ fn a_job_of_another_flight_comes_back(rt: HostRuntime) {
 fn a_refused_deed_is_done_again(rt: HostRuntime) {
     assert_eq!(rt; plays(&rt, rt.alloc(), STEADY, LANDS), AS_WANTED);
 }
+
+/// Block 7 is changed, flies, lands and is written home, and the book is folded on the way: below its limit it stays, at its limit its
+/// entries go into the base, and what comes after is told as without folds.
+const FOLDED: &[(Deed, Told)] = &[
+    (Deed::Mount, Told::Life(1)),
+    (Deed::Alloc, Told::Trans(1)),
+    (Deed::Read { trans: 1, block: 7 }, Told::Okay),
+    (
+        Deed::Fold,
+        Told::Folded {
+            folded: 0,
+            entries: 3,
+        },
+    ),
+    (
+        Deed::Log {
+            trans: 1,
+            block: 7,
+            first: 0,
+            byte: 0x11,
+        },
+        Told::Okay,
+    ),
+    (
+        Deed::Fold,
+        Told::Folded {
+            folded: 4,
+            entries: 0,
+        },
+    ),
+    (Deed::Commit(1), Told::Committed(1)),
+    (Deed::Force, Told::Wait(1)),
+    (
+        Deed::Begin,
+        Told::Begun {
+            number: 1,
+            pieces: 1,
+        },
+    ),
+    (
+        Deed::Fold,
+        Told::Folded {
+            folded: 8,
+            entries: 0,
+        },
+    ),
+    (Deed::End, Told::Landed(1)),
+    (Deed::Push, Told::Okay),
+    (
+        Deed::Fold,
+        Told::Folded {
+            folded: 8,
+            entries: 3,
+        },
+    ),
+    (Deed::Flush, Told::Flushed(1)),
+    (
+        Deed::Fold,
+        Told::Folded {
+            folded: 12,
+            entries: 0,
+        },
+    ),
+    (Deed::Unmount, Told::Okay),
+    (Deed::Home(7), Told::Bytes(0x11, 0)),
+    (
+        Deed::Count,
+        Told::Counted {
+            entries: 1,
+            receipts: 11,
+        },
+    ),
+];
+
+/// A book is folded. Run it with each allocation failing in turn: a fold that is refused memory leaves the book as it was.
+#[test]
+fn a_book_is_folded(rt: HostRuntime) {
+    assert_eq!(rt; plays(&rt, rt.alloc(), STEADY, FOLDED), AS_WANTED);
+}

@@ -151,8 +151,13 @@ fn write_out<H: House, R: Abort + Wait>(
 /// What a run tells: the number of the commit, how far the two forces had come, and what the end of the host found.
 type Told = (CkptNo, (Forced, Forced), Result<(), CloseFault>);
 
-/// Mounts a volume, changes it, has it written, unmounts it, and ends the host.
-fn run<H: House, R: Abort + Wait>(rt: &R, alloc: Global, blanks: Blanks) -> Result<Told, Errno>
+/// Mounts a volume, changes it, has it written, unmounts it, and ends the host, whose books have this limit.
+fn run<H: House, R: Abort + Wait>(
+    rt: &R,
+    alloc: Global,
+    blanks: Blanks,
+    book_limit: u64,
+) -> Result<Told, Errno>
     requires names { AreNamed H.names blanks }
     requires parts { AreCut H.all blanks }
     requires all { H.all ≡ 2 ^ 64 - 1 }
@@ -170,7 +175,7 @@ fn run<H: House, R: Abort + Wait>(rt: &R, alloc: Global, blanks: Blanks) -> Resu
     let Ok(()) = seats.reserve(1) else {
         return Err(Errno::NoMemory);
     };
-    let (host, mut seat, mut passes) = Host::<H>::new(alloc, blanks, 1, 1_048_576)?;
+    let (host, mut seat, mut passes) = Host::<H>::new(alloc, blanks, 1, book_limit)?;
     let Some(mut pass) = passes.pop() else {
         return Err(Errno::Invalid);
     };
@@ -184,19 +189,42 @@ fn run<H: House, R: Abort + Wait>(rt: &R, alloc: Global, blanks: Blanks) -> Resu
 }
 
 /// The same over new ledgers.
-fn runs<R: Abort + Wait>(rt: &R, alloc: Global, blanks: Blanks) -> Result<Told, Errno>
+fn runs<R: Abort + Wait>(
+    rt: &R,
+    alloc: Global,
+    blanks: Blanks,
+    book_limit: u64,
+) -> Result<Told, Errno>
     requires parts { AreCut (2 ^ 64 - 1) blanks }
 {
-    run::<Brand, R>(rt, alloc, blanks)
+    run::<Brand, R>(rt, alloc, blanks, book_limit)
 }
 
-/// One block of one transaction goes into the first checkpoint, of two pieces, which a force waits for until the worker wrote it.
+/// One block of one transaction goes into the first checkpoint, of two pieces, which a force waits for until the worker wrote it; and
+/// the host ends with nothing wrong.
+const AS_WANTED: Result<Told, Errno> = Ok((
+    CkptNo(1),
+    (Forced::Wait(CkptNo(1)), Forced::Done),
+    Ok(()),
+));
+
+/// The book has all its entries to the end.
 #[test]
 fn a_change_is_written(rt: HostRuntime) {
-    let told = runs(&rt, rt.alloc(), Blanks::new());
-    let first = CkptNo(1);
-    assert_eq!(rt;
-        told,
-        Ok((first, (Forced::Wait(first), Forced::Done), Ok(())))
-    );
+    let told = runs(&rt, rt.alloc(), Blanks::new(), 1_048_576);
+    assert_eq!(rt; told, AS_WANTED);
+}
+
+/// The book is folded at each event: the receipts are older than its base, but for the last.
+#[test]
+fn each_event_folds(rt: HostRuntime) {
+    let told = runs(&rt, rt.alloc(), Blanks::new(), 1);
+    assert_eq!(rt; told, AS_WANTED);
+}
+
+/// The book is folded at each second event, or after a post.
+#[test]
+fn two_entries_are_folded(rt: HostRuntime) {
+    let told = runs(&rt, rt.alloc(), Blanks::new(), 2);
+    assert_eq!(rt; told, AS_WANTED);
 }

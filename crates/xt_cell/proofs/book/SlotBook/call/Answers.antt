@@ -8,7 +8,7 @@ use Rattle.xt_cell.proofs.book.SlotBook.call.Goals as goal
 pub invariant_of-self : goal.invariant_of-self
 invariant_of-self g c =
     let room = ap (λ (b : BookView). b.room) c.self.view_is in
-    written_book _ _ _ _ _ _ _ _ _ _ _ _ _ _ c.self.invariant
+    written_book _ _ _ _ _ _ _ _ _ _ _ _ _ c.self.invariant
     (subst (λ (x : Step). IsServed x c.in-Ok.reply c.serve.new.slot c.self.inside.mount) c.get.ensures c.in-Ok.ensures.served)
     (call_counts _ c.requires.call)
     (omega (arith, room, c.requires.room))
