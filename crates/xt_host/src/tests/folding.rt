@@ -32,15 +32,15 @@ fn call_often<H: House, R: Wait>(
     rt: &R,
     host: &Host<H>,
     seat: &mut HostSeat<H>,
-    at: MountRef,
+    at: &MountRef,
 ) -> Result<(), Errno>
     requires board { seat.old.board.board ≡ host.now.board }
     ensures board { seat.new.board.board ≡ seat.old.board.board }
 {
     for _ in 0..CALLS {
-        host.freeze(rt, seat, at)?;
+        host.freeze(rt, seat, *at)?;
         seat.forget();
-        host.thaw(rt, seat, at)?;
+        host.thaw(rt, seat, *at)?;
     }
     Ok(())
 }
@@ -61,7 +61,8 @@ fn book_after<H: House, R: Wait>(rt: &R, alloc: Global, blanks: Blanks) -> Resul
     let (Some(slot), Some(life)) = (Slot::new(0), mounted(rt, &host, &mut seat, (home, log))) else {
         return Err(Errno::Invalid);
     };
-    call_often(rt, &host, &mut seat, MountRef { slot, life })?;
+    let at = MountRef { slot, life };
+    call_often(rt, &host, &mut seat, &at)?;
     let books = host.into_books();
     Ok((books[0].folded(), books[0].entries().len()))
 }
