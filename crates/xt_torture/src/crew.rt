@@ -4,7 +4,7 @@ ghost use Rattle.std.specs.Prelude.{◌≡◌, ◌-◌, ◌^◌, All, IfOk};
 ghost use Rattle.std.specs.Arc.{arc_value};
 ghost use Rattle.xt_cell.specs.Ledgers.{AreCut, AreNamed};
 
-use crate::guest::{Guest, Lived, Mind, live};
+use crate::guest::{Guest, Lived, live};
 use crate::replay::{Tally, gives_replies};
 use anyhow::{Context, Error, Result};
 use std::alloc::{AllocError, Global};
@@ -49,6 +49,7 @@ type LivedPair<H> = (Lived<H>, Lived<H>);
 /// Two guests, in two threads.
 fn by_two<H: House + Send + Sync, R: Threads + Wait + Sync>(
     rt: &R,
+    alloc: Global,
     host: &Host<H>,
     pair: Pair<H>,
     turns: u32,
@@ -61,10 +62,10 @@ fn by_two<H: House + Send + Sync, R: Threads + Wait + Sync>(
         rt,
         move || -> Lived<H>
             requires { (first.pass.queue ≡ arc_value host.now.queue) × (first.seat.board.board ≡ host.now.board) }
-        { live(rt, host, first, turns) },
+        { live(rt, alloc, host, first, turns) },
         move || -> Lived<H>
             requires { (second.pass.queue ≡ arc_value host.now.queue) × (second.seat.board.board ≡ host.now.board) }
-        { live(rt, host, second, turns) },
+        { live(rt, alloc, host, second, turns) },
     );
     (one, other)
 }
@@ -72,6 +73,7 @@ fn by_two<H: House + Send + Sync, R: Threads + Wait + Sync>(
 /// Four guests, in four threads.
 fn by_four<H: House + Send + Sync, R: Threads + Wait + Sync>(
     rt: &R,
+    alloc: Global,
     host: &Host<H>,
     pairs: (Pair<H>, Pair<H>),
     turns: u32,
@@ -84,17 +86,16 @@ fn by_four<H: House + Send + Sync, R: Threads + Wait + Sync>(
         rt,
         move || -> LivedPair<H>
             requires { (first.0.pass.queue ≡ arc_value host.now.queue) × (first.1.pass.queue ≡ arc_value host.now.queue) × (first.0.seat.board.board ≡ host.now.board) × (first.1.seat.board.board ≡ host.now.board) }
-        { by_two(rt, host, first, turns) },
+        { by_two(rt, alloc, host, first, turns) },
         move || -> LivedPair<H>
             requires { (second.0.pass.queue ≡ arc_value host.now.queue) × (second.1.pass.queue ≡ arc_value host.now.queue) × (second.0.seat.board.board ≡ host.now.board) × (second.1.seat.board.board ≡ host.now.board) }
-        { by_two(rt, host, second, turns) },
+        { by_two(rt, alloc, host, second, turns) },
     );
     (one, other)
 }
 
-/// The last worker with a seat, and dice of a seed.
+/// The last worker with a seat, and a seed.
 fn seated<H: House>(
-    alloc: Global,
     host: &Host<H>,
     seat: HostSeat<H>,
     passes: &mut Vec<WorkPass>,
@@ -107,16 +108,12 @@ fn seated<H: House>(
 {
     let _ = host;
     let pass = passes.pop().ok_or(Errno::Invalid)?;
-    let Ok(mind) = Mind::new(alloc, seed) else {
-        return Err(Errno::NoMemory);
-    };
-    Ok(Guest { seat, pass, mind })
+    Ok(Guest { seat, pass, seed })
 }
 
 /// The four guests of a host.
 fn crew_of<H: House, R: Wait>(
     rt: &R,
-    alloc: Global,
     host: &Host<H>,
     seat: HostSeat<H>,
     passes: Vec<WorkPass>,
@@ -130,12 +127,12 @@ fn crew_of<H: House, R: Wait>(
     let (mut seat, mut passes) = (seat, passes);
     let seed = seed.wrapping_mul(CREW as u64);
     let other = host.seat(rt, &mut seat)?;
-    let fourth = seated(alloc, host, other, &mut passes, seed.wrapping_add(3))?;
+    let fourth = seated(host, other, &mut passes, seed.wrapping_add(3))?;
     let other = host.seat(rt, &mut seat)?;
-    let third = seated(alloc, host, other, &mut passes, seed.wrapping_add(2))?;
+    let third = seated(host, other, &mut passes, seed.wrapping_add(2))?;
     let other = host.seat(rt, &mut seat)?;
-    let second = seated(alloc, host, other, &mut passes, seed.wrapping_add(1))?;
-    let first = seated(alloc, host, seat, &mut passes, seed)?;
+    let second = seated(host, other, &mut passes, seed.wrapping_add(1))?;
+    let first = seated(host, seat, &mut passes, seed)?;
     Ok(((first, second), (third, fourth)))
 }
 
@@ -174,13 +171,13 @@ fn run<H: House + Send + Sync, R: Threads + Wait + Sync>(
         Ok(made) => made,
         Err(errno) => return Err(refused(errno)),
     };
-    let crew = crew_of(rt, alloc, &host, seat, passes, plan.seed).map_err(refused)?;
+    let crew = crew_of(rt, &host, seat, passes, plan.seed).map_err(refused)?;
     let (((one, first), (two, second)), ((three, third), (four, fourth))) = by_four(
-        rt, &host, crew, plan.turns,
+        rt, alloc, &host, crew, plan.turns,
     );
     let is_well = first? && second? && third? && fourth?;
     let books = host.into_books();
-    let closed = compare_all(&books, &[one.seat, two.seat, three.seat, four.seat]);
+    let closed = compare_all(&books, &[one, two, three, four]);
     if !is_well || closed.is_err() {
         ended.unclean = ended.unclean.saturating_add(1);
     }

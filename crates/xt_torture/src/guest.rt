@@ -115,12 +115,12 @@ impl Mind {
     }
 }
 
-/// One thread: its seat, the worker that it is too, and what it draws its calls from.
+/// One thread before it begins: its seat, the worker that it is too, and the seed of its dice.
 #[derive(Drop)]
 pub struct Guest<H: House> {
     pub seat: HostSeat<H>,
     pub pass: WorkPass,
-    pub mind: Mind,
+    pub seed: u64,
 }
 
 /// Mounts a slot over two devices in memory, each of which fails in one call. Where it is refused the devices go.
@@ -191,35 +191,55 @@ fn serve<H: House, R: Wait>(
     Ok(())
 }
 
-/// What a thread found at its end.
-pub type Lived<H> = (Guest<H>, Result<bool, AllocError>);
+/// What a thread leaves: its seat, and whether no job came back to it.
+pub type Lived<H> = (HostSeat<H>, Result<bool, AllocError>);
 
 /// Does one thing: whether no job came back.
-fn turn<H: House, R: Wait>(rt: &R, host: &Host<H>, guest: &mut Guest<H>) -> Result<bool, AllocError>
-    requires queue { guest.old.pass.queue ≡ arc_value host.now.queue }
-    requires board { guest.old.seat.board.board ≡ host.now.board }
-    ensures queue { guest.new.pass.queue ≡ guest.old.pass.queue }
-    ensures board { guest.new.seat.board.board ≡ guest.old.seat.board.board }
+fn turn<H: House, R: Wait>(
+    rt: &R,
+    host: &Host<H>,
+    seat: &mut HostSeat<H>,
+    pass: &mut WorkPass,
+    mind: &mut Mind,
+) -> Result<bool, AllocError>
+    requires queue { pass.old.queue ≡ arc_value host.now.queue }
+    requires board { seat.old.board.board ≡ host.now.board }
+    ensures queue { pass.new.queue ≡ pass.old.queue }
+    ensures board { seat.new.board.board ≡ seat.old.board.board }
 {
-    let deed = guest.mind.deed();
+    let deed = mind.deed();
     if let Deed::Work = deed {
-        return Ok(work(rt, host, &mut guest.pass, &mut guest.seat));
+        return Ok(work(rt, host, pass, seat));
     }
-    serve(rt, host, &mut guest.seat, &mut guest.mind, deed)?;
+    serve(rt, host, seat, mind, deed)?;
     Ok(true)
 }
 
-/// Does so many things: whether no job came back.
-pub fn live<H: House, R: Wait>(rt: &R, host: &Host<H>, guest: Guest<H>, turns: u32) -> Lived<H>
+/// Does so many things.
+pub fn live<H: House, R: Wait>(
+    rt: &R,
+    alloc: Global,
+    host: &Host<H>,
+    guest: Guest<H>,
+    turns: u32,
+) -> Lived<H>
     requires queue { guest.pass.queue ≡ arc_value host.now.queue }
     requires board { guest.seat.board.board ≡ host.now.board }
 {
-    let mut guest = guest;
+    let Guest {
+        mut seat,
+        mut pass,
+        seed,
+    } = guest;
+    let mut mind = match Mind::new(alloc, seed) {
+        Ok(mind) => mind,
+        Err(fault) => return (seat, Err(fault)),
+    };
     for _ in 0..turns {
-        match turn(rt, host, &mut guest) {
+        match turn(rt, host, &mut seat, &mut pass, &mut mind) {
             Ok(true) => {}
-            told => return (guest, told),
+            told => return (seat, told),
         }
     }
-    (guest, Ok(true))
+    (seat, Ok(true))
 }
