@@ -7,6 +7,7 @@ ghost use Rattle.std.specs.Prelude.{◌≡◌, ◌≤◌, ◌<◌, [], false, le
 ghost use Rattle.xt_dev.specs.Devices.{failures_after};
 
 mod files;
+mod gates;
 
 use crate::call::HomeCall;
 use crate::fail_at::FailAt;
