@@ -15,7 +15,7 @@ use crate::bad_line::BadLine;
 use crate::buffer::Text;
 use crate::numbers::{number_on, put_number};
 use std::alloc::Global;
-use xt_base::content::{Content, Data, Kept};
+use xt_base::content::{Content, Data};
 use xt_base::sizes::{BLOCK_BYTES, DATA_BYTES};
 
 /// The shortest run that is spelled with a count.
@@ -385,16 +385,30 @@ pub(crate) fn put_data(out: &mut Text, bytes: &Data)
     ensures text { out.new ≡ put out.old (spelling bytes.now) }
     ensures few { length bytes.now ≤ DATA_BYTES }
 {
-    match bytes.kept() {
-        Kept::Plain(plain) => put_bytes(out, plain),
-        Kept::Repeated { byte, count } => put_repeated(
+    let kept = bytes.kept();
+    if kept.bytes.is_empty() {
+        put_repeated(
             out,
             Run {
-                byte: *byte,
-                count: *count as usize,
+                byte: kept.byte,
+                count: kept.count as usize,
             },
-        ),
+        );
+    } else if kept.count == 0 {
+        put_bytes(out, &kept.bytes);
+    } else {
+        put_laid_out(out, bytes);
     }
+}
+
+/// The same, where one byte stands many times among the others: all are laid out first.
+fn put_laid_out(out: &mut Text, bytes: &Data)
+    ensures { out.new ≡ put out.old (spelling bytes.now) }
+{
+    let mut room = [0; DATA_BYTES];
+    let all = &mut room[..bytes.len()];
+    bytes.copy_to(all);
+    put_bytes(out, all);
 }
 
 /// Puts the one spelling of some bytes.

@@ -12,9 +12,10 @@ use crate::print_step::print_step;
 use std::alloc::Global;
 use std::process::Abort;
 use std::test::Fail;
-use xt_base::content::{Content, Data, HeldBlocks, Kept};
+use xt_base::content::{Content, Data, HeldBlocks};
 use xt_base::form::Form;
 use xt_base::names::{Block, CkptNo, Life, Slot, TransNo};
+use xt_base::sizes::DATA_BYTES;
 use xt_base::steps::{
     Answer, Errno, HomeAnswers, HomeOffer, LogOffer, Reason, Reply, Request, Step,
 };
@@ -434,10 +435,13 @@ fn is_block(alloc: Global, data: &str, first: u8) -> bool {
     let Some(step) = log_step(alloc, data) else {
         return false;
     };
-    match logged(&step).map(|bytes| bytes.kept()) {
-        Some(Kept::Plain(bytes)) => is_first_alone(bytes, first),
-        _ => false,
-    }
+    let Some(bytes) = logged(&step) else {
+        return false;
+    };
+    let mut room = [0xff; DATA_BYTES];
+    let all = &mut room[..bytes.len()];
+    bytes.copy_to(all);
+    is_first_alone(all, first)
 }
 
 #[test]
