@@ -27,6 +27,9 @@ const DIGITS: u8 = 16;
 /// How many bytes are compared at once where runs are counted.
 const BLOCK: usize = 128;
 
+/// The room in which few bytes are laid out: it is filled with zeros first, so a small one takes less time.
+const SMALL_ROOM: usize = 256;
+
 /// A run of equal bytes.
 #[derive(Clone, Copy, Debug)]
 struct Run {
@@ -396,16 +399,20 @@ pub(crate) fn put_data(out: &mut Text, bytes: &Data)
         );
     } else if kept.count == 0 {
         put_bytes(out, &kept.bytes);
+    } else if bytes.len() <= SMALL_ROOM {
+        put_laid_out::<SMALL_ROOM>(out, bytes);
     } else {
-        put_laid_out(out, bytes);
+        put_laid_out::<DATA_BYTES>(out, bytes);
     }
 }
 
-/// The same, where one byte stands many times among the others: all are laid out first.
-fn put_laid_out(out: &mut Text, bytes: &Data)
+/// The same, where one byte stands many times among the others: all are laid out first, in a room of so many bytes.
+fn put_laid_out<const ROOM: usize>(out: &mut Text, bytes: &Data)
+    requires fits { length bytes.now ≤ ROOM }
+    requires size { ROOM ≤ DATA_BYTES }
     ensures { out.new ≡ put out.old (spelling bytes.now) }
 {
-    let mut room = [0; DATA_BYTES];
+    let mut room = [0; ROOM];
     let all = &mut room[..bytes.len()];
     bytes.copy_to(all);
     put_bytes(out, all);
