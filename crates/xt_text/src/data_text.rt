@@ -191,6 +191,16 @@ fn read_plain<'a>(bytes: &mut Vec<u8>, text: &'a [u8]) -> Result<&'a [u8], BadLi
     Ok(rest)
 }
 
+/// How many bytes a text may spell before a count: none where it begins with a counted run, as most texts do.
+fn room_for(text: &[u8]) -> usize
+    ensures { result ≤ length text.now }
+{
+    match text {
+        [_, _, b'*', ..] => 0,
+        _ => text.len() / 2,
+    }
+}
+
 /// Reads all of a text of bytes but its end, loosely: the bytes so far, and how far its last part has been read. Each spelling gives
 /// its bytes, and other texts may give some too.
 fn read_parts(alloc: Global, text: &[u8]) -> Result<(Vec<u8>, Place), BadLine>
@@ -198,7 +208,7 @@ fn read_parts(alloc: Global, text: &[u8]) -> Result<(Vec<u8>, Place), BadLine>
     ensures short { IfOk result (λ p. length p.0.items ≤ DATA_BYTES) }
     ensures bad { IsErrOf result Spelling → read_data text.now ≡ None }
 {
-    let mut bytes = Vec::with_capacity(alloc, text.len() / 2)?;
+    let mut bytes = Vec::with_capacity(alloc, room_for(text))?;
     let mut place = Place::Front;
     if text == b"-".as_slice() {
         return Ok((bytes, place));

@@ -667,6 +667,19 @@ fn offers_to_the_log_are_printed(rt: HostRuntime) -> Result<(), Fail> {
     Ok(())
 }
 
+/// A long stretch among other bytes is kept once, and runs go on over its ends.
+#[test]
+fn a_piece_with_a_stretch_is_printed(rt: HostRuntime) -> Result<(), Fail> {
+    let (mut out, slot) = (Text::new(rt.alloc())?, Slot::new(15).ok_or("a slot")?);
+    let mut bytes = [0xb9; 160];
+    bytes[3] = 0x58;
+    let bytes = Data::of(rt.alloc(), &bytes)?.ok_or("few bytes")?;
+    assert!(rt; bytes.kept().bytes.len() == 32);
+    let piece = LogOffer::Piece { bytes, ok: false };
+    log_says(&rt, &mut out, slot, piece, b"15 log b9b9b958.b9*156 fail");
+    Ok(())
+}
+
 #[test]
 fn offers_to_the_home_device_are_printed(rt: HostRuntime) -> Result<(), Fail> {
     let (mut out, slot) = (Text::new(rt.alloc())?, Slot::new(15).ok_or("a slot")?);
