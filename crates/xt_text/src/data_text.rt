@@ -339,15 +339,15 @@ fn count_front(bytes: &[u8], byte: u8) -> usize
     bytes.iter().take_while(|x| **x == byte).count()
 }
 
-/// How many bytes equal to one stand at the front: where the last byte of a block is equal to it too, whole blocks first,
-/// since these are compared at once.
+/// How many bytes equal to one stand at the front, which is one byte where the next is another: where the last byte of a block is
+/// equal to it too, whole blocks first, since these are compared at once.
 fn count_equal(bytes: &[u8], byte: u8) -> usize
     ensures value { result ≡ prefix_len (λ x. x == byte) bytes.now }
 {
-    if bytes.len() >= BLOCK && bytes[BLOCK - 1] == byte {
-        count_blocks(bytes, byte)
-    } else {
-        count_front(bytes, byte)
+    match bytes {
+        [first, second, ..] if *first == byte && *second != byte => 1,
+        _ if bytes.len() >= BLOCK && bytes[BLOCK - 1] == byte => count_blocks(bytes, byte),
+        _ => count_front(bytes, byte),
     }
 }
 
