@@ -310,7 +310,9 @@ pub(crate) fn put_hex(out: &mut Text, byte: u8)
 fn put_run(out: &mut Text, run: Run)
     ensures { out.new ≡ put out.old (run_text run) }
 {
-    if is_short(run) {
+    if run.count == 1 {
+        put_hex(out, run.byte);
+    } else if is_short(run) {
         for _ in 0..run.count {
             put_hex(out, run.byte);
         }
