@@ -1,7 +1,5 @@
 -- Lists of answers: the comparison of one by one decides whether they are the same.
-use Rattle.std.proofs.Common.{ap, ◌≡◌, ◌∙◌, Bool, List, false, length, nat_eq, replicate, rules, sym, ℕ}
-use Rattle.std.proofs.lemmas.Bool.{eq-eqb, false≢true}
-use Rattle.std.proofs.lemmas.List.{length-replicate}
+use Rattle.std.proofs.Common.{◌≡◌, Bool, List, rules, ℕ}
 use Rattle.std.specs.Prelude.{◌==◌, ◌&&◌}
 use Rattle.std.specs.Bool.{Decides}
 use Rattle.std.specs.Cmp.{booleans_Decides}
@@ -49,7 +47,3 @@ steps_decide (End worker name answers) b = search rules
 steps_decide (Flush worker name answers) b = search (answers_decide, rules)
 steps_decide (Show slot) b = search rules
 steps_decide (Peek slot) b = search rules
-
--- bytes are not one byte more or less often than they are many
-pub other_length : (xs : List ℕ) (x n : ℕ) → nat_eq (length xs) n ≡ false → Decides (nat_eq (length xs) n) (xs ≡ replicate n x)
-other_length xs x n other = (λ t. absurd (false≢true (sym other ∙ t)), λ same. absurd (false≢true (sym other ∙ eq-eqb (length xs) n (ap length same ∙ length-replicate n x))))

@@ -29,3 +29,4 @@ pub mod MemoryLemmas
 pub mod EqualityLemmas
 pub mod CarryLemmas
 pub mod ReplyLemmas
+pub mod PartLemmas

@@ -3,10 +3,10 @@ use Rattle.std.proofs.Common.{[], Bool, List, None, Option, Some, ap, false, ref
 use Rattle.std.proofs.lemmas.Bool.{false≢true}
 use Rattle.std.specs.Prelude.{if◌then◌else◌, ◌&&◌, ◌==◌, ◌||◌}
 use Rattle.xt_base.specs.Alone.{alone, call, called, carries_content, is_okay, is_refusal, turn}
-use Rattle.xt_base.specs.Calls.{Outcome, alloc, alone_with, answered, asks, cancel, commit, committed_of, force, force_to, freeze, get, gives, held_of, hold, inval, io_of, join, log, okay_of, push, read, release, released, roll, thaw, unhold, unless, unmount, view, waits_for, with_trans}
+use Rattle.xt_base.specs.Calls.{Outcome, alloc, alone_with, answered, asks, cancel, commit, committed_of, force, force_to, freeze, get, gives, hold, inval, io_of, join, log, okay_of, push, read, release, released, roll, thaw, unhold, unless, unmount, view, waits_for, with_trans}
 use Rattle.xt_base.specs.Legs.{own_count}
 use Rattle.xt_base.specs.Maps.{at}
-use Rattle.xt_base.specs.Order.{is_answer, is_there, mount_is, of_life}
+use Rattle.xt_base.specs.Order.{is_there, mount_is, of_life}
 use Rattle.xt_base.specs.Replies.{is_commit, is_cancel, is_force, is_read, is_release, is_trans, may_get}
 use Rattle.xt_base.specs.Settle.{Dropped}
 use Rattle.xt_base.specs.State.{Flight, Leg, Lone, State, Transaction}

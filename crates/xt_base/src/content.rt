@@ -1,9 +1,8 @@
 //! Bytes: the content of a block, what a request carries, and lists of blocks that stay held.
 
 ghost use Rattle.std.specs.Bool.{IsTrue};
-ghost use Rattle.std.specs.Cmp.Lexicographic.{pointwise};
 ghost use Rattle.std.specs.Prelude.{◌≡◌, ◌==◌, ◌+◌, ◌≤◌, ◌<◌, ◌++◌, ◌↔◌, List, ℕ, length, take, drop, replicate, IfOk, IsSome, IfSome, OnErr};
-ghost use Rattle.xt_base.specs.Kept.{kept_bytes};
+ghost use Rattle.xt_base.specs.Kept.{kept_bytes, IsStretch};
 
 use crate::form::Form;
 use crate::names::Block;
@@ -118,26 +117,33 @@ impl Content {
         requires { first + length bytes.now ≤ BLOCK_BYTES }
         ensures { self.new ≡ take first self.old ++ bytes.now ++ drop (first + length bytes.now) self.old }
     {
-        match bytes.kept() {
-            Kept::Plain(plain) => self.write(first, plain),
-            Kept::Repeated { byte, count } => self.fill(first, *byte, *count as usize),
-        }
-    }
-
-    /// Writes one byte so many times from `first` on.
-    fn fill(&mut self, first: usize, byte: u8, count: usize)
-        requires { first + count ≤ BLOCK_BYTES }
-        ensures { self.new ≡ take first self.old ++ replicate count byte ++ drop (first + count) self.old }
-    {
-        self.bytes[first..first + count].fill(byte);
+        let end = first + bytes.len();
+        bytes.copy_to(&mut self.bytes[first..end]);
     }
 }
 
-/// What data are kept as: their bytes, or one byte so many times, which takes little room however often that is.
+/// The shortest stretch of one byte that is looked for.
+const STRETCH: usize = 128;
+
+/// How far apart the places are where a stretch is looked for.
+const STEP: usize = 16;
+
+/// What data are kept as: bytes, and behind the first so many of them one byte so many times, which takes little room however
+/// often it stands there.
 #[derive(Debug, Drop)]
-pub enum Kept {
-    Plain(Vec<u8>),
-    Repeated { byte: u8, count: u16 },
+pub struct Kept {
+    pub bytes: Vec<u8>,
+    pub first: u16,
+    pub count: u16,
+    pub byte: u8,
+}
+
+/// Where one byte stands so many times among others.
+#[derive(Clone, Copy, Debug)]
+struct Stretch {
+    first: usize,
+    count: usize,
+    byte: u8,
 }
 
 /// Bytes that a request carries or a device was offered: at most 4,096, in a box, so that what has data is small.
@@ -155,11 +161,12 @@ impl Model for Data {
 
     ghost view = { λ d. kept_bytes d.kept.value };
 
-    ghost invariant = { λ d. length (kept_bytes d.kept.value) ≤ DATA_BYTES };
+    ghost invariant = { λ d. (length (kept_bytes d.kept.value) ≤ DATA_BYTES) × (d.kept.value.first ≤ length d.kept.value.bytes.items) };
 }
 
 impl Data {
-    /// These bytes, which are copied; None where they are more than 4,096. The one error is want of memory.
+    /// These bytes, which are copied, a long stretch of one byte as its count; None where they are more than 4,096. The one error
+    /// is want of memory.
     pub fn of(alloc: Global, bytes: &[u8]) -> Result<Option<Self>, AllocError>
         ensures valid { IfOk result (λ found. IsSome found ↔ (length bytes.now ≤ DATA_BYTES)) }
         ensures value { IfOk result (λ found. IfSome found (λ carried. carried ≡ bytes.now)) }
@@ -167,8 +174,9 @@ impl Data {
         if bytes.len() > DATA_BYTES {
             return Ok(None);
         }
-        let copy = bytes.to_vec(alloc)?;
-        Data::of_vec(alloc, copy)
+        let kept = kept_around(alloc, bytes, first_stretch(bytes))?;
+        let kept = Box::new(alloc, kept)?;
+        Ok(Some(Data { kept }))
     }
 
     /// These bytes, which are taken over; None where they are more than 4,096. The one error is want of memory.
@@ -179,7 +187,13 @@ impl Data {
         if bytes.len() > DATA_BYTES {
             return Ok(None);
         }
-        let kept = Box::new(alloc, Kept::Plain(bytes))?;
+        let kept = Kept {
+            bytes,
+            first: 0,
+            count: 0,
+            byte: 0,
+        };
+        let kept = Box::new(alloc, kept)?;
         Ok(Some(Data { kept }))
     }
 
@@ -191,8 +205,13 @@ impl Data {
         if count > DATA_BYTES {
             return Ok(None);
         }
-        let count = count as u16;
-        let kept = Box::new(alloc, Kept::Repeated { byte, count })?;
+        let kept = Kept {
+            bytes: Vec::new(alloc),
+            first: 0,
+            count: count as u16,
+            byte,
+        };
+        let kept = Box::new(alloc, kept)?;
         Ok(Some(Data { kept }))
     }
 
@@ -200,12 +219,12 @@ impl Data {
     pub fn copy(&self, alloc: Global) -> Result<Self, AllocError>
         ensures { IfOk result (λ carried. carried ≡ self.now) }
     {
-        let kept = match self.kept() {
-            Kept::Plain(bytes) => Kept::Plain(bytes.to_vec(alloc)?),
-            Kept::Repeated { byte, count } => Kept::Repeated {
-                byte: *byte,
-                count: *count,
-            },
+        let own = self.kept();
+        let kept = Kept {
+            bytes: own.bytes.to_vec(alloc)?,
+            first: own.first,
+            count: own.count,
+            byte: own.byte,
         };
         let kept = Box::new(alloc, kept)?;
         Ok(Data { kept })
@@ -216,74 +235,132 @@ impl Data {
         ensures value { result ≡ length self.now }
         ensures short { result ≤ DATA_BYTES }
     {
-        match self.kept() {
-            Kept::Plain(bytes) => bytes.len(),
-            Kept::Repeated { count, .. } => *count as usize,
-        }
+        let kept = self.kept();
+        kept.bytes.len() + kept.count as usize
     }
 
     /// What they are kept as.
     pub fn kept(&self) -> &Kept
         ensures value { kept_bytes result.now ≡ self.now }
         ensures short { length (kept_bytes result.now) ≤ DATA_BYTES }
+        ensures first { result.now.first ≤ length result.now.bytes.items }
     {
         &self.kept
+    }
+
+    /// Writes its bytes over as many others.
+    pub fn copy_to(&self, room: &mut [u8])
+        requires { length room.old ≡ length self.now }
+        ensures { room.new ≡ self.now }
+    {
+        let kept = self.kept();
+        let (head, tail) = kept.bytes.split_at(kept.first as usize);
+        let (front, rest) = room.split_at_mut(head.len());
+        let (middle, back) = rest.split_at_mut(kept.count as usize);
+        front.copy_from_slice(head);
+        middle.fill(kept.byte);
+        back.copy_from_slice(tail);
     }
 
     /// Whether these are its bytes.
     pub fn holds(&self, bytes: &[u8]) -> bool
         ensures { IsTrue result ↔ (self.now ≡ bytes.now) }
     {
-        match self.kept() {
-            Kept::Plain(own) => own.as_slice() == bytes,
-            Kept::Repeated { byte, count } => is_repeated(bytes, *byte, *count),
-        }
-    }
-
-    /// Whether its bytes are one byte so many times.
-    fn holds_repeated(&self, byte: u8, count: u16) -> bool
-        ensures { IsTrue result ↔ (self.now ≡ replicate count byte) }
-    {
-        match self.kept() {
-            Kept::Plain(own) => is_repeated(own, byte, count),
-            Kept::Repeated {
-                byte: own,
-                count: so_many,
-            } => *so_many == count && (count == 0 || *own == byte),
-        }
+        let mut room = [0; DATA_BYTES];
+        let own = &mut room[..self.len()];
+        self.copy_to(own);
+        &*own == bytes
     }
 
     /// Whether both are the same bytes, however they are kept.
     pub fn is(&self, other: &Data) -> bool
         ensures { IsTrue result ↔ (self.now ≡ other.now) }
     {
-        match other.kept() {
-            Kept::Plain(bytes) => self.holds(bytes),
-            Kept::Repeated { byte, count } => self.holds_repeated(*byte, *count),
-        }
+        let mut room = [0; DATA_BYTES];
+        let bytes = &mut room[..other.len()];
+        other.copy_to(bytes);
+        self.holds(bytes)
     }
 }
 
-/// Whether each of some bytes is this one.
-fn is_each(bytes: &[u8], byte: u8) -> bool
-    ensures { result ≡ pointwise ◌==◌ bytes.now (replicate (length bytes.now) byte) }
+/// The bytes after a block, if it stands at the front.
+fn after_block<'a>(bytes: &'a [u8], block: &[u8]) -> Option<&'a [u8]>
+    ensures { IfSome result (λ after. bytes.now ≡ block.now ++ after.now) }
 {
+    match bytes.strip_prefix(block) {
+        Some(after) => Some(after),
+        None => None,
+    }
+}
+
+/// How often a byte stands at the front, counted by whole blocks.
+#[tactic(auto, using(crate::proofs::PartLemmas::block_more, crate::proofs::PartLemmas::rest_behind))]
+fn count_blocks(bytes: &[u8], byte: u8) -> usize
+    ensures value { bytes.now ≡ replicate result byte ++ drop result bytes.now }
+    ensures bound { result ≤ length bytes.now }
+{
+    let block = [byte; STRETCH];
+    let mut count = 0;
     let mut rest = bytes;
-    while let Some((first, behind)) = rest.split_first() {
-        if *first != byte {
-            return false;
-        }
-        rest = behind;
+    while let Some(after) = after_block(rest, &block) {
+        count += STRETCH;
+        rest = after;
     }
-    true
+    count
 }
 
-/// Whether bytes are one byte so many times.
-#[tactic(auto, using(crate::proofs::EqualityLemmas::other_length))]
-fn is_repeated(bytes: &[u8], byte: u8, count: u16) -> bool
-    ensures { IsTrue result ↔ (bytes.now ≡ replicate count byte) }
+/// How often the byte at a place stands there, counted by whole blocks: not at all where the last byte of the first block is
+/// another.
+fn stretch_at(bytes: &[u8], first: usize) -> Stretch
+    requires { first + STRETCH ≤ length bytes.now }
+    ensures { IsStretch bytes.now result }
 {
-    bytes.len() == count as usize && is_each(bytes, byte)
+    let rest = &bytes[first..];
+    let byte = rest[0];
+    let count = if rest[STRETCH - 1] == byte {
+        count_blocks(rest, byte)
+    } else {
+        0
+    };
+    Stretch { first, count, byte }
+}
+
+/// The first stretch of one byte that is found, where there is one that is worth a note; else one of no byte.
+fn first_stretch(bytes: &[u8]) -> Stretch
+    ensures { IsStretch bytes.now result }
+{
+    let mut first = 0;
+    while bytes.len() - first >= STRETCH {
+        let stretch = stretch_at(bytes, first);
+        if stretch.count > 0 {
+            return stretch;
+        }
+        first += STEP;
+    }
+    Stretch {
+        first: 0,
+        count: 0,
+        byte: 0,
+    }
+}
+
+/// Bytes of which a stretch is kept as its count. The one error is want of memory.
+fn kept_around(alloc: Global, bytes: &[u8], stretch: Stretch) -> Result<Kept, AllocError>
+    requires short { length bytes.now ≤ DATA_BYTES }
+    requires stretch { IsStretch bytes.now stretch }
+    ensures value { IfOk result (λ kept. kept_bytes kept ≡ bytes.now) }
+    ensures first { IfOk result (λ kept. kept.first ≤ length kept.bytes.items) }
+{
+    let Stretch { first, count, byte } = stretch;
+    let mut others = Vec::with_capacity(alloc, bytes.len() - count)?;
+    others.extend_from_slice(&bytes[..first])?;
+    others.extend_from_slice(&bytes[first + count..])?;
+    Ok(Kept {
+        bytes: others,
+        first: first as u16,
+        count: count as u16,
+        byte,
+    })
 }
 
 /// Blocks that are handed back held, in the order in which they are told: 1 to 64, in a box, so that a reply is small.

@@ -1,9 +1,9 @@
 -- How long texts are at most.
-use Rattle.std.proofs.Common.{Bool, List, None, Option, Some, [], arith, cond, eqb, false, inl, inr, flat_map, length, length-append, ltb, replicate, refl, suc, true, zero, ℕ, ◌&&◌, ◌*◌, ◌++◌, ◌+◌, ◌<◌, ◌^◌, ◌≡◌, ◌≤◌, ◌∷◌}
+use Rattle.std.proofs.Common.{Bool, List, None, Option, Some, [], arith, cond, eqb, false, inl, inr, flat_map, length, length-append, ltb, replicate, refl, suc, true, zero, ℕ, ◌&&◌, ◌%◌, ◌*◌, ◌++◌, ◌+◌, ◌/◌, ◌<◌, ◌^◌, ◌≡◌, ◌≤◌, ◌∷◌}
 use Rattle.std.specs.Fmt.{decimal}
 use Rattle.std.specs.List.{AllByRecursion}
 use Rattle.std.proofs.lemmas.Bool.{cases_lt, cond_both, ltb-false}
-use Rattle.std.proofs.lemmas.Fmt.{length-decimal-le}
+use Rattle.std.proofs.lemmas.Fmt.{decimal_digit, decimal_step, length-decimal-le}
 use Rattle.std.proofs.lemmas.List.{length-take-le}
 use Rattle.xt_base.specs.declared.names.JobKind.{JobKind}
 use Rattle.xt_base.specs.declared.names.JobKind.TheVariants.{Ckpt}
@@ -23,6 +23,10 @@ use Rattle.xt_text.specs.declared.data_text.Run.{Run}
 -- a number has at most 20 digits
 pub decimal_fits : (n : ℕ) → n < 2 ^ 64 → length (decimal n) ≤ 20
 decimal_fits n small = length-decimal-le 20 n (omega arith) (omega arith) small
+
+-- one of two digits
+pub two_digits : (n : ℕ) → 10 ≤ n → n < 100 → decimal n ≡ (48 + n / 10) ∷ (48 + n % 10) ∷ []
+two_digits n least small = rw (decimal_step n least (omega arith), decimal_digit (n / 10) (omega arith)) refl
 
 -- ---- data
 -- how many bytes some runs have

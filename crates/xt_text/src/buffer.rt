@@ -121,8 +121,18 @@ fn append(bytes: &mut Vec<u8>, more: &[u8])
     if more.len() <= FEW {
         append_few(bytes, more);
     } else {
-        bytes.extend_from_slice(more).unwrap();
+        append_many(bytes, more);
     }
+}
+
+/// Puts bytes at once behind others that have room for them. It stands apart, so that a few bytes are put with no frame of a call.
+#[inline(never)]
+fn append_many(bytes: &mut Vec<u8>, more: &[u8])
+    requires room { vec_len bytes.old + length more.now ≤ vec_capacity bytes.old }
+    ensures items { bytes.new.items ≡ bytes.old.items ++ more.now }
+    ensures room { vec_capacity bytes.old ≤ vec_capacity bytes.new }
+{
+    bytes.extend_from_slice(more).unwrap();
 }
 
 /// Puts bytes one by one behind others that have room for them.

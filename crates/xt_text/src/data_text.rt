@@ -15,7 +15,7 @@ use crate::bad_line::BadLine;
 use crate::buffer::Text;
 use crate::numbers::{number_on, put_number};
 use std::alloc::Global;
-use xt_base::content::{Content, Data, Kept};
+use xt_base::content::{Content, Data};
 use xt_base::sizes::{BLOCK_BYTES, DATA_BYTES};
 
 /// The shortest run that is spelled with a count.
@@ -26,6 +26,9 @@ const DIGITS: u8 = 16;
 
 /// How many bytes are compared at once where runs are counted.
 const BLOCK: usize = 128;
+
+/// The room in which few bytes are laid out: it is filled with zeros first, so a small one takes less time.
+const SMALL_ROOM: usize = 256;
 
 /// A run of equal bytes.
 #[derive(Clone, Copy, Debug)]
@@ -188,6 +191,16 @@ fn read_plain<'a>(bytes: &mut Vec<u8>, text: &'a [u8]) -> Result<&'a [u8], BadLi
     Ok(rest)
 }
 
+/// How many bytes a text may spell before a count: none where it begins with a counted run, as most texts do.
+fn room_for(text: &[u8]) -> usize
+    ensures { result ≤ length text.now }
+{
+    match text {
+        [_, _, b'*', ..] => 0,
+        _ => text.len() / 2,
+    }
+}
+
 /// Reads all of a text of bytes but its end, loosely: the bytes so far, and how far its last part has been read. Each spelling gives
 /// its bytes, and other texts may give some too.
 fn read_parts(alloc: Global, text: &[u8]) -> Result<(Vec<u8>, Place), BadLine>
@@ -195,7 +208,7 @@ fn read_parts(alloc: Global, text: &[u8]) -> Result<(Vec<u8>, Place), BadLine>
     ensures short { IfOk result (λ p. length p.0.items ≤ DATA_BYTES) }
     ensures bad { IsErrOf result Spelling → read_data text.now ≡ None }
 {
-    let mut bytes = Vec::with_capacity(alloc, text.len() / 2)?;
+    let mut bytes = Vec::with_capacity(alloc, room_for(text))?;
     let mut place = Place::Front;
     if text == b"-".as_slice() {
         return Ok((bytes, place));
@@ -297,7 +310,9 @@ pub(crate) fn put_hex(out: &mut Text, byte: u8)
 fn put_run(out: &mut Text, run: Run)
     ensures { out.new ≡ put out.old (run_text run) }
 {
-    if is_short(run) {
+    if run.count == 1 {
+        put_hex(out, run.byte);
+    } else if is_short(run) {
         for _ in 0..run.count {
             put_hex(out, run.byte);
         }
@@ -326,15 +341,15 @@ fn count_front(bytes: &[u8], byte: u8) -> usize
     bytes.iter().take_while(|x| **x == byte).count()
 }
 
-/// How many bytes equal to one stand at the front: where the last byte of a block is equal to it too, whole blocks first,
-/// since these are compared at once.
+/// How many bytes equal to one stand at the front, which is one byte where the next is another: where the last byte of a block is
+/// equal to it too, whole blocks first, since these are compared at once.
 fn count_equal(bytes: &[u8], byte: u8) -> usize
     ensures value { result ≡ prefix_len (λ x. x == byte) bytes.now }
 {
-    if bytes.len() >= BLOCK && bytes[BLOCK - 1] == byte {
-        count_blocks(bytes, byte)
-    } else {
-        count_front(bytes, byte)
+    match bytes {
+        [first, second, ..] if *first == byte && *second != byte => 1,
+        _ if bytes.len() >= BLOCK && bytes[BLOCK - 1] == byte => count_blocks(bytes, byte),
+        _ => count_front(bytes, byte),
     }
 }
 
@@ -385,16 +400,34 @@ pub(crate) fn put_data(out: &mut Text, bytes: &Data)
     ensures text { out.new ≡ put out.old (spelling bytes.now) }
     ensures few { length bytes.now ≤ DATA_BYTES }
 {
-    match bytes.kept() {
-        Kept::Plain(plain) => put_bytes(out, plain),
-        Kept::Repeated { byte, count } => put_repeated(
+    let kept = bytes.kept();
+    if kept.bytes.is_empty() {
+        put_repeated(
             out,
             Run {
-                byte: *byte,
-                count: *count as usize,
+                byte: kept.byte,
+                count: kept.count as usize,
             },
-        ),
+        );
+    } else if kept.count == 0 {
+        put_bytes(out, &kept.bytes);
+    } else if bytes.len() <= SMALL_ROOM {
+        put_laid_out::<SMALL_ROOM>(out, bytes);
+    } else {
+        put_laid_out::<DATA_BYTES>(out, bytes);
     }
+}
+
+/// The same, where one byte stands many times among the others: all are laid out first, in a room of so many bytes.
+fn put_laid_out<const ROOM: usize>(out: &mut Text, bytes: &Data)
+    requires fits { length bytes.now ≤ ROOM }
+    requires size { ROOM ≤ DATA_BYTES }
+    ensures { out.new ≡ put out.old (spelling bytes.now) }
+{
+    let mut room = [0; ROOM];
+    let all = &mut room[..bytes.len()];
+    bytes.copy_to(all);
+    put_bytes(out, all);
 }
 
 /// Puts the one spelling of some bytes.

@@ -49,15 +49,17 @@ pub(crate) fn below(word: &[u8], limit: u64) -> Result<u64, BadLine>
     }
 }
 
-/// Puts a number in decimal: a digit, as most numbers of a line are, at once.
+/// Puts a number in decimal: a digit or two, as most numbers of a line have, at once.
 #[inline(always)]
-#[tactic(auto, using(crate::proofs::Lengths::decimal_fits, std::proofs::lemmas::Fmt::decimal_digit))]
+#[tactic(auto, using(crate::proofs::Lengths::decimal_fits, crate::proofs::Lengths::two_digits, std::proofs::lemmas::Fmt::decimal_digit))]
 pub(crate) fn put_number(out: &mut Text, number: u64)
     ensures text { out.new ≡ put out.old (decimal number) }
     ensures short { length (decimal number) ≤ 20 }
 {
     if number < 10 {
         out.push(b'0' + number as u8);
+    } else if number < 100 {
+        out.push_both(b'0' + (number / 10) as u8, b'0' + (number % 10) as u8);
     } else {
         put_digits(out, number);
     }

@@ -12,9 +12,10 @@ use crate::print_step::print_step;
 use std::alloc::Global;
 use std::process::Abort;
 use std::test::Fail;
-use xt_base::content::{Content, Data, HeldBlocks, Kept};
+use xt_base::content::{Content, Data, HeldBlocks};
 use xt_base::form::Form;
 use xt_base::names::{Block, CkptNo, Life, Slot, TransNo};
+use xt_base::sizes::DATA_BYTES;
 use xt_base::steps::{
     Answer, Errno, HomeAnswers, HomeOffer, LogOffer, Reason, Reply, Request, Step,
 };
@@ -434,10 +435,13 @@ fn is_block(alloc: Global, data: &str, first: u8) -> bool {
     let Some(step) = log_step(alloc, data) else {
         return false;
     };
-    match logged(&step).map(|bytes| bytes.kept()) {
-        Some(Kept::Plain(bytes)) => is_first_alone(bytes, first),
-        _ => false,
-    }
+    let Some(bytes) = logged(&step) else {
+        return false;
+    };
+    let mut room = [0xff; DATA_BYTES];
+    let all = &mut room[..bytes.len()];
+    bytes.copy_to(all);
+    is_first_alone(all, first)
 }
 
 #[test]
@@ -660,6 +664,19 @@ fn offers_to_the_log_are_printed(rt: HostRuntime) -> Result<(), Fail> {
     );
     log_says(&rt, &mut out, slot, piece, b"15 log aa*32 ok");
     log_says(&rt, &mut out, slot, sync, b"15 logsync fail");
+    Ok(())
+}
+
+/// A long stretch among other bytes is kept once, and runs go on over its ends.
+#[test]
+fn a_piece_with_a_stretch_is_printed(rt: HostRuntime) -> Result<(), Fail> {
+    let (mut out, slot) = (Text::new(rt.alloc())?, Slot::new(15).ok_or("a slot")?);
+    let mut bytes = [0xb9; 160];
+    bytes[3] = 0x58;
+    let bytes = Data::of(rt.alloc(), &bytes)?.ok_or("few bytes")?;
+    assert!(rt; bytes.kept().bytes.len() == 32);
+    let piece = LogOffer::Piece { bytes, ok: false };
+    log_says(&rt, &mut out, slot, piece, b"15 log b9b9b958.b9*156 fail");
     Ok(())
 }
 

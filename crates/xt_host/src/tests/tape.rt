@@ -5,8 +5,9 @@ ghost use Rattle.std.specs.Prelude.{[], false};
 use std::alloc::{AllocError, Global};
 use std::sync::Arc;
 use std::sync::atomic::{AtomicU8, AtomicUsize, Ordering};
-use xt_base::content::Kept;
+use xt_base::content::Data;
 use xt_base::names::Block;
+use xt_base::sizes::DATA_BYTES;
 use xt_base::steps::{HomeOffer, LogOffer};
 use xt_dev::fault::DevFault;
 use xt_dev::home::HomeDevice;
@@ -83,14 +84,12 @@ impl Tape {
         }
     }
 
-    /// Writes one byte so many times, as those bytes.
-    fn put_repeated(&self, byte: u8, count: u16) {
-        for byte in u64::from(count).to_le_bytes() {
-            self.put(byte);
-        }
-        for _ in 0..count {
-            self.put(byte);
-        }
+    /// Writes data, with the number of their bytes before them.
+    fn put_data(&self, data: &Data) {
+        let mut room = [0; DATA_BYTES];
+        let bytes = &mut room[..data.len()];
+        data.copy_to(bytes);
+        self.put_all(bytes);
     }
 
     /// Notes a piece that a log device was offered.
@@ -120,10 +119,7 @@ impl Tape {
             LogOffer::Piece { bytes, ok } => {
                 self.put(PIECE);
                 self.put(u8::from(*ok));
-                match bytes.kept() {
-                    Kept::Plain(bytes) => self.put_all(bytes),
-                    Kept::Repeated { byte, count } => self.put_repeated(*byte, *count),
-                }
+                self.put_data(bytes);
             }
             LogOffer::Sync { ok } => self.sync(LOG_SYNC, *ok),
         }
