@@ -1,3 +1,5 @@
 pub mod Fresh
 pub mod Contents
 pub mod Settling
+pub mod Busy
+pub mod Idle

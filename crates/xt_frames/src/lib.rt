@@ -1,8 +1,10 @@
 //! The contents that a mount keeps: committed ones of busy blocks, fresh marks, and the idle list.
 #![tactic(auto)]
 
+mod busy;
 pub mod frames;
 mod fresh;
+mod idle;
 #[cfg(test)]
 mod tests;
 
