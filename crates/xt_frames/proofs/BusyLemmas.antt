@@ -4,7 +4,7 @@ use Rattle.std.proofs.lemmas.Bool.{cases_eq}
 use Rattle.std.proofs.lemmas.Grind.{common_steps}
 use Rattle.std.proofs.lemmas.List.{drop_all}
 use Rattle.std.specs.List.{cons_option}
-use Rattle.std.specs.Prelude.{false, is_some, option_map, slice_get, slice_index_or}
+use Rattle.std.specs.Prelude.{count_by, false, is_some, option_map, slice_get, slice_index_or}
 use Rattle.slab.specs.Slab.{Slab, Updates, get, slab_len}
 use Rattle.xt_base.proofs.MapLemmas.{at_first, at_later, some_same, without_first, without_later}
 use Rattle.xt_base.proofs.RisingLemmas.{each_at, each_both, each_map, each_other, each_put, length_put_new, rises_put, rises_without}
@@ -281,3 +281,14 @@ module _ (frames : Slab Frame) (es : Index) (i : ℕ) (copies new : List Frame) 
 
 pub copied_all : (frames : Slab Frame) (es : Index) (i : ℕ) (copies : List Frame) → length es ≤ i → copies ++ busy_of frames (drop i es) ≡ busy_of frames es → copies ≡ busy_of frames es
 copied_all frames es i copies past so_far = sym (append-nil copies) ∙ ap (λ xs. copies ++ busy_of frames xs) (sym (drop_all i es past)) ∙ so_far
+
+-- ---- none left
+none_left : (slots : List (Option Frame)) → slots ≡ [] → count_by is_some slots ≡ 0
+none_left slots is = ap (count_by is_some) is
+
+pub tied_cleared : (old new : Slab Frame) (more : Index) → 128 ≤ old.capacity → new.slots ≡ [] → new.capacity ≡ old.capacity → more ≡ [] → AreTied new more
+tied_cleared old new more room empty same is =
+    subst (AreTied new) (sym is) (record { rising = tt; named = tt; count = none_left new.slots empty; room = subst (λ n. 128 ≤ n) (sym same) room })
+
+pub busy_cleared : (frames : Slab Frame) (more : Index) → more ≡ [] → busy_of frames more ≡ []
+busy_cleared frames more is = ap (busy_of frames) is

@@ -5,7 +5,7 @@ use Rattle.std.proofs.lemmas.Bool.{cases_Bool, cases_eq, eq-eqb, ne_eqb}
 use Rattle.std.specs.List.{AllByRecursion, IsDistinct}
 use Rattle.std.specs.Map.{keys_of, lookup, lookup_entry, remove_entry}
 use Rattle.std.specs.Option.{option_map_or}
-use Rattle.std.specs.Prelude.{Err, IfNone, Ok, OnOk, Result, if◌then◌else◌, is_err, is_some, nat_eq, slice_get, ◌==◌}
+use Rattle.std.specs.Prelude.{Err, IfNone, Ok, OnOk, Result, if◌then◌else◌, is_err, is_some, nat_eq, option_map, slice_get, ◌==◌}
 use Rattle.lru.specs.LruCache.{LruCache, demoted, last_entry, lru_cache, put_entries}
 use Rattle.xt_base.proofs.MapLemmas.{at_first, at_later, without_first, without_later}
 use Rattle.xt_base.proofs.ViewLemmas.{without_none}
@@ -405,3 +405,26 @@ module _ (n : ℕ) (i : Idle) (es rest all : Names) (copies new : List (ℕ × L
 
   pub skipped : i ≡ None → copies ++ idle_of rest ≡ idle_of all
   skipped is = ap (λ xs. copies ++ xs) (sym (ap idle_of steps ∙ ap (λ x. idle_of ((n, x) ∷ rest)) is)) ∙ so_far
+
+-- ---- the first one
+-- the block under a name
+abbrev pub block_under : Option (ℕ × Idle) → Option ℕ
+block_under None = None
+block_under (Some (n, None)) = None
+block_under (Some (n, Some p)) = Some p.0
+
+pub first_block : (es : Names) → IsPacked es → block_under (slice_get es 0) ≡ option_map (λ (e : ℕ × List ℕ). e.0) (slice_get (idle_of es) 0)
+first_block [] packed = refl
+first_block ((n, None) ∷ es) packed = sym (ap (λ (xs : List (ℕ × List ℕ)). option_map (λ (e : ℕ × List ℕ). e.0) (slice_get xs 0)) (none_idle es packed))
+first_block ((n, Some p) ∷ es) packed = refl
+
+pub fewer_first : (xs new : List (ℕ × List ℕ)) (b : ℕ) → Some b ≡ option_map (λ (e : ℕ × List ℕ). e.0) (slice_get xs 0) → new ≡ without b xs → length new < length xs
+fewer_first [] new b is left = absurd (cc)
+fewer_first (x ∷ xs) new b is left =
+    let same : b ≡ x.0 = cc in
+    let rest : length new ≡ length xs = ap (λ (ys : List (ℕ × List ℕ)). length ys) (left ∙ without_first b x xs same) in
+    omega (arith, rest)
+
+pub none_first : (xs : List (ℕ × List ℕ)) → None ≡ option_map (λ (e : ℕ × List ℕ). e.0) (slice_get xs 0) → xs ≡ []
+none_first [] is = refl
+none_first (x ∷ xs) is = absurd (cc)

@@ -3,3 +3,4 @@ pub mod FrameLemmas
 pub mod FreshLemmas
 pub mod BusyLemmas
 pub mod IdleLemmas
+pub mod TableLemmas

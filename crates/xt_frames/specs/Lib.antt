@@ -3,3 +3,4 @@ pub mod Contents
 pub mod Settling
 pub mod Busy
 pub mod Idle
+pub mod Shares

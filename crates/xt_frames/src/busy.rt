@@ -128,6 +128,14 @@ impl BusyFrames {
         }
     }
 
+    /// All contents go. It takes no memory.
+    pub fn clear(&mut self)
+        ensures { self.new ≡ [] }
+    {
+        self.frames.clear();
+        self.index.clear();
+    }
+
     /// The contents in a list of their own, by rising block. The one error is want of memory.
     pub fn copies(&self, alloc: Global) -> Result<Vec<(u64, Content)>, AllocError>
         ensures { IfOk result (λ copies. copies.items ≡ self.now) }

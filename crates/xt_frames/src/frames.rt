@@ -1,16 +1,19 @@
 //! Contents: the committed ones of busy blocks, fresh marks, and the idle list.
 
-ghost use Rattle.std.specs.Prelude.{ℕ, Bool, ◌≡◌, ◌+◌, ◌-◌, Some, None, ◌<◌, ◌≤◌, ◌++◌, ◌∷◌, [], length, take, drop, slice_get, IfOk, IfSome, option_copied, if◌then◌else◌, ◌⊎◌, ◌&&◌, nat_lt, not};
+ghost use Rattle.std.specs.Prelude.{ℕ, Bool, ◌≡◌, ◌+◌, ◌-◌, Some, None, ◌<◌, ◌≤◌, ◌++◌, ◌∷◌, [], length, take, drop, slice_get, IfErr, IfOk, IfSome, option_copied, if◌then◌else◌, ◌⊎◌, ◌&&◌, nat_lt, not};
 ghost use Rattle.xt_base.specs.Maps.{at, has, is_in, put, with_member, without, without_member};
 ghost use Rattle.xt_frames.specs.Contents.{no_frames, brought_in};
+ghost use Rattle.xt_frames.specs.Shares.{no_contents};
 ghost use Rattle.xt_frames.specs.Settling.{content_block, contents_from, fresh_block, fresh_from, saved_by, settled_by};
 
 use crate::busy::BusyFrames;
 use crate::fresh::FreshBlocks;
 use crate::idle::IdleList;
+use crate::share::FrameShare;
 use std::alloc::{AllocError, Global};
 use std::marker::Model;
 use xt_base::content::Content;
+use xt_base::names::Slot;
 use xt_base::sizes::{IDLE_BLOCKS, ROOM};
 
 /// The contents that a mount keeps: committed ones of busy blocks, which blocks are fresh, and the
@@ -46,6 +49,38 @@ impl Frames {
             idle,
             spare: None,
         })
+    }
+
+    /// No content at all, in a share that has none. Where memory is refused for the fresh marks, the share is handed back.
+    pub fn over(alloc: Global, share: FrameShare) -> Result<Self, FrameShare>
+        requires { share ≡ no_contents share.slot }
+        ensures ok { IfOk result (λ frames. frames ≡ no_frames) }
+        ensures back { IfErr result (λ back. back ≡ share) }
+    {
+        let Ok(fresh) = FreshBlocks::new(alloc) else {
+            return Err(share);
+        };
+        let FrameShare { busy, idle, .. } = share;
+        Ok(Frames {
+            busy,
+            fresh,
+            idle,
+            spare: None,
+        })
+    }
+
+    /// The frames go back into a share of their slot: what one life kept is no part of the next. It takes no memory.
+    pub fn into_share(self, slot: Slot) -> FrameShare
+        ensures { result ≡ no_contents slot }
+    {
+        let Frames {
+            mut busy,
+            mut idle,
+            ..
+        } = self;
+        busy.clear();
+        idle.clear();
+        FrameShare { slot, busy, idle }
     }
 
     /// Whether a block is fresh: it shows zeros until it is written whole.

@@ -2,7 +2,7 @@
 
 ghost use Rattle.std.specs.List.{IsDistinct};
 ghost use Rattle.std.specs.Map.{keys_of, lookup};
-ghost use Rattle.std.specs.Prelude.{◌≡◌, ◌≤◌, ◌∷◌, None, Some, [], is_some, length, nat_eq, take, true, IfNone, IfOk, IfSome};
+ghost use Rattle.std.specs.Prelude.{◌≡◌, ◌≤◌, ◌∷◌, List, None, Some, [], is_some, length, nat_eq, option_map, slice_get, take, true, IfNone, IfOk, IfSome, ℕ};
 ghost use Rattle.lru.specs.LruCache.{demoted, last_entry, lru_cache, put_entries};
 ghost use Rattle.xt_base.specs.Maps.{at, is_in, without};
 ghost use Rattle.xt_frames.specs.Idle.{content_under, idle_of, name_of, IsFull, IsPacked};
@@ -77,6 +77,28 @@ impl IdleList {
         names_differ(&self.names);
         let name = last_name(&self.names);
         put_under(&mut self.names, name, block, content);
+    }
+
+    /// The most recent block, if one is idle.
+    fn first(&self) -> Option<u64>
+        ensures { result ≡ option_map (λ (e : ℕ × List ℕ). e.0) (slice_get self.now 0) }
+    {
+        match self.names.peek_mru() {
+            Some((_, idle)) => match idle {
+                Some(entry) => Some(entry.0),
+                None => None,
+            },
+            None => None,
+        }
+    }
+
+    /// All contents go. It takes no memory.
+    pub fn clear(&mut self)
+        ensures { self.new ≡ [] }
+    {
+        while let Some(block) = self.first() {
+            let _content = self.take(block);
+        }
     }
 
     /// The contents in a list of their own, the most recent first. The one error is want of memory.

@@ -5,7 +5,11 @@ mod busy;
 pub mod frames;
 mod fresh;
 mod idle;
+pub mod share;
+pub mod table;
 #[cfg(test)]
 mod tests;
 
 pub use frames::Frames;
+pub use share::FrameShare;
+pub use table::FrameTable;
