@@ -1,3 +1,6 @@
 pub mod SettleLemmas
 pub mod FrameLemmas
 pub mod FreshLemmas
+pub mod BusyLemmas
+pub mod IdleLemmas
+pub mod TableLemmas

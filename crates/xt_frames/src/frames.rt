@@ -1,38 +1,38 @@
 //! Contents: the committed ones of busy blocks, fresh marks, and the idle list.
 
-ghost use Rattle.std.specs.Prelude.{ℕ, Bool, ◌≡◌, ◌+◌, ◌-◌, Some, None, ◌<◌, ◌≤◌, ◌++◌, ◌∷◌, [], length, take, drop, slice_get, IfOk, IfSome, option_copied, if◌then◌else◌, ◌⊎◌, ◌&&◌, nat_lt, not};
+ghost use Rattle.std.specs.Prelude.{ℕ, Bool, ◌≡◌, ◌+◌, ◌-◌, Some, None, ◌<◌, ◌≤◌, ◌++◌, ◌∷◌, [], length, take, drop, slice_get, IfErr, IfOk, IfSome, option_copied, if◌then◌else◌, ◌⊎◌, ◌&&◌, nat_lt, not};
 ghost use Rattle.xt_base.specs.Maps.{at, has, is_in, put, with_member, without, without_member};
 ghost use Rattle.xt_frames.specs.Contents.{no_frames, brought_in};
+ghost use Rattle.xt_frames.specs.Shares.{no_contents};
 ghost use Rattle.xt_frames.specs.Settling.{content_block, contents_from, fresh_block, fresh_from, saved_by, settled_by};
 
+use crate::busy::BusyFrames;
 use crate::fresh::FreshBlocks;
+use crate::idle::IdleList;
+use crate::share::FrameShare;
 use std::alloc::{AllocError, Global};
 use std::marker::Model;
 use xt_base::content::Content;
-use xt_base::map::{NumberMap, spot_of};
+use xt_base::names::Slot;
 use xt_base::sizes::{IDLE_BLOCKS, ROOM};
 
 /// The contents that a mount keeps: committed ones of busy blocks, which blocks are fresh, and the
 /// contents of idle blocks, the most recent first.
 #[derive(Debug, Drop)]
 pub struct Frames {
-    committed: NumberMap<Content>,
+    busy: BusyFrames,
     fresh: FreshBlocks,
-    idle: Vec<(u64, Content)>,
+    idle: IdleList,
     /// A content that was replaced, for a later copy.
     spare: Option<Content>,
 }
 
 impl Model for Frames {
-    ghost use Rattle.std.specs.Prelude.{◌<◌, ◌≤◌, length, vec_capacity};
     ghost use Rattle.xt_base.specs.State.{Frames as FramesValue};
-    ghost use Rattle.xt_base.specs.declared.sizes.TheConstants.{IDLE_BLOCKS};
 
     ghost Value = { FramesValue };
 
-    ghost view = { λ f. record { committed = f.committed; fresh = f.fresh; idle = f.idle.items } };
-
-    ghost invariant = { λ f. (length f.idle.items ≤ IDLE_BLOCKS) × (IDLE_BLOCKS < vec_capacity f.idle) };
+    ghost view = { λ f. record { committed = f.busy; fresh = f.fresh; idle = f.idle } };
 }
 
 impl Frames {
@@ -40,15 +40,47 @@ impl Frames {
     pub fn new(alloc: Global) -> Result<Self, AllocError>
         ensures { IfOk result (λ frames. frames ≡ no_frames) }
     {
-        let committed = NumberMap::new(alloc)?;
+        let busy = BusyFrames::new(alloc)?;
         let fresh = FreshBlocks::new(alloc)?;
-        let idle = Vec::with_capacity(alloc, IDLE_BLOCKS + 1)?;
+        let idle = IdleList::new(alloc)?;
         Ok(Frames {
-            committed,
+            busy,
             fresh,
             idle,
             spare: None,
         })
+    }
+
+    /// No content at all, in a share that has none. Where memory is refused for the fresh marks, the share is handed back.
+    pub fn over(alloc: Global, share: FrameShare) -> Result<Self, FrameShare>
+        requires { share ≡ no_contents share.slot }
+        ensures ok { IfOk result (λ frames. frames ≡ no_frames) }
+        ensures back { IfErr result (λ back. back ≡ share) }
+    {
+        let Ok(fresh) = FreshBlocks::new(alloc) else {
+            return Err(share);
+        };
+        let FrameShare { busy, idle, .. } = share;
+        Ok(Frames {
+            busy,
+            fresh,
+            idle,
+            spare: None,
+        })
+    }
+
+    /// The frames go back into a share of their slot: what one life kept is no part of the next. It takes no memory.
+    pub fn into_share(self, slot: Slot) -> FrameShare
+        ensures { result ≡ no_contents slot }
+    {
+        let Frames {
+            mut busy,
+            mut idle,
+            ..
+        } = self;
+        busy.clear();
+        idle.clear();
+        FrameShare { slot, busy, idle }
     }
 
     /// Whether a block is fresh: it shows zeros until it is written whole.
@@ -62,35 +94,35 @@ impl Frames {
     pub fn is_idle(&self, block: u64) -> bool
         ensures { result ≡ is_in block self.now.idle }
     {
-        spot_of(&self.idle, block) < self.idle.len()
+        self.idle.contains(block)
     }
 
     /// Whether there is no room for one more content, or for one more fresh mark.
     pub fn is_full(&self) -> bool
         ensures { result ≡ not (nat_lt (length self.now.committed) ROOM && nat_lt (length self.now.fresh) ROOM) }
     {
-        !(self.committed.len() < ROOM && self.fresh.len() < ROOM)
+        !(self.busy.len() < ROOM && self.fresh.len() < ROOM)
     }
 
     /// The committed content of a block.
     pub fn content(&self, block: u64) -> Option<&Content>
         ensures { option_copied result ≡ at block self.now.committed }
     {
-        self.committed.get(block)
+        self.busy.get(block)
     }
 
-    /// The committed contents, by rising block.
-    pub fn committed(&self) -> &[(u64, Content)]
-        ensures { result.now ≡ self.now.committed }
+    /// The committed contents in a list of their own, by rising block. The one error is want of memory.
+    pub fn committed(&self, alloc: Global) -> Result<Vec<(u64, Content)>, AllocError>
+        ensures { IfOk result (λ contents. contents.items ≡ self.now.committed) }
     {
-        self.committed.entries()
+        self.busy.copies(alloc)
     }
 
-    /// The idle contents, the most recent first.
-    pub fn idle(&self) -> &[(u64, Content)]
-        ensures { result.now ≡ self.now.idle }
+    /// The idle contents in a list of their own, the most recent first. The one error is want of memory.
+    pub fn idle(&self, alloc: Global) -> Result<Vec<(u64, Content)>, AllocError>
+        ensures { IfOk result (λ contents. contents.items ≡ self.now.idle) }
     {
-        &self.idle
+        self.idle.copies(alloc)
     }
 
     /// The fresh blocks, ascending, in a list of their own. The one error is want of memory.
@@ -106,12 +138,11 @@ impl Frames {
         requires fresh { length self.old.fresh < ROOM }
         ensures { self.new ≡ brought_in block (at block self.old.idle) self.old }
     {
-        let found = spot_of(&self.idle, block);
-        if found < self.idle.len() {
-            let (_, content) = self.idle.remove(found);
-            self.committed.put(block, content);
-        } else {
-            self.fresh.insert(block);
+        match self.idle.take(block) {
+            Some(content) => {
+                let _before = self.busy.exchange(block, content);
+            }
+            None => self.fresh.insert(block),
         }
     }
 
@@ -121,24 +152,21 @@ impl Frames {
         ensures { self.new ≡ record self.old { committed = put block content self.old.committed; idle = without block self.old.idle } }
     {
         self.leave_idle(block);
-        self.committed.put(block, content);
+        let _before = self.busy.exchange(block, content);
     }
 
     /// A block is idle no more.
     fn leave_idle(&mut self, block: u64)
         ensures { self.new ≡ record self.old { idle = without block self.old.idle } }
     {
-        let found = spot_of(&self.idle, block);
-        if found < self.idle.len() {
-            let _entry = self.idle.remove(found);
-        }
+        let _content = self.idle.take(block);
     }
 
     /// A committed content goes. It takes no memory.
     pub fn uncommit(&mut self, block: u64)
         ensures { self.new ≡ record self.old { committed = without block self.old.committed } }
     {
-        let _content = self.committed.remove(block);
+        let _content = self.busy.remove(block);
     }
 
     /// A block is fresh. It takes no memory.
@@ -154,7 +182,7 @@ impl Frames {
         requires { length self.old.committed < ROOM }
         ensures { self.new ≡ record self.old { committed = put block content self.old.committed } }
     {
-        self.spare = self.committed.exchange(block, content);
+        self.spare = self.busy.exchange(block, content);
     }
 
     /// A content that was replaced and that nobody needs any more, if there is one: a copy may take its place.
@@ -216,10 +244,8 @@ impl Frames {
         ensures small { IfSome result (λ _. index < ROOM) }
         ensures idle { length self.now.idle ≤ IDLE_BLOCKS }
     {
-        match self.committed.entries().get(index) {
-            Some(entry) => Some(entry.0),
-            None => None,
-        }
+        self.idle.is_short();
+        self.busy.block_at(index)
     }
 
     /// The fresh block at a place.
@@ -276,10 +302,9 @@ impl Frames {
           idle = if is_kept then take IDLE_BLOCKS (e ∷ self.old.idle) else self.old.idle;
         }) }
     {
-        let entry = self.committed.remove_at(index);
+        let (block, content) = self.busy.remove_at(index);
         if is_kept {
-            self.idle.insert(0, entry).unwrap();
-            self.idle.truncate(IDLE_BLOCKS);
+            self.idle.put(block, content);
         }
     }
 

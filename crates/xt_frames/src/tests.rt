@@ -1,9 +1,13 @@
 //! The contents on small lists worked out by hand.
 
 use crate::frames::Frames;
+use crate::share::FrameShare;
+use crate::table::FrameTable;
 use std::alloc::{AllocError, Global};
+use std::test::Fail;
 use xt_base::content::Content;
 use xt_base::form::Form;
+use xt_base::names::Slot;
 
 /// A content that begins with this byte, and is zeros else.
 fn content_of(alloc: Global, first: u8) -> Result<Content, AllocError> {
@@ -148,5 +152,33 @@ fn fresh_blocks_come_and_go(rt: HostRuntime) -> Result<(), AllocError> {
     frames.leave_fresh(6);
     assert!(rt; frames.is_fresh(9) && !frames.is_fresh(4) && !frames.is_fresh(6));
     assert!(rt; !frames.is_idle(4));
+    Ok(())
+}
+
+/// A share that was taken is not there until it is given back; that of another slot is.
+#[test]
+fn a_share_is_in_one_hand(rt: HostRuntime) -> Result<(), Fail> {
+    let mut table = FrameTable::new(rt.alloc(), 16)?;
+    let slot = Slot::new(3).ok_or("a slot")?;
+    let other = Slot::new(4).ok_or("another")?;
+    let share = table.take_share(slot).ok_or("a share")?;
+    assert!(rt; share.slot() == slot && share.drops() == 0);
+    assert!(rt; table.take_share(slot).is_none());
+    assert!(rt; table.take_share(other).is_some());
+    table.give_back(share);
+    assert!(rt; table.take_share(slot).is_some());
+    Ok(())
+}
+
+/// What was idle in one life of a slot is no part of the next.
+#[test]
+fn a_life_begins_without_contents(rt: HostRuntime) -> Result<(), Fail> {
+    let slot = Slot::new(3).ok_or("a slot")?;
+    let share = FrameShare::new(rt.alloc(), slot)?;
+    let mut frames = Frames::over(rt.alloc(), share).map_err(|_| "one life")?;
+    assert!(rt; rest(rt.alloc(), &mut frames, 7)? && frames.is_idle(7));
+    let share = frames.into_share(slot);
+    let frames = Frames::over(rt.alloc(), share).map_err(|_| "another")?;
+    assert!(rt; !frames.is_idle(7));
     Ok(())
 }

@@ -9,7 +9,6 @@ use crate::machine::Machine;
 use crate::open_trans::OpenTrans;
 use crate::state::{FlightState, FramesState, ItemsState, State, TransState};
 use std::alloc::{AllocError, Global};
-use xt_base::content::Content;
 use xt_frames::frames::Frames;
 
 impl Machine {
@@ -46,27 +45,13 @@ fn copies_of<T: Copy>(alloc: Global, values: &[T]) -> Result<Vec<T>, AllocError>
     Ok(copies)
 }
 
-/// Some contents with their blocks, copied. The one error is want of memory.
-fn contents_copy(
-    alloc: Global,
-    entries: &[(u64, Content)],
-) -> Result<Vec<(u64, Content)>, AllocError>
-    ensures { IfOk result (λ copies. copies.items ≡ entries.now) }
-{
-    let mut copies = Vec::with_capacity(alloc, entries.len())?;
-    for e in entries {
-        copies.push((e.0, e.1.copy(alloc)?))?;
-    }
-    Ok(copies)
-}
-
 /// The contents that a mount keeps, copied. The one error is want of memory.
 fn frames_copy(alloc: Global, frames: &Frames) -> Result<FramesState, AllocError>
     ensures { IfOk result (λ copy. copy ≡ frames.now) }
 {
-    let committed = contents_copy(alloc, frames.committed())?;
+    let committed = frames.committed(alloc)?;
     let fresh = frames.fresh(alloc)?;
-    let idle = contents_copy(alloc, frames.idle())?;
+    let idle = frames.idle(alloc)?;
     Ok(FramesState {
         committed,
         fresh,

@@ -1,0 +1,294 @@
+-- Busy frames by their index: one more, one in the place of another, and one that goes.
+use Rattle.std.proofs.Common.{append-nil, append_assoc, true, ◌≡◌, ◌≢◌, ◌∙◌, ◌+◌, ◌<◌, ◌≤◌, ◌++◌, ◌∷◌, List, None, Option, Some, [], add-one, ap, arith, drop, inl, inr, length, refl, subst, suc, sym, take, zero, ℕ}
+use Rattle.std.proofs.lemmas.Bool.{cases_eq}
+use Rattle.std.proofs.lemmas.Grind.{common_steps}
+use Rattle.std.proofs.lemmas.List.{drop_all}
+use Rattle.std.specs.List.{cons_option}
+use Rattle.std.specs.Prelude.{count_by, false, is_some, option_map, slice_get, slice_index_or}
+use Rattle.slab.specs.Slab.{Slab, Updates, get, slab_len}
+use Rattle.xt_base.proofs.MapLemmas.{at_first, at_later, some_same, without_first, without_later}
+use Rattle.xt_base.proofs.RisingLemmas.{each_at, each_both, each_map, each_other, each_put, length_put_new, rises_put, rises_without}
+use Rattle.xt_base.proofs.ViewLemmas.{at_view, put_without, rises_view, view_put, view_put_same, view_without}
+use Rattle.xt_base.specs.Maps.{at, is_in, put, without}
+use Rattle.xt_base.specs.Sound.{Each, RisesFrom}
+use Rattle.xt_base.specs.Views.{view, view_entry, viewed}
+use Rattle.xt_frames.specs.Busy.{AreTied, block_in, busy_of, content_in}
+
+abbrev Frame : Type 0
+Frame = ℕ × List ℕ
+
+abbrev Index : Type 0
+Index = List (ℕ × ℕ)
+
+-- the entry of the index leads to the frame that names its block
+abbrev IsNamed : Slab Frame → ℕ × ℕ → Type 0
+IsNamed frames e = block_in frames e.1 ≡ Some e.0
+
+-- ---- what an index leads to
+-- frames that have the same show the same
+same_view : (f g : ℕ → Option (List ℕ)) (es : Index) → Each (λ e. f e.1 ≡ g e.1) es → view f es ≡ view g es
+same_view f g [] same = refl
+same_view f g (e ∷ es) same = ap (λ o. cons_option (option_map (λ (w : List ℕ). (e.0, w)) o) (view f es)) same.0 ∙ ap (cons_option (view_entry g e)) (same_view f g es same.1)
+
+-- a frame with a block has a content
+frame_is : (b : ℕ) (o : Option Frame) → option_map (λ (e : Frame). e.0) o ≡ Some b → (c : List ℕ) × (option_map (λ (e : Frame). e.1) o ≡ Some c)
+frame_is b None is = absurd (cc)
+frame_is b (Some e) is = (e.1, refl)
+
+pub content_there : (frames : Slab Frame) (key b : ℕ) → block_in frames key ≡ Some b → (c : List ℕ) × (content_in frames key ≡ Some c)
+content_there frames key b is = frame_is b (get frames key) is
+
+-- a first entry that is there
+shown : (frames : Slab Frame) (e : ℕ × ℕ) (es : Index) (c : List ℕ) → content_in frames e.1 ≡ Some c → busy_of frames (e ∷ es) ≡ (e.0, c) ∷ busy_of frames es
+shown frames e es c is = ap (λ o. cons_option (option_map (λ (w : List ℕ). (e.0, w)) o) (busy_of frames es)) is
+
+pub length_busy : (frames : Slab Frame) (es : Index) → Each (IsNamed frames) es → length (busy_of frames es) ≡ length es
+length_busy frames [] named = refl
+length_busy frames (e ∷ es) named =
+    let there = content_there frames e.1 e.0 named.0 in
+    ap (λ (xs : List Frame). length xs) (shown frames e es there.0 there.1) ∙ ap suc (length_busy frames es named.1)
+
+pub length_tied : (frames : Slab Frame) (es : Index) → AreTied frames es → length (busy_of frames es) ≡ length es
+length_tied frames es tied = length_busy frames es tied.named
+
+-- no block past the last place
+past_none : (xs : List Frame) (i : ℕ) → length xs ≤ i → slice_get xs i ≡ None
+past_none [] i le = refl
+past_none (x ∷ xs) zero le = absurd (omega arith)
+past_none (x ∷ xs) (suc i) le = past_none xs i (omega arith)
+
+pub no_block : (xs : List Frame) (i : ℕ) → length xs ≤ i → None ≡ option_map (λ (e : Frame). e.0) (slice_get xs i)
+no_block xs i le = sym (ap (option_map (λ (e : Frame). e.0)) (past_none xs i le))
+
+-- the content of a block
+pub found_at : (frames : Slab Frame) (es : Index) (b : ℕ) (o : Option ℕ) → AreTied frames es → o ≡ at b es → viewed (content_in frames) o ≡ at b (busy_of frames es)
+found_at frames es b o tied is = ap (viewed (content_in frames)) is ∙ sym (at_view (content_in frames) 0 b es tied.rising)
+
+-- a map without a key that it has
+length_without : (k v : ℕ) (xs : Index) → at k xs ≡ Some v → length (without k xs) + 1 ≡ length xs
+length_without k v [] is = absurd (cc)
+length_without k v (x ∷ xs) is =
+    elim (cases_eq k x.0) [
+      | inl same ↦ ap (λ (ys : Index). length ys + 1) (without_first k x xs same) ∙ add-one (length xs)
+      | inr other ↦
+          let fewer : length (without k xs) + 1 ≡ length xs = length_without k v xs (sym (at_later k x xs other) ∙ is) in
+          let same : length (without k (x ∷ xs)) ≡ suc (length (without k xs)) = ap (λ (ys : Index). length ys) (without_later k x xs other) in
+          omega (arith, fewer, same)
+    ]
+
+-- the frame of a block is there
+frame_there : (b : ℕ) (o : Option Frame) → option_map (λ (e : Frame). e.0) o ≡ Some b → is_some o ≡ true
+frame_there b None is = absurd (cc)
+frame_there b (Some e) is = refl
+
+pub key_there : (frames : Slab Frame) (es : Index) (b key : ℕ) → AreTied frames es → at b es ≡ Some key → is_some (get frames key) ≡ true
+key_there frames es b key tied there = frame_there b (get frames key) (each_at (IsNamed frames) b key es there tied.named)
+
+-- a block is in the index where it has a content
+in_both : (frames : Slab Frame) (es : Index) (b : ℕ) (o : Option ℕ) → AreTied frames es → at b es ≡ o → is_some o ≡ is_some (viewed (content_in frames) o)
+in_both frames es b None tied is = refl
+in_both frames es b (Some key) tied is = sym (ap is_some (content_there frames key b (each_at (IsNamed frames) b key es is tied.named)).1)
+
+pub in_busy : (frames : Slab Frame) (es : Index) (b : ℕ) → AreTied frames es → is_in b es ≡ is_in b (busy_of frames es)
+in_busy frames es b tied = in_both frames es b (at b es) tied refl ∙ ap is_some (found_at frames es b (at b es) tied refl)
+
+-- ---- one more
+module _ (frames next : Slab Frame) (es : Index) (b key : ℕ) (content : List ℕ) (tied : AreTied frames es) (vacant : get frames key ≡ None) (brought : Updates frames next key (Some (b, content))) where
+  unmoved : (e : ℕ × ℕ) → IsNamed frames e → get next e.1 ≡ get frames e.1
+  unmoved e named = brought.others e.1 (λ same. let none : None ≡ Some e.0 = sym (ap (λ k. block_in frames k) same ∙ ap (option_map (λ (x : Frame). x.0)) vacant) ∙ named in cc)
+
+  put_named : Each (IsNamed next) (put b key es)
+  put_named =
+      each_put (IsNamed next) b key es (ap (option_map (λ (x : Frame). x.0)) brought.changed)
+      (each_map (IsNamed frames) (IsNamed next) es (λ e named. ap (option_map (λ (x : Frame). x.0)) (unmoved e named) ∙ named) tied.named)
+
+  pub tied_put : (more : Index) → is_in b es ≡ false → more ≡ put b key es → slab_len next ≡ slab_len frames + 1 → next.capacity ≡ frames.capacity → AreTied next more
+  tied_put more absent is count room =
+      subst (AreTied next) (sym is) (record {
+        rising = rises_put 0 b key es (omega arith) tied.rising;
+        named = put_named;
+        count = count ∙ ap (λ n. n + 1) tied.count ∙ sym (length_put_new b key es absent);
+        room = subst (λ n. 128 ≤ n) (sym room) tied.room;
+      })
+
+  pub busy_put : (more : Index) → more ≡ put b key es → busy_of next more ≡ put b content (busy_of frames es)
+  busy_put more is =
+      ap (busy_of next) is ∙ view_put (content_in next) 0 b key content es tied.rising (ap (option_map (λ (x : Frame). x.1)) brought.changed)
+      ∙ ap (put b content) (same_view (content_in next) (content_in frames) es
+      (each_map (IsNamed frames) (λ e. content_in next e.1 ≡ content_in frames e.1) es (λ e named. ap (option_map (λ (x : Frame). x.1)) (unmoved e named)) tied.named))
+
+-- ---- one that goes
+module _ (frames next : Slab Frame) (es : Index) (b key : ℕ) (tied : AreTied frames es) (there : at b es ≡ Some key) (gone : Updates frames next key None) where
+  own : block_in frames key ≡ Some b
+  own = each_at (IsNamed frames) b key es there tied.named
+
+  apart : (e : ℕ × ℕ) → IsNamed frames e × (e.0 ≢ b) → e.1 ≢ key
+  apart e both same = both.1 (some_same e.0 b (sym both.0 ∙ ap (λ k. block_in frames k) same ∙ own))
+
+  others : Each (λ e. IsNamed frames e × (e.0 ≢ b)) (without b es)
+  others = each_other (IsNamed frames) 0 b es tied.rising tied.named
+
+  still_named : Each (IsNamed next) (without b es)
+  still_named = each_map (λ e. IsNamed frames e × (e.0 ≢ b)) (IsNamed next) (without b es) (λ e both. ap (option_map (λ (x : Frame). x.0)) (gone.others e.1 (apart e both)) ∙ both.0) others
+
+  left_view : busy_of next (without b es) ≡ without b (busy_of frames es)
+  left_view =
+      same_view (content_in next) (content_in frames) (without b es)
+      (each_map (λ e. IsNamed frames e × (e.0 ≢ b)) (λ e. content_in next e.1 ≡ content_in frames e.1) (without b es) (λ e both. ap (option_map (λ (x : Frame). x.1)) (gone.others e.1 (apart e both))) others)
+      ∙ view_without (content_in frames) 0 b es tied.rising
+
+  pub tied_without : (less : Index) → less ≡ without b es → slab_len next + 1 ≡ slab_len frames → next.capacity ≡ frames.capacity → AreTied next less
+  tied_without less is count room =
+      let fewer : length (without b es) + 1 ≡ length es = length_without b key es there in
+      subst (AreTied next) (sym is) (record {
+        rising = rises_without 0 b es tied.rising;
+        named = still_named;
+        count = omega (arith, count, fewer, tied.count);
+        room = subst (λ n. 128 ≤ n) (sym room) tied.room;
+      })
+
+  pub busy_without : (less : Index) → less ≡ without b es → busy_of next less ≡ without b (busy_of frames es)
+  busy_without less is = ap (busy_of next) is ∙ left_view
+
+-- the key is told by another name
+pub moved_key : (old new : Slab Frame) (k key : ℕ) (slot : Option Frame) → k ≡ key → Updates old new k slot → Updates old new key slot
+moved_key old new k key slot same brought = subst (λ x. Updates old new x slot) same brought
+
+-- ---- another in the same frame
+module _ (frames cleared next : Slab Frame) (es : Index) (b key : ℕ) (content : List ℕ) (tied : AreTied frames es) (there : at b es ≡ Some key)
+    (gone : Updates frames cleared key None) (brought : Updates cleared next key (Some (b, content))) where
+  kept : (e : ℕ × ℕ) → e.1 ≢ key → get next e.1 ≡ get frames e.1
+  kept e other = brought.others e.1 other ∙ gone.others e.1 other
+
+  named_at : (e : ℕ × ℕ) → IsNamed frames e → IsNamed next e
+  named_at e named =
+      elim (cases_eq e.1 key) [
+        | inl same ↦
+            ap (λ k. block_in next k) same ∙ ap (option_map (λ (x : Frame). x.0)) brought.changed
+            ∙ sym (sym named ∙ ap (λ k. block_in frames k) same ∙ own frames cleared es b key tied there gone)
+        | inr other ↦ ap (option_map (λ (x : Frame). x.0)) (kept e other) ∙ named
+      ]
+
+  pub tied_exchanged : slab_len cleared + 1 ≡ slab_len frames → slab_len next ≡ slab_len cleared + 1 → cleared.capacity ≡ frames.capacity → next.capacity ≡ cleared.capacity → AreTied next es
+  tied_exchanged fewer count less room = record {
+    rising = tied.rising;
+    named = each_map (IsNamed frames) (IsNamed next) es named_at tied.named;
+    count = count ∙ fewer ∙ tied.count;
+    room = subst (λ n. 128 ≤ n) (sym (room ∙ less)) tied.room;
+  }
+
+  pub busy_exchanged : busy_of next es ≡ put b content (busy_of frames es)
+  busy_exchanged =
+      let others = each_other (IsNamed frames) 0 b es tied.rising tied.named in
+      sym (view_put_same (content_in next) 0 b key es tied.rising (ap (viewed (content_in next)) there))
+      ∙ ap (busy_of next) (sym (put_without 0 b key es tied.rising))
+      ∙ view_put (content_in next) 0 b key content (without b es) (rises_without 0 b es tied.rising) (ap (option_map (λ (x : Frame). x.1)) brought.changed)
+      ∙ ap (put b content)
+      (same_view (content_in next) (content_in frames) (without b es)
+      (each_map (λ e. IsNamed frames e × (e.0 ≢ b)) (λ e. content_in next e.1 ≡ content_in frames e.1) (without b es)
+      (λ e both. ap (option_map (λ (x : Frame). x.1)) (kept e (apart frames cleared es b key tied there gone e both))) others)
+      ∙ view_without (content_in frames) 0 b es tied.rising)
+      ∙ put_without 0 b content (busy_of frames es) (rises_view (content_in frames) 0 es tied.rising)
+
+-- ---- by places
+some_frame : (x e : Frame) → Some x ≡ Some e → x ≡ e
+some_frame x e is = cc
+
+-- the key at a place is above those before it
+above : (n i : ℕ) (xs : List Frame) (e : Frame) → RisesFrom n xs → slice_get xs i ≡ Some e → n ≤ e.0
+above n i [] e r is = absurd (cc)
+above n zero (x ∷ xs) e r is = subst (λ (y : Frame). n ≤ y.0) (some_frame x e is) r.0
+above n (suc i) (x ∷ xs) e r is = omega (arith, r.0, above (suc x.0) i xs e r.1 is)
+
+-- a rising map has at a key what stands at its place
+pub at_placed : (n i : ℕ) (xs : List Frame) (e : Frame) → RisesFrom n xs → slice_get xs i ≡ Some e → at e.0 xs ≡ Some e.1
+at_placed n i [] e r is = absurd (cc)
+at_placed n zero (x ∷ xs) e r is = let same = some_frame x e is in at_first e.0 x xs (sym (ap (λ (y : Frame). y.0) same)) ∙ ap (λ (y : Frame). Some y.1) same
+at_placed n (suc i) (x ∷ xs) e r is =
+    let le : suc x.0 ≤ e.0 = above (suc x.0) i xs e r.1 is in
+    at_later e.0 x xs (λ s. omega (arith, s, le)) ∙ at_placed (suc x.0) i xs e r.1 is
+
+-- without it, the others stand as they were
+pub cut_placed : (n i : ℕ) (xs : List Frame) (e : Frame) → RisesFrom n xs → slice_get xs i ≡ Some e → without e.0 xs ≡ take i xs ++ drop (suc i) xs
+cut_placed n i [] e r is = absurd (cc)
+cut_placed n zero (x ∷ xs) e r is = without_first e.0 x xs (sym (ap (λ (y : Frame). y.0) (some_frame x e is)))
+cut_placed n (suc i) (x ∷ xs) e r is =
+    let le : suc x.0 ≤ e.0 = above (suc x.0) i xs e r.1 is in
+    without_later e.0 x xs (λ s. omega (arith, s, le)) ∙ ap (λ ys. x ∷ ys) (cut_placed (suc x.0) i xs e r.1 is)
+
+placed_in : (frames : Slab Frame) (es : Index) (i b key : ℕ) → Each (IsNamed frames) es → slice_get es i ≡ Some (b, key) → (c : List ℕ) × (slice_get (busy_of frames es) i ≡ Some (b, c))
+placed_in frames [] i b key named is = absurd (cc)
+placed_in frames (e ∷ es) zero b key named is =
+    let there = content_there frames e.1 e.0 named.0 in
+    let first : e.0 ≡ b = cc in
+    (there.0, ap (λ (xs : List Frame). slice_get xs zero) (shown frames e es there.0 there.1) ∙ ap (λ (x : ℕ). Some (x, there.0)) first)
+placed_in frames (e ∷ es) (suc i) b key named is =
+    let there = content_there frames e.1 e.0 named.0 in
+    let later = placed_in frames es i b key named.1 is in
+    (later.0, ap (λ (xs : List Frame). slice_get xs (suc i)) (shown frames e es there.0 there.1) ∙ later.1)
+
+-- the content at a place of the index
+pub placed : (frames : Slab Frame) (es : Index) (i b key : ℕ) → AreTied frames es → slice_get es i ≡ Some (b, key) → (c : List ℕ) × (slice_get (busy_of frames es) i ≡ Some (b, c))
+placed frames es i b key tied is = placed_in frames es i b key tied.named is
+
+-- the element at a place
+there_at : (es : Index) (i : ℕ) → i < length es → slice_get es i ≡ Some (slice_index_or es i (0, 0))
+there_at [] i lt = absurd (omega arith)
+there_at (e ∷ es) zero lt = refl
+there_at (e ∷ es) (suc i) lt = there_at es i (omega arith)
+
+module _ (frames : Slab Frame) (es ns : Index) (now : List Frame) (i : ℕ) (tied : AreTied frames es) (same : ns ≡ es) (seen : busy_of frames es ≡ now) (lt : i < length ns) where
+  abbrev pub block_here : ℕ
+  block_here = (slice_index_or ns i (0, 0)).0
+
+  pub content_here : (c : List ℕ) × (slice_get now i ≡ Some (block_here, c))
+  content_here =
+      let found = placed frames es i block_here (slice_index_or ns i (0, 0)).1 tied (ap (λ xs. slice_get xs i) (sym same) ∙ there_at ns i lt) in
+      (found.0, ap (λ xs. slice_get xs i) (sym seen) ∙ found.1)
+
+  rising : RisesFrom 0 now
+  rising = subst (RisesFrom 0) seen (rises_view (content_in frames) 0 es tied.rising)
+
+  at_here : at block_here now ≡ Some content_here.0
+  at_here = at_placed 0 i now (block_here, content_here.0) rising content_here.1
+
+  pub not_missing : (o : Option (List ℕ)) → o ≡ None → o ≡ at block_here now → ⊥
+  not_missing o none is = let bad : None ≡ Some content_here.0 = sym none ∙ is ∙ at_here in cc
+
+  pub value_here : (c : List ℕ) → Some c ≡ at block_here now → slice_get now i ≡ Some (block_here, c)
+  value_here c is = content_here.1 ∙ ap (λ x. Some (block_here, x)) (some_same content_here.0 c (sym at_here ∙ sym is))
+
+  pub rest_here : (new : List Frame) → new ≡ without block_here now → new ≡ take i now ++ drop (i + 1) now
+  rest_here new is = is ∙ cut_placed 0 i now (block_here, content_here.0) rising content_here.1 ∙ ap (λ n. take i now ++ drop n now) (sym (add-one i))
+
+-- ---- copies one by one
+cut_at : (es : Index) (i : ℕ) → i < length es → drop i es ≡ slice_index_or es i (0, 0) ∷ drop (i + 1) es
+cut_at es i lt = grind (arith, common_steps)
+
+module _ (frames : Slab Frame) (es : Index) (i : ℕ) (copies new : List Frame) (lt : i < length es) (so_far : copies ++ busy_of frames (drop i es) ≡ busy_of frames es) where
+  abbrev this : ℕ × ℕ
+  this = slice_index_or es i (0, 0)
+
+  pub copied : (c : List ℕ) → content_in frames this.1 ≡ Some c → new ≡ copies ++ (this.0, c) ∷ [] → new ++ busy_of frames (drop (i + 1) es) ≡ busy_of frames es
+  copied c there is =
+      ap (λ xs. xs ++ busy_of frames (drop (i + 1) es)) is ∙ append_assoc copies ((this.0, c) ∷ []) (busy_of frames (drop (i + 1) es))
+      ∙ ap (λ xs. copies ++ xs) (sym (ap (busy_of frames) (cut_at es i lt) ∙ shown frames this (drop (i + 1) es) c there)) ∙ so_far
+
+  pub skipped : content_in frames this.1 ≡ None → new ≡ copies → new ++ busy_of frames (drop (i + 1) es) ≡ busy_of frames es
+  skipped none is =
+      ap (λ xs. xs ++ busy_of frames (drop (i + 1) es)) is
+      ∙ ap (λ xs. copies ++ xs) (sym (ap (busy_of frames) (cut_at es i lt) ∙ ap (λ o. cons_option (option_map (λ (w : List ℕ). (this.0, w)) o) (busy_of frames (drop (i + 1) es))) none)) ∙ so_far
+
+pub copied_all : (frames : Slab Frame) (es : Index) (i : ℕ) (copies : List Frame) → length es ≤ i → copies ++ busy_of frames (drop i es) ≡ busy_of frames es → copies ≡ busy_of frames es
+copied_all frames es i copies past so_far = sym (append-nil copies) ∙ ap (λ xs. copies ++ busy_of frames xs) (sym (drop_all i es past)) ∙ so_far
+
+-- ---- none left
+none_left : (slots : List (Option Frame)) → slots ≡ [] → count_by is_some slots ≡ 0
+none_left slots is = ap (count_by is_some) is
+
+pub tied_cleared : (old new : Slab Frame) (more : Index) → 128 ≤ old.capacity → new.slots ≡ [] → new.capacity ≡ old.capacity → more ≡ [] → AreTied new more
+tied_cleared old new more room empty same is =
+    subst (AreTied new) (sym is) (record { rising = tt; named = tt; count = none_left new.slots empty; room = subst (λ n. 128 ≤ n) (sym same) room })
+
+pub busy_cleared : (frames : Slab Frame) (more : Index) → more ≡ [] → busy_of frames more ≡ []
+busy_cleared frames more is = ap (busy_of frames) is
