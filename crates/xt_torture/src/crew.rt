@@ -1,27 +1,65 @@
 //! Four threads at one host, and what the books of its slots tell when it ends.
 
-ghost use Rattle.std.specs.Prelude.{◌≡◌, ◌-◌, ◌^◌, All, IfOk};
+ghost use Rattle.std.specs.Prelude.{◌≡◌, ◌<◌, ◌-◌, ◌^◌, All, IfOk};
 ghost use Rattle.std.specs.Arc.{arc_value};
 ghost use Rattle.xt_cell.specs.Ledgers.{AreCut, AreNamed};
 
-use crate::guest::{Guest, Lived, live};
+use crate::dice::Dice;
+use crate::guess::BLOCKS;
+use crate::guest::{Guest, LOG_BYTES, Lived, live};
 use crate::replay::{Tally, gives_replies};
 use anyhow::{Context, Error, Result};
 use std::alloc::{AllocError, Global};
 use std::marker::Brand;
 use std::sync::Wait;
 use std::thread::{Threads, join};
-use xt_base::steps::Errno;
+use xt_base::names::Slot;
+use xt_base::sizes::SLOTS;
+use xt_base::steps::{Errno, LogOffer};
 use xt_cell::account::Account;
 use xt_cell::house::House;
 use xt_cell::reserve::Blanks;
 use xt_cell::seat::HostSeat;
+use xt_dev::call::HomeCall;
+use xt_dev::fail_at::FailAt;
+use xt_dev::mem_home::MemHome;
+use xt_dev::mem_log::MemLog;
 use xt_host::comparing::compare_all;
 use xt_host::host::{BOOK_ENTRIES, Host};
 use xt_queue::jobs::WorkPass;
 
 /// How many threads, each of them a caller and a worker.
 const CREW: usize = 4;
+
+/// In which of its calls a device fails at the latest, the second time and the first.
+const HOME_CALLS: [u32; 2] = [400, 100];
+
+const LOG_CALLS: [u32; 2] = [120, 40];
+
+/// A home device in memory that fails in two of its calls, and such a log device.
+type FaultyHome = FailAt<FailAt<MemHome, HomeCall>, HomeCall>;
+
+type FaultyLog = FailAt<FailAt<MemLog, LogOffer>, LogOffer>;
+
+/// The number of a call.
+fn call_number(dice: &mut Dice, latest: u32) -> u64
+    requires { 0 < latest }
+    ensures { 0 < result }
+{
+    u64::from(dice.below(latest)) + 1
+}
+
+/// A home device that fails in two of its calls.
+fn faulty_home(alloc: Global, dice: &mut Dice) -> FaultyHome {
+    let home = FailAt::over_home(alloc, MemHome::new(alloc), call_number(dice, HOME_CALLS[0]));
+    FailAt::over_home(alloc, home, call_number(dice, HOME_CALLS[1]))
+}
+
+/// A log device that fails in two of its calls.
+fn faulty_log(alloc: Global, dice: &mut Dice) -> FaultyLog {
+    let log = FailAt::over_log(alloc, MemLog::new(alloc), call_number(dice, LOG_CALLS[0]));
+    FailAt::over_log(alloc, log, call_number(dice, LOG_CALLS[1]))
+}
 
 /// What a host is tried with: the seed of its threads, and how many things each thread does.
 #[derive(Clone, Copy)]
@@ -167,10 +205,18 @@ fn run<H: House + Send + Sync, R: Threads + Wait + Sync>(
     requires parts { AreCut H.all blanks }
     requires all { H.all ≡ 2 ^ 64 - 1 }
 {
-    let (host, seat, passes) = match Host::<H>::new(alloc, blanks, CREW, BOOK_ENTRIES) {
+    let (host, mut seat, passes) = match Host::<H>::new(alloc, blanks, CREW, BOOK_ENTRIES) {
         Ok(made) => made,
         Err(errno) => return Err(refused(errno)),
     };
+    let mut dice = Dice::new(plan.seed);
+    for index in 0..SLOTS as u8 {
+        let slot = Slot::new(index).context("a slot")?;
+        let home = Box::new(alloc, faulty_home(alloc, &mut dice))?;
+        let log = Box::new(alloc, faulty_log(alloc, &mut dice))?;
+        let mounted = host.mount(rt, &mut seat, slot, LOG_BYTES, u64::from(BLOCKS), home, log);
+        mounted.map_err(|back| refused(back.errno))?;
+    }
     let crew = crew_of(rt, &host, seat, passes, plan.seed).map_err(refused)?;
     let (((one, first), (two, second)), ((three, third), (four, fourth))) = by_four(
         rt, alloc, &host, crew, plan.turns,

@@ -1,6 +1,6 @@
 //! One thread at a running host: random calls of all sixteen slots, and the work of one worker.
 
-ghost use Rattle.std.specs.Prelude.{◌≡◌, ◌<◌};
+ghost use Rattle.std.specs.Prelude.{◌≡◌};
 ghost use Rattle.std.specs.Arc.{arc_value};
 
 use crate::dice::Dice;
@@ -15,16 +15,16 @@ use xt_cell::house::House;
 use xt_cell::mount_ref::MountRef;
 use xt_cell::records::Receipt;
 use xt_cell::seat::HostSeat;
-use xt_dev::fail_at::FailAt;
-use xt_dev::mem_home::MemHome;
-use xt_dev::mem_log::MemLog;
+use xt_dev::home::HomeDevice;
+use xt_dev::log::LogDevice;
 use xt_host::host::Host;
 use xt_queue::jobs::WorkPass;
 
-/// In which of its calls a device fails at the latest.
-const HOME_CALLS: u32 = 150;
+/// The bytes of a log.
+pub const LOG_BYTES: u32 = 65_536;
 
-const LOG_CALLS: u32 = 60;
+/// The two devices of a mount.
+type Devices = (Box<dyn HomeDevice + Send>, Box<dyn LogDevice + Send>);
 
 /// What a thread does next.
 #[derive(Clone, Copy)]
@@ -92,14 +92,6 @@ impl Mind {
         }
     }
 
-    /// In which call a device fails.
-    fn failing_call(&mut self, latest: u32) -> u64
-        requires { 0 < latest }
-        ensures { 0 < result }
-    {
-        u64::from(self.dice.below(latest)) + 1
-    }
-
     /// Learns from what was booked.
     fn learn(&mut self, receipt: &Receipt) {
         if let Some(guess) = self.guesses.get_mut(receipt.slot.index()) {
@@ -123,41 +115,42 @@ pub struct Guest<H: House> {
     pub seed: u64,
 }
 
-/// Mounts a slot over two devices in memory, each of which fails in one call. Where it is refused the devices go.
+/// Mounts a slot over devices that some mount gave back, if there are any. Where it is refused they are kept.
 fn mount<H: House, R: Wait>(
     rt: &R,
     host: &Host<H>,
     seat: &mut HostSeat<H>,
-    mind: &mut Mind,
+    stock: &mut Vec<Devices>,
     slot: Slot,
-) -> Result<(), AllocError>
+)
     requires board { seat.old.board.board ≡ host.now.board }
     ensures board { seat.new.board.board ≡ seat.old.board.board }
 {
-    let alloc = mind.alloc;
-    let at = mind.failing_call(HOME_CALLS);
-    let home = Box::new(alloc, FailAt::over_home(alloc, MemHome::new(alloc), at))?;
-    let at = mind.failing_call(LOG_CALLS);
-    let log = Box::new(alloc, FailAt::over_log(alloc, MemLog::new(alloc), at))?;
-    let _mounted = host.mount(rt, seat, slot, 65_536, u64::from(BLOCKS), home, log);
-    Ok(())
+    let Some((home, log)) = stock.pop() else {
+        return;
+    };
+    let mounted = host.mount(rt, seat, slot, LOG_BYTES, u64::from(BLOCKS), home, log);
+    if let Err(back) = mounted {
+        let _ = stock.push((back.home, back.log));
+    }
 }
 
-/// Asks a mount something, or unmounts it.
+/// Asks a mount something, or unmounts it, and keeps the devices.
 fn call<H: House, R: Wait>(
     rt: &R,
     host: &Host<H>,
     seat: &mut HostSeat<H>,
-    at: MountRef,
+    stock: &mut Vec<Devices>,
+    at: &MountRef,
     request: Request,
 )
     requires board { seat.old.board.board ≡ host.now.board }
     ensures board { seat.new.board.board ≡ seat.old.board.board }
 {
     if request != Request::Unmount {
-        let _reply = host.call(rt, seat, at, request);
-    } else {
-        let _devices = host.unmount(rt, seat, at);
+        let _reply = host.call(rt, seat, *at, request);
+    } else if let Ok(devices) = host.unmount(rt, seat, *at) {
+        let _ = stock.push(devices);
     }
 }
 
@@ -166,6 +159,7 @@ fn serve<H: House, R: Wait>(
     rt: &R,
     host: &Host<H>,
     seat: &mut HostSeat<H>,
+    stock: &mut Vec<Devices>,
     mind: &mut Mind,
     deed: Deed,
 ) -> Result<(), AllocError>
@@ -173,10 +167,10 @@ fn serve<H: House, R: Wait>(
     ensures board { seat.new.board.board ≡ seat.old.board.board }
 {
     match deed {
-        Deed::Mount(slot) => mount(rt, host, seat, mind, slot)?,
+        Deed::Mount(slot) => mount(rt, host, seat, stock, slot),
         Deed::Call(slot) => {
             let (at, request) = mind.request(slot)?;
-            call(rt, host, seat, at, request);
+            call(rt, host, seat, stock, &at, request);
         }
         Deed::Look(slot) => {
             let (life, _) = host.seen_shut(seat, slot);
@@ -200,6 +194,7 @@ fn turn<H: House, R: Wait>(
     host: &Host<H>,
     seat: &mut HostSeat<H>,
     pass: &mut WorkPass,
+    stock: &mut Vec<Devices>,
     mind: &mut Mind,
 ) -> Result<bool, AllocError>
     requires queue { pass.old.queue ≡ arc_value host.now.queue }
@@ -211,7 +206,7 @@ fn turn<H: House, R: Wait>(
     if let Deed::Work = deed {
         return Ok(work(rt, host, pass, seat));
     }
-    serve(rt, host, seat, mind, deed)?;
+    serve(rt, host, seat, stock, mind, deed)?;
     Ok(true)
 }
 
@@ -235,8 +230,9 @@ pub fn live<H: House, R: Wait>(
         Ok(mind) => mind,
         Err(fault) => return (seat, Err(fault)),
     };
+    let mut stock = Vec::new(alloc);
     for _ in 0..turns {
-        match turn(rt, host, &mut seat, &mut pass, &mut mind) {
+        match turn(rt, host, &mut seat, &mut pass, &mut stock, &mut mind) {
             Ok(true) => {}
             told => return (seat, told),
         }

@@ -16,42 +16,42 @@ use xt_cell::house::House;
 use xt_cell::mount_ref::MountRef;
 use xt_cell::reserve::Blanks;
 use xt_cell::seat::HostSeat;
+use xt_dev::home::HomeDevice;
+use xt_dev::log::LogDevice;
 use xt_dev::mem_home::MemHome;
 use xt_dev::mem_log::MemLog;
 use xt_host::host::{BOOK_ENTRIES, Host};
 use xt_queue::jobs::WorkPass;
 use xt_text::buffer::Text;
 
-/// Mounts a slot, once more where that is refused memory: the reply.
+/// The two devices of a mount.
+type Devices = (Box<dyn HomeDevice + Send>, Box<dyn LogDevice + Send>);
+
+/// Mounts a slot over devices, once more where that is refused memory: the reply.
 fn mount<H: House, R: Wait>(
     rt: &R,
-    alloc: Global,
     host: &Host<H>,
     seat: &mut HostSeat<H>,
     slot: Slot,
     sizes: (u32, u64),
+    devices: Devices,
     seen: &mut Seen,
-) -> Result<Reply, RowFault>
+) -> Reply
     requires board { seat.old.board.board ≡ host.now.board }
     ensures board { seat.new.board.board ≡ seat.old.board.board }
 {
-    let (Ok(home), Ok(log)) = (
-        Box::new(alloc, MemHome::new(alloc)),
-        Box::new(alloc, MemLog::new(alloc)),
-    ) else {
-        return Err(RowFault::Memory);
-    };
+    let (home, log) = devices;
     let back = match host.mount(rt, seat, slot, sizes.0, sizes.1, home, log) {
-        Ok(at) => return Ok(Reply::Life(at.life)),
+        Ok(at) => return Reply::Life(at.life),
         Err(back) => back,
     };
     if back.errno != Errno::NoMemory {
-        return Ok(Reply::Refused(back.errno));
+        return Reply::Refused(back.errno);
     }
     seen.refuse();
     match host.mount(rt, seat, slot, sizes.0, sizes.1, back.home, back.log) {
-        Ok(at) => Ok(Reply::Life(at.life)),
-        Err(back) => Ok(Reply::Refused(back.errno)),
+        Ok(at) => Reply::Life(at.life),
+        Err(back) => Reply::Refused(back.errno),
     }
 }
 
@@ -61,7 +61,7 @@ fn call<H: House, R: Wait>(
     alloc: Global,
     host: &Host<H>,
     seat: &mut HostSeat<H>,
-    at: MountRef,
+    at: &MountRef,
     request: Request,
     seen: &mut Seen,
 ) -> Result<Reply, RowFault>
@@ -72,15 +72,15 @@ fn call<H: House, R: Wait>(
     if request == Request::Unmount || again == Request::Unmount {
         return Err(RowFault::Input);
     }
-    let reply = host.call(rt, seat, at, request);
+    let reply = host.call(rt, seat, *at, request);
     if !reply.is_no_memory() {
         return Ok(reply);
     }
     seen.refuse();
-    Ok(host.call(rt, seat, at, again))
+    Ok(host.call(rt, seat, *at, again))
 }
 
-/// What a host answers to a step; None to one that its worker takes.
+/// What a host answers to a step of a mount; None to a mount, and to one that its worker takes.
 fn reply_to<H: House, R: Wait>(
     rt: &R,
     alloc: Global,
@@ -93,21 +93,13 @@ fn reply_to<H: House, R: Wait>(
     ensures board { seat.new.board.board ≡ seat.old.board.board }
 {
     match step {
-        Step::Mount {
-            slot,
-            log_bytes,
-            blocks,
-        } => {
-            let reply = mount(rt, alloc, host, seat, slot, (log_bytes, blocks), seen)?;
-            Ok(Some(reply))
-        }
         Step::Call {
             slot,
             life,
             request,
             answer: _,
         } => {
-            let at = MountRef { slot, life };
+            let at = &MountRef { slot, life };
             Ok(Some(call(rt, alloc, host, seat, at, request, seen)?))
         }
         _ => Ok(None),
@@ -143,7 +135,7 @@ fn take_all<H: House, R: Wait>(
     Ok(())
 }
 
-/// A host from its making to its end, with the row between.
+/// A host from its making to its end, with the row between, whose first step mounts.
 fn run<H: House, R: Wait>(
     rt: &R,
     alloc: Global,
@@ -159,9 +151,29 @@ fn run<H: House, R: Wait>(
     let Ok((host, mut seat, mut passes)) = Host::<H>::new(alloc, blanks, 1, BOOK_ENTRIES) else {
         return Err(RowFault::Memory);
     };
-    let Some(mut pass) = passes.pop() else {
+    let (
+        Some(mut pass),
+        Some(
+            Step::Mount {
+                slot,
+                log_bytes,
+                blocks,
+            },
+        ),
+        Some(wanted),
+    ) = (passes.pop(), row.steps.first(), row.replies.first())
+    else {
+        return Err(RowFault::Input);
+    };
+    let (Ok(home), Ok(log)) = (
+        Box::new(alloc, MemHome::new(alloc)),
+        Box::new(alloc, MemLog::new(alloc)),
+    ) else {
         return Err(RowFault::Memory);
     };
+    let sizes = (*log_bytes, *blocks);
+    let reply = mount(rt, &host, &mut seat, *slot, sizes, (home, log), &mut seen);
+    seen.judge(is_printed(&mut Text::new(alloc)?, *slot, &reply, wanted));
     take_all(rt, alloc, &host, &mut seat, &mut pass, row, &mut seen)?;
     seats.push_reserved(seat);
     seen.judge(host.close(seats, passes).is_ok());

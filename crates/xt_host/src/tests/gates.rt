@@ -66,64 +66,6 @@ impl Flags {
     }
 }
 
-/// Mounts a slot over a home device whose reads wait at a gate.
-fn mount_gated_home<H: House, R: Wait>(
-    rt: &R,
-    alloc: Global,
-    host: &Host<H>,
-    seat: &mut HostSeat<H>,
-    slot: u8,
-    meeting: Meeting,
-) -> Result<MountRef, Errno>
-    requires board { seat.old.board.board ≡ host.now.board }
-    ensures board { seat.new.board.board ≡ seat.old.board.board }
-{
-    let home = GateHome::new(alloc, MemHome::new(alloc), meeting);
-    let (Ok(home), Ok(log)) = (Box::new(alloc, home), Box::new(alloc, MemLog::new(alloc))) else {
-        return Err(Errno::NoMemory);
-    };
-    mount(rt, host, seat, slot, (home, log))
-}
-
-/// Mounts a slot over a log device whose appends wait at a gate.
-fn mount_gated_log<H: House, R: Wait>(
-    rt: &R,
-    alloc: Global,
-    host: &Host<H>,
-    seat: &mut HostSeat<H>,
-    slot: u8,
-    meeting: Meeting,
-) -> Result<MountRef, Errno>
-    requires board { seat.old.board.board ≡ host.now.board }
-    ensures board { seat.new.board.board ≡ seat.old.board.board }
-{
-    let log = GateLog::new(alloc, MemLog::new(alloc), meeting);
-    let (Ok(home), Ok(log)) = (Box::new(alloc, MemHome::new(alloc)), Box::new(alloc, log)) else {
-        return Err(Errno::NoMemory);
-    };
-    mount(rt, host, seat, slot, (home, log))
-}
-
-/// Mounts a slot over devices that wait for nothing.
-fn mount_plain<H: House, R: Wait>(
-    rt: &R,
-    alloc: Global,
-    host: &Host<H>,
-    seat: &mut HostSeat<H>,
-    slot: u8,
-) -> Result<MountRef, Errno>
-    requires board { seat.old.board.board ≡ host.now.board }
-    ensures board { seat.new.board.board ≡ seat.old.board.board }
-{
-    let (Ok(home), Ok(log)) = (
-        Box::new(alloc, MemHome::new(alloc)),
-        Box::new(alloc, MemLog::new(alloc)),
-    ) else {
-        return Err(Errno::NoMemory);
-    };
-    mount(rt, host, seat, slot, (home, log))
-}
-
 /// Mounts a slot over devices.
 fn mount<H: House, R: Wait>(
     rt: &R,
@@ -237,10 +179,20 @@ fn meet_two_mounts<H: House + Send + Sync, R: Abort + Threads + Wait + Sync>(
 {
     let flags = Flags::new(alloc).map_err(|_| Errno::NoMemory)?;
     let meeting = flags.first_waits().map_err(|_| Errno::NoMemory)?;
+    let gated = GateHome::new(alloc, MemHome::new(alloc), meeting);
+    let (Ok(gated), Ok(log)) = (Box::new(alloc, gated), Box::new(alloc, MemLog::new(alloc))) else {
+        return Err(Errno::NoMemory);
+    };
+    let (Ok(home), Ok(other)) = (
+        Box::new(alloc, MemHome::new(alloc)),
+        Box::new(alloc, MemLog::new(alloc)),
+    ) else {
+        return Err(Errno::NoMemory);
+    };
     let (host, mut first, _passes) = Host::<H>::new(alloc, blanks, 1, 1_048_576)?;
     let second = host.seat(rt, &mut first)?;
-    let zero = mount_gated_home(rt, alloc, &host, &mut first, 0, meeting)?;
-    let one = mount_plain(rt, alloc, &host, &mut first, 1)?;
+    let zero = mount(rt, &host, &mut first, 0, (gated, log))?;
+    let one = mount(rt, &host, &mut first, 1, (home, other))?;
     let ((first, read), (second, is_reached, called)) = read_beside(
         rt,
         &host,
@@ -285,13 +237,13 @@ fn changed<H: House, R: Abort + Wait>(
     alloc: Global,
     host: &Host<H>,
     seat: &mut HostSeat<H>,
-    at: MountRef,
+    at: &MountRef,
 ) -> Result<Forced, Errno>
     requires board { seat.old.board.board ≡ host.now.board }
     ensures board { seat.new.board.board ≡ seat.old.board.board }
 {
-    change(rt, alloc, host, seat, at)?;
-    host.force(rt, seat, at)
+    change(rt, alloc, host, seat, *at)?;
+    host.force(rt, seat, *at)
 }
 
 /// How far two mounts are forced before their workers and after them, and what the end of the host found.
@@ -310,18 +262,30 @@ fn meet_two_logs<H: House + Send + Sync, R: Abort + Threads + Wait + Sync>(
     let flags = Flags::new(alloc).map_err(|_| Errno::NoMemory)?;
     let meeting = flags.first_waits().map_err(|_| Errno::NoMemory)?;
     let other = flags.second_waits().map_err(|_| Errno::NoMemory)?;
+    let (Ok(home), Ok(log)) = (
+        Box::new(alloc, MemHome::new(alloc)),
+        Box::new(alloc, GateLog::new(alloc, MemLog::new(alloc), meeting)),
+    ) else {
+        return Err(Errno::NoMemory);
+    };
+    let (Ok(home_too), Ok(log_too)) = (
+        Box::new(alloc, MemHome::new(alloc)),
+        Box::new(alloc, GateLog::new(alloc, MemLog::new(alloc), other)),
+    ) else {
+        return Err(Errno::NoMemory);
+    };
     let (host, mut own, mut passes) = Host::<H>::new(alloc, blanks, 2, 1_048_576)?;
     let (Some(second), Some(first)) = (passes.pop(), passes.pop()) else {
         return Err(Errno::Invalid);
     };
     let seats = (host.seat(rt, &mut own)?, host.seat(rt, &mut own)?);
-    let zero = mount_gated_log(rt, alloc, &host, &mut own, 0, meeting)?;
-    let one = mount_gated_log(rt, alloc, &host, &mut own, 1, other)?;
+    let zero = &mount(rt, &host, &mut own, 0, (home, log))?;
+    let one = &mount(rt, &host, &mut own, 1, (home_too, log_too))?;
     let before = changed(rt, alloc, &host, &mut own, zero);
     let before_too = changed(rt, alloc, &host, &mut own, one);
     let (seat, seat_too) = work_beside(rt, &host, (first, second), seats);
-    let after = host.force(rt, &mut own, zero);
-    let after_too = host.force(rt, &mut own, one);
+    let after = host.force(rt, &mut own, *zero);
+    let after_too = host.force(rt, &mut own, *one);
     let closed = compare_all(&host.into_books(), &[own, seat, seat_too]);
     Ok(([before, before_too, after, after_too], closed))
 }
