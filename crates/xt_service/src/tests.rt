@@ -3,7 +3,6 @@
 //! A test function is proved too, at a cost that grows with the square of its length. So rows stand
 //! in constants, helpers compare, and a test has few assertions.
 
-mod endless;
 mod host;
 
 use crate::calls::Calls;
