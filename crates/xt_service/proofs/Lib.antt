@@ -2,8 +2,10 @@ pub mod AnswerLemmas
 pub mod ChainLemmas
 pub mod CutLemmas
 pub mod HostChains
+pub mod HostCrossing
 pub mod HostLemmas
 pub mod IntakeLemmas
 pub mod Loops
 pub mod SessionMaps
 pub mod StreamLemmas
+pub mod TableLemmas
