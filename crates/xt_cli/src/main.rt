@@ -5,6 +5,7 @@ mod fault;
 mod lines;
 mod logdump;
 mod printing;
+mod progress;
 mod script;
 mod serve;
 #[cfg(test)]
@@ -16,6 +17,7 @@ use clap::error::ErrorKind;
 use clap::{Arg, ArgMatches, Command};
 use fault::ScriptFault;
 use logdump::{dump, tell};
+use progress::Watched;
 use script::run_script;
 use serve::fault::ServeFault;
 use serve::files::{Opened, look, open};
@@ -23,7 +25,7 @@ use serve::options::{Options, serve_command};
 use serve::running::{Orders, serve};
 use std::alloc::{AllocError, Global};
 use std::fs::File;
-use std::io::{BufWriter, Input};
+use std::io::{BufWriter, Input, IsTerminal, Stderr};
 use std::net::TcpListener;
 use std::process::ExitCode;
 use window::{LOG_BYTES, LogFault};
@@ -73,11 +75,18 @@ fn only_slot(matches: &ArgMatches) -> Option<Slot> {
     Slot::new(strike.get_one("SLOT")?)
 }
 
+/// Standard error, if it is a terminal: a long input is told of there, and never in a pipe or a file.
+fn terminal(rt: &HostRuntime) -> Option<Stderr> {
+    let err = rt.stderr();
+    if err.is_terminal() { Some(err) } else { None }
+}
+
 /// Runs the script on standard input, or the steps of one slot of it.
 fn script_on_streams(rt: &HostRuntime, only: Option<Slot>) -> Result<u8, ScriptFault> {
     let alloc = rt.alloc();
     let mut writer = BufWriter::with_capacity(alloc, OUTPUT_BYTES, rt.stdout())?;
-    Ok(run_script(alloc, &mut rt.reader(), &mut writer, &mut rt.stderr(), only))
+    let mut reader = Watched::new(rt.reader(), terminal(rt));
+    Ok(run_script(alloc, &mut reader, &mut writer, &mut rt.stderr(), only))
 }
 
 /// Opens the file of a log, if it has at most 67,108,864 bytes.
@@ -94,7 +103,10 @@ fn dump_file(rt: &HostRuntime, path: &str) -> Result<u8, ScriptFault> {
     let alloc = rt.alloc();
     let mut writer = BufWriter::with_capacity(alloc, OUTPUT_BYTES, rt.stdout())?;
     Ok(match open_log(rt, path) {
-        Ok(mut file) => dump(alloc, &mut file, &mut writer, &mut rt.stderr()),
+        Ok(file) => {
+            let mut reader = Watched::new(file, terminal(rt));
+            dump(alloc, &mut reader, &mut writer, &mut rt.stderr())
+        }
         Err(fault) => tell(&mut rt.stderr(), &fault),
     })
 }

@@ -1,6 +1,7 @@
 //! The loop that accepts streams, and serves a session over each.
 
-ghost use Rattle.std.specs.Prelude.{◌≡◌};
+ghost use Rattle.std.specs.Prelude.{◌≡◌, ◌+◌, vec_len};
+ghost use Rattle.slab.specs.Slab.{slab_len};
 ghost use Rattle.std.specs.Arc.{arc_value};
 
 use crate::table::Table;
@@ -36,6 +37,7 @@ pub fn accept_sessions<H: House + Send + Sync + 'static, R: Threads + Wait + Cop
 ) -> io::Result<()>
     requires board { table.old.like.value.board.board ≡ (arc_value host.now).board }
     ensures like { table.new.like ≡ table.old.like }
+    ensures places { slab_len table.new.sessions + vec_len table.new.free ≡ slab_len table.old.sessions + vec_len table.old.free }
 {
     for _ in 0..count {
         table.wait_for_seat(&rt);

@@ -1,5 +1,8 @@
 //! Which sessions have ended, told by their threads to the one that accepts.
 
+ghost use Rattle.std.specs.Prelude.{◌<◌, IfSome};
+ghost use Rattle.xt_service.specs.declared.ended.TheConstants.{PLACES};
+
 use std::sync::{Condvar, Mutex, Wait};
 
 /// How many sessions there are at a time, at most.
@@ -13,7 +16,9 @@ pub struct Ended {
 }
 
 /// The first number that was told, which is then told no more.
-fn first_told(told: &mut [bool; PLACES]) -> Option<usize> {
+fn first_told(told: &mut [bool; PLACES]) -> Option<usize>
+    ensures { IfSome result (λ first. first < PLACES) }
+{
     let first = told.iter().position(|is_told| *is_told)?;
     let is_told = told.get_mut(first)?;
     *is_told = false;
@@ -45,7 +50,9 @@ impl Ended {
     }
 
     /// Waits until a session was told as ended: its number, which is then told no more.
-    pub fn next<R: Wait>(&self, rt: &R) -> usize {
+    pub fn next<R: Wait>(&self, rt: &R) -> usize
+        ensures { result < PLACES }
+    {
         let mut told = self.told.lock(rt);
         for _ in rt.forever() {
             if let Some(number) = first_told(&mut told) {

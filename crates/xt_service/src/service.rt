@@ -1,8 +1,9 @@
 //! The life of a service over a host whose volumes are mounted: its workers, the sessions, and the end.
 
-ghost use Rattle.std.specs.Prelude.{◌≡◌, ◌+◌, ◌≤◌, ◌<◌, All, IfOk, length, vec_len};
+ghost use Rattle.std.specs.Prelude.{◌≡◌, ◌+◌, All, IfOk, OnOk, vec_len};
 ghost use Rattle.std.specs.Arc.{arc_value};
 ghost use Rattle.slab.specs.Slab.{slab_len};
+ghost use Rattle.xt_service.specs.declared.ended.TheConstants.{PLACES};
 
 use crate::accept::accept_sessions;
 use crate::bench::Bench;
@@ -76,6 +77,7 @@ fn add_places<H: House, R: Wait>(
     requires empty { slab_len table.old.sessions + vec_len table.old.free ≡ 0 }
     ensures own { own.new ≡ own.old }
     ensures like { table.new.like ≡ table.old.like }
+    ensures places { OnOk result (slab_len table.new.sessions + vec_len table.new.free ≡ PLACES) }
 {
     for _ in 0..PLACES {
         let seat = host.seat(rt, own)?;
@@ -94,6 +96,7 @@ fn full_table<H: House, R: Wait>(
     requires board { own.old.board.board ≡ host.now.board }
     ensures own { own.new ≡ own.old }
     ensures like { IfOk result (λ table. table.like.value.board.board ≡ host.now.board) }
+    ensures places { IfOk result (λ table. slab_len table.sessions + vec_len table.free ≡ PLACES) }
 {
     let Ok(ended) = Arc::new(alloc, Ended::new()) else {
         return Err(Errno::NoMemory);
@@ -215,6 +218,7 @@ impl<H: House + Send + Sync + 'static> Service<H> {
         requires board { seat.board.board ≡ (arc_value host.now).board }
         requires queues { All (λ pass. pass.queue ≡ arc_value (arc_value host.now).queue) passes.items }
         ensures own { IfOk result (λ service. service.own ≡ seat) }
+        ensures places { IfOk result (λ service. slab_len service.table.sessions + vec_len service.table.free ≡ PLACES) }
         ensures workers { IfOk result (λ service. All (λ worker. (worker.promise.0.value.seat.board.board ≡ (arc_value host.now).board) × (worker.promise.0.value.pass.queue ≡ arc_value (arc_value host.now).queue)) service.crew.workers.items) }
     {
         let mut own = seat;
@@ -243,6 +247,7 @@ impl<H: House + Send + Sync + 'static> Service<H> {
         ensures own { self.new.own ≡ self.old.own }
         ensures crew { self.new.crew ≡ self.old.crew }
         ensures running { slab_len self.new.table.sessions ≡ 0 }
+        ensures places { slab_len self.new.table.sessions + vec_len self.new.table.free ≡ slab_len self.old.table.sessions + vec_len self.old.table.free }
     {
         let accepted = accept_sessions(rt, alloc, host, listener, &mut self.table, count);
         self.table.wait_for_all(&rt);

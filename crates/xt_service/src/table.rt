@@ -159,6 +159,7 @@ impl<H: House> Table<H> {
     /// Waits for the end of a session, and takes its seat back.
     fn take_back<R: Threads + Wait>(&mut self, rt: &R)
         ensures like { self.new.like ≡ self.old.like }
+        ensures places { slab_len self.new.sessions + vec_len self.new.free ≡ slab_len self.old.sessions + vec_len self.old.free }
     {
         let number = self.ended.next(rt);
         let Some(session) = self.sessions.try_remove(number) else {
@@ -171,6 +172,7 @@ impl<H: House> Table<H> {
     pub fn wait_for_seat<R: Threads + Wait>(&mut self, rt: &R)
         ensures free { 0 < vec_len self.new.free }
         ensures like { self.new.like ≡ self.old.like }
+        ensures places { slab_len self.new.sessions + vec_len self.new.free ≡ slab_len self.old.sessions + vec_len self.old.free }
     {
         for _ in rt.forever() {
             if !self.free.is_empty() {
@@ -185,6 +187,7 @@ impl<H: House> Table<H> {
     pub fn wait_for_all<R: Threads + Wait>(&mut self, rt: &R)
         ensures running { slab_len self.new.sessions ≡ 0 }
         ensures like { self.new.like ≡ self.old.like }
+        ensures places { slab_len self.new.sessions + vec_len self.new.free ≡ slab_len self.old.sessions + vec_len self.old.free }
     {
         for _ in rt.forever() {
             if self.sessions.is_empty() {
@@ -217,6 +220,7 @@ impl<H: House + Send + Sync + 'static> Table<H> {
         requires free { 0 < vec_len self.old.free }
         requires board { self.old.like.value.board.board ≡ (arc_value host.now).board }
         ensures like { self.new.like ≡ self.old.like }
+        ensures places { slab_len self.new.sessions + vec_len self.new.free ≡ slab_len self.old.sessions + vec_len self.old.free }
     {
         let Some(seat) = self.free.pop() else {
             unreachable!()

@@ -22,9 +22,12 @@ use xt_cell::reserve::Blanks;
 use xt_cell::seat::HostSeat;
 use xt_dev::home::HomeDevice;
 use xt_dev::log::LogDevice;
-use xt_host::host::{BOOK_ENTRIES, Host};
+use xt_host::host::Host;
 use xt_queue::jobs::WorkPass;
 use xt_service::service::{Service, ServiceEnd};
+
+/// After how many entries the book of a slot is folded.
+const BOOK_LIMIT: u64 = 4_096;
 
 /// A service that is to run: where it listens and at which port, how many workers it has, and how many sessions it serves.
 #[derive(Drop)]
@@ -76,8 +79,8 @@ fn print_all_kept<R: Eprint>(rt: &R, kept: &[Option<Errno>; SLOTS]) -> bool {
 }
 
 /// Prints a fault, if there is one: whether there is none.
-fn report<R: Eprint>(rt: &R, result: Result<(), ServeFault>) -> bool {
-    match result {
+fn report<R: Eprint>(rt: &R, outcome: Result<(), ServeFault>) -> bool {
+    match outcome {
         Ok(()) => true,
         Err(fault) => {
             let _ = eprintln!(rt; "{fault}");
@@ -146,7 +149,7 @@ fn run<
         alloc,
         blanks,
         orders.workers,
-        BOOK_ENTRIES,
+        BOOK_LIMIT,
     ) {
         Ok(made) => made,
         Err(errno) => return Err(ServeFault::Start(errno)),
