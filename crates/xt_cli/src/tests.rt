@@ -7,7 +7,6 @@ mod asked;
 mod buffers;
 mod core_calls;
 mod drive;
-mod failing;
 mod frozen;
 mod home;
 mod idle;
