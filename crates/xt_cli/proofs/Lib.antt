@@ -4,3 +4,4 @@ pub mod PlayLemmas
 pub mod LineLemmas
 pub mod DumpLemmas
 pub mod WindowLemmas
+pub mod ServeLemmas

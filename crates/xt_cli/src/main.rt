@@ -5,7 +5,9 @@ mod fault;
 mod lines;
 mod logdump;
 mod printing;
+mod progress;
 mod script;
+mod serve;
 #[cfg(test)]
 mod tests;
 mod window;
@@ -15,13 +17,20 @@ use clap::error::ErrorKind;
 use clap::{Arg, ArgMatches, Command};
 use fault::ScriptFault;
 use logdump::{dump, tell};
+use progress::Watched;
 use script::run_script;
+use serve::fault::ServeFault;
+use serve::files::{Opened, look, open};
+use serve::options::{Options, serve_command};
+use serve::running::{Orders, serve};
 use std::alloc::{AllocError, Global};
 use std::fs::File;
-use std::io::{BufWriter, Input};
+use std::io::{BufWriter, Input, IsTerminal, Stderr};
+use std::net::TcpListener;
 use std::process::ExitCode;
 use window::{LOG_BYTES, LogFault};
 use xt_base::names::Slot;
+use xt_cell::reserve::Blanks;
 
 /// How many bytes of output are written at once.
 const OUTPUT_BYTES: usize = 65_536;
@@ -56,7 +65,8 @@ fn command<'a>(alloc: Global) -> Result<Command<'a>, AllocError> {
         .subcommand_required(true)
         .subcommand(script)?
         .subcommand(strike)?
-        .subcommand(logdump)
+        .subcommand(logdump)?
+        .subcommand(serve_command(alloc)?)
 }
 
 /// The slot to which a script is struck, if it is.
@@ -65,11 +75,18 @@ fn only_slot(matches: &ArgMatches) -> Option<Slot> {
     Slot::new(strike.get_one("SLOT")?)
 }
 
+/// Standard error, if it is a terminal: a long input is told of there, and never in a pipe or a file.
+fn terminal(rt: &HostRuntime) -> Option<Stderr> {
+    let err = rt.stderr();
+    if err.is_terminal() { Some(err) } else { None }
+}
+
 /// Runs the script on standard input, or the steps of one slot of it.
 fn script_on_streams(rt: &HostRuntime, only: Option<Slot>) -> Result<u8, ScriptFault> {
     let alloc = rt.alloc();
     let mut writer = BufWriter::with_capacity(alloc, OUTPUT_BYTES, rt.stdout())?;
-    Ok(run_script(alloc, &mut rt.reader(), &mut writer, &mut rt.stderr(), only))
+    let mut reader = Watched::new(rt.reader(), terminal(rt));
+    Ok(run_script(alloc, &mut reader, &mut writer, &mut rt.stderr(), only))
 }
 
 /// Opens the file of a log, if it has at most 67,108,864 bytes.
@@ -86,7 +103,10 @@ fn dump_file(rt: &HostRuntime, path: &str) -> Result<u8, ScriptFault> {
     let alloc = rt.alloc();
     let mut writer = BufWriter::with_capacity(alloc, OUTPUT_BYTES, rt.stdout())?;
     Ok(match open_log(rt, path) {
-        Ok(mut file) => dump(alloc, &mut file, &mut writer, &mut rt.stderr()),
+        Ok(file) => {
+            let mut reader = Watched::new(file, terminal(rt));
+            dump(alloc, &mut reader, &mut writer, &mut rt.stderr())
+        }
         Err(fault) => tell(&mut rt.stderr(), &fault),
     })
 }
@@ -96,12 +116,64 @@ fn log_path<'a>(matches: &ArgMatches<'a>) -> Option<&'a str> {
     matches.subcommand_matches("logdump")?.get_str("FILE")
 }
 
-/// Does what the words of a right command line say.
-fn obey(rt: &HostRuntime, matches: &ArgMatches) -> Result<u8, ScriptFault> {
-    match log_path(matches) {
-        Some(path) => dump_file(rt, path),
-        None => script_on_streams(rt, only_slot(matches)),
+/// What is left to do.
+enum Next {
+    /// Nothing: this is the status.
+    End(u8),
+    /// Volumes are to be served.
+    Serve(Orders, Vec<Opened>),
+}
+
+/// Listens at a port of this machine, or at one that the system chooses.
+fn listen(rt: &HostRuntime, port: u16) -> Result<TcpListener, ServeFault> {
+    match TcpListener::bind(rt, ("127.0.0.1", port)) {
+        Ok(listener) => Ok(listener),
+        Err(error) => Err(ServeFault::Port(port, error)),
     }
+}
+
+/// Makes ready what a service needs: the port first, and files only where all can be devices.
+fn make_ready(rt: &HostRuntime, options: &Options) -> Result<Next, ServeFault> {
+    let alloc = rt.alloc();
+    look(rt, alloc, &options.volumes)?;
+    let listener = listen(rt, options.port)?;
+    let port = listener.local_addr()?.port();
+    let opened = open(rt, alloc, &options.volumes)?;
+    let orders = Orders {
+        listener,
+        port,
+        workers: options.workers,
+        sessions: options.sessions,
+    };
+    Ok(Next::Serve(orders, opened))
+}
+
+/// Makes ready what a service needs, if one is asked.
+fn serve_if_asked(rt: &HostRuntime, matches: &ArgMatches) -> Result<Option<Next>, ServeFault> {
+    match Options::of(rt.alloc(), matches)? {
+        Some(options) => Ok(Some(make_ready(rt, &options)?)),
+        None => Ok(None),
+    }
+}
+
+/// Tells of a fault: the status.
+fn fail(rt: &HostRuntime, fault: &ServeFault) -> u8 {
+    let _ = eprintln!(rt; "{fault}");
+    1
+}
+
+/// Does what the words of a right command line say, but for a service, which is made ready.
+fn obey(rt: &HostRuntime, matches: &ArgMatches) -> Result<Next, ScriptFault> {
+    match serve_if_asked(rt, matches) {
+        Ok(Some(next)) => return Ok(next),
+        Ok(None) => {}
+        Err(fault) => return Ok(Next::End(fail(rt, &fault))),
+    }
+    let status = match log_path(matches) {
+        Some(path) => dump_file(rt, path)?,
+        None => script_on_streams(rt, only_slot(matches))?,
+    };
+    Ok(Next::End(status))
 }
 
 /// What a command line that is none prints, and its status.
@@ -113,22 +185,28 @@ fn refuse(rt: &HostRuntime, error: &clap::Error) -> Result<u8, ScriptFault> {
     Ok(error.exit_code() as u8)
 }
 
-/// Does what the words of the command line say.
-fn run(rt: &HostRuntime) -> Result<u8, ScriptFault> {
+/// Does what the words of the command line say, but for a service, which is made ready.
+fn run(rt: &HostRuntime) -> Result<Next, ScriptFault> {
     let alloc = rt.alloc();
     let words: Vec<String> = std::env::args(rt)?.collect(alloc)?;
     match command(alloc)?.try_get_matches_from(words.as_slice()) {
         Ok(matches) => obey(rt, &matches),
-        Err(error) => refuse(rt, &error),
+        Err(error) => Ok(Next::End(refuse(rt, &error)?)),
     }
 }
 
 fn main(rt: HostRuntime) -> ExitCode {
-    match run(&rt) {
-        Ok(status) => ExitCode::from(status),
+    let alloc = rt.alloc();
+    let (orders, opened) = match run(&rt) {
+        Ok(Next::Serve(orders, opened)) => (orders, opened),
+        Ok(Next::End(status)) => return ExitCode::from(status),
         Err(fault) => {
             let _ = eprintln!(rt; "{fault}");
-            ExitCode::from(fault.status())
+            return ExitCode::from(fault.status());
         }
-    }
+    };
+    ExitCode::from(match serve(rt, alloc, Blanks::new(), &orders, opened) {
+        Ok(status) => status,
+        Err(fault) => fail(&rt, &fault),
+    })
 }

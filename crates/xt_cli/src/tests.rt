@@ -16,6 +16,7 @@ mod maxima;
 mod names;
 mod orders;
 mod places;
+mod progress;
 mod rolls;
 mod rows;
 mod scripts;

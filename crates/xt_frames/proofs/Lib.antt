@@ -4,3 +4,4 @@ pub mod FreshLemmas
 pub mod BusyLemmas
 pub mod IdleLemmas
 pub mod TableLemmas
+pub mod BlockLemmas

@@ -1,6 +1,7 @@
 -- Settling: which contents and fresh marks stay, where a test says it of each block.
-use Rattle.std.specs.Prelude.{Bool, List, Option, ℕ, ◌++◌, drop, filter, if◌then◌else◌, not, option_map, slice_get, take}
+use Rattle.std.specs.Prelude.{Bool, List, None, Option, Some, [], true, ℕ, ◌++◌, ◌==◌, ◌≡◌, ◌∷◌, ◌⊎◌, drop, filter, if◌then◌else◌, not, option_map, slice_get, take}
 use Rattle.xt_base.specs.Settle.{rested}
+use Rattle.xt_base.specs.Sound.{Each}
 use Rattle.xt_base.specs.State.{Frames}
 
 -- the contents of blocks that are not busy
@@ -18,6 +19,20 @@ settled_by busy is_kept f = record {
   fresh = filter busy f.fresh;
   idle = rest_of busy is_kept f.committed f.idle;
 }
+
+-- each block that has a content or a fresh mark is busy, but perhaps one
+pub record AreOthersBusy (busy : ℕ → Bool) (block : ℕ) (f : Frames) : Type 0 where
+  pub contents : Each (λ e. (e.0 ≡ block) ⊎ (busy e.0 ≡ true)) f.committed
+  pub marks : Each (λ b. (b ≡ block) ⊎ (busy b ≡ true)) f.fresh
+
+-- a block is another than this one
+abbrev pub is_other : ℕ → ℕ → Bool
+is_other block b = not (b == block)
+
+-- the content of a block with its name, where there is one
+abbrev pub entry_of : ℕ → Option (List ℕ) → List (ℕ × List ℕ)
+entry_of block None = []
+entry_of block (Some content) = (block, content) ∷ []
 
 -- contents of blocks that are not saved go
 abbrev pub saved_by : (ℕ → Bool) → Frames → Frames

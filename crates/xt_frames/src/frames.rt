@@ -4,7 +4,8 @@ ghost use Rattle.std.specs.Prelude.{ℕ, Bool, ◌≡◌, ◌+◌, ◌-◌, Some
 ghost use Rattle.xt_base.specs.Maps.{at, has, is_in, put, with_member, without, without_member};
 ghost use Rattle.xt_frames.specs.Contents.{no_frames, brought_in};
 ghost use Rattle.xt_frames.specs.Shares.{no_contents};
-ghost use Rattle.xt_frames.specs.Settling.{content_block, contents_from, fresh_block, fresh_from, saved_by, settled_by};
+ghost use Rattle.xt_base.specs.Sound.{IsRising};
+ghost use Rattle.xt_frames.specs.Settling.{AreOthersBusy, content_block, contents_from, fresh_block, fresh_from, is_other, saved_by, settled_by};
 
 use crate::busy::BusyFrames;
 use crate::fresh::FreshBlocks;
@@ -166,7 +167,7 @@ impl Frames {
     pub fn uncommit(&mut self, block: u64)
         ensures { self.new ≡ record self.old { committed = without block self.old.committed } }
     {
-        let _content = self.busy.remove(block);
+        let _content = self.take_content(block);
     }
 
     /// A block is fresh. It takes no memory.
@@ -200,20 +201,85 @@ impl Frames {
     }
 
     /// Contents and fresh marks of blocks that are not busy go. Where contents are kept, they go to the front of the idle
-    /// list, ascending by block, which is cut at 64. `is_busy` is asked once of each block, in rising order; what it is lent
-    /// is its own, for where it looked last. It takes no memory.
+    /// list, ascending by block, which is cut at 64. `is_busy` is asked of the blocks in rising order, up to the first content
+    /// that goes and then from there on, with each fresh block; what it is lent is its own, for where it looked last. It
+    /// takes no memory.
     pub fn settle<F: Fn(&mut usize, u64) -> bool>(&mut self, is_kept: bool, is_busy: F)
         requires { F.IsAlwaysCallable is_busy }
         ensures { (busy : ℕ → Bool) → ((near : _) → (b : ℕ) → (r : Bool) → (after : _) → F.post is_busy near b r after → r ≡ busy b) → self.new ≡ settled_by busy is_kept self.old }
     {
         let mut near = 0;
-        let mut content = 0;
+        let mut content = self.first_leaving(&mut near, &is_busy);
         let mut mark = 0;
         while let Some(block) = self.next_block(content, mark) {
             let stays = is_busy(&mut near, block);
             content = self.settle_content(content, block, stays, is_kept);
             mark = self.settle_mark(mark, block, stays);
         }
+    }
+
+    /// What `settle` does where each block is busy but perhaps one: whether that one stays is said. It takes no memory.
+    pub fn settle_block(&mut self, block: u64, stays: bool, is_kept: bool)
+        requires { IsRising self.old.committed }
+        ensures { (busy : ℕ → Bool) → stays ≡ busy block → AreOthersBusy busy block self.old → self.new ≡ settled_by busy is_kept self.old }
+    {
+        self.is_short();
+        if !stays {
+            self.leave(block, is_kept);
+        }
+    }
+
+    /// At most 64 blocks are idle: for a proof, at run time nothing.
+    fn is_short(&self)
+        ensures { length self.now.idle ≤ IDLE_BLOCKS }
+    {
+        self.idle.is_short();
+    }
+
+    /// The content and the fresh mark of one block go; where the content is kept, to the front of the idle list.
+    fn leave(&mut self, block: u64, is_kept: bool)
+        requires { IsRising self.old.committed }
+        ensures { self.new ≡ settled_by (is_other block) is_kept self.old }
+    {
+        self.leave_fresh(block);
+        let Some(content) = self.take_content(block) else {
+            return;
+        };
+        if is_kept {
+            self.keep_idle(block, content);
+        }
+    }
+
+    /// A committed content goes: what it was, if there was one.
+    fn take_content(&mut self, block: u64) -> Option<Content>
+        ensures value { result ≡ at block self.old.committed }
+        ensures rest { self.new ≡ record self.old { committed = without block self.old.committed } }
+        ensures idle { length self.new.idle ≤ IDLE_BLOCKS }
+    {
+        self.idle.is_short();
+        self.busy.remove(block)
+    }
+
+    /// A content goes to the front of the idle list, which is cut at 64.
+    fn keep_idle(&mut self, block: u64, content: Content)
+        ensures { self.new ≡ record self.old { idle = take IDLE_BLOCKS ((block, content) ∷ self.old.idle) } }
+    {
+        self.idle.put(block, content);
+    }
+
+    /// The place of the first content whose block is not busy, or how many contents there are: those before it stay.
+    fn first_leaving<F: Fn(&mut usize, u64) -> bool>(&self, near: &mut usize, is_busy: &F) -> usize
+        requires { F.IsAlwaysCallable is_busy.now }
+        ensures { (busy : ℕ → Bool) → ((near : _) → (b : ℕ) → (r : Bool) → (after : _) → F.post is_busy.now near b r after → r ≡ busy b) → (is_kept : Bool) → contents_from busy is_kept result self.now ≡ contents_from busy is_kept 0 self.now }
+    {
+        let mut index = 0;
+        while let Some(block) = self.content_block(index) {
+            if !is_busy(near, block) {
+                return index;
+            }
+            index += 1;
+        }
+        index
     }
 
     /// Committed contents of blocks that are not saved go. It takes no memory.

@@ -92,8 +92,8 @@ impl<H: House> Host<H> {
         seat.peek(&self.board, slot)
     }
 
-    /// Closes its sixteen books.
-    pub(crate) fn into_books(self) -> [Account; SLOTS]
+    /// Closes its sixteen books, for those who want to look at them or run them again.
+    pub fn into_books(self) -> [Account; SLOTS]
         ensures { length result ≡ SLOTS }
     {
         let Host {

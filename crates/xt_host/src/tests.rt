@@ -5,6 +5,7 @@ ghost use Rattle.xt_cell.specs.Ledgers.{AreCut, AreNamed};
 
 mod example;
 mod folding;
+mod gates;
 mod lines;
 mod replay;
 mod rows;

@@ -58,8 +58,9 @@ impl<H: House> Host<H> {
         unreachable!()
     }
 
-    /// Does a name to its end, by its kind: the job comes back where its end finds another flight, or none.
-    fn work_on<R: Wait>(
+    /// Does one name that was taken to its end, by its kind, as `work` does each: for a worker that has something of its own to do after
+    /// each job. None, unless the end of a checkpoint finds another flight, or none: then that job comes back.
+    pub fn work_on<R: Wait>(
         &self,
         rt: &R,
         seat: &mut HostSeat<H>,

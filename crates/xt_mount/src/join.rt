@@ -3,6 +3,7 @@
 ghost use Rattle.std.specs.Prelude.{◌≡◌, []};
 ghost use Rattle.xt_base.specs.Calls.{first_of, gives, join as join_step, join_refusals, release as release_step, with_trans};
 ghost use Rattle.xt_base.specs.Maps.{at};
+ghost use Rattle.xt_base.specs.Sound.{IsSound};
 ghost use Rattle.xt_mount.specs.Machines.{state_of};
 
 use crate::machine::Machine;
@@ -39,6 +40,7 @@ impl Machine {
 
     /// Gives up a held block. It takes no memory.
     pub fn release(&mut self, block: Block) -> Reply
+        requires { IsSound (state_of self.old) }
         ensures { gives result (state_of self.new) ≡ release_step [] block (state_of self.old) }
     {
         if !self.locks.is_held(block) {

@@ -4,7 +4,8 @@ ghost use Rattle.std.specs.Prelude.{◌≡◌, [], true, IfSome};
 ghost use Rattle.xt_base.specs.Calls.{gives, relse as relse_step, unowned, with_leg, with_trans, without_hold};
 ghost use Rattle.xt_base.specs.Maps.{at, is_in};
 ghost use Rattle.xt_base.specs.Settle.{settled};
-ghost use Rattle.xt_base.specs.Sound.{IsSound};
+ghost use Rattle.xt_base.specs.Sound.{AreKept, IsSound};
+ghost use Rattle.xt_base.specs.Space.{is_busy};
 ghost use Rattle.xt_mount.specs.Machines.{state_of};
 
 use crate::machine::Machine;
@@ -12,12 +13,13 @@ use xt_base::names::{Block, TransNo};
 use xt_base::steps::{Errno, Reply};
 
 impl Machine {
-    /// A block has no owner any more, and settles.
+    /// A block has no owner any more, and settles; each other block that has a content or a fresh mark is busy.
     pub fn free(&mut self, block: Block)
+        requires { AreKept (is_busy (state_of self.old)) (state_of self.old).frames }
         ensures { state_of self.new ≡ settled [] (unowned block (state_of self.old)) }
     {
         self.locks.unlock(block);
-        self.settle();
+        self.settle_block(block);
     }
 
     /// A block of a transaction, with its hold mark, is given back and settles.

@@ -2,7 +2,8 @@
 
 ghost use Rattle.std.specs.Prelude.{◌≡◌, []};
 ghost use Rattle.xt_base.specs.Settle.{settled};
-ghost use Rattle.xt_frames.specs.Settling.{settled_by};
+ghost use Rattle.xt_base.specs.Sound.{IsRising};
+ghost use Rattle.xt_frames.specs.Settling.{AreOthersBusy, settled_by};
 ghost use Rattle.xt_mount.specs.Machines.{state_of};
 ghost use Rattle.xt_mount.specs.Settling.{is_busy_in};
 
@@ -20,6 +21,17 @@ impl Machine {
     {
         let is_live = self.shut.is_none();
         settle_frames(&mut self.frames, &self.locks, &self.accounts, is_live);
+    }
+
+    /// The same where only one block may not be busy any more: nothing is asked of the others.
+    pub fn settle_block(&mut self, block: Block)
+        requires rising { IsRising self.old.frames.committed }
+        requires others { AreOthersBusy (is_busy_in self.old.locks self.old.accounts.items) block self.old.frames }
+        ensures { state_of self.new ≡ settled [] (state_of self.old) }
+    {
+        let stays = self.is_busy(block);
+        let is_live = self.shut.is_none();
+        self.frames.settle_block(block.0, stays, is_live);
     }
 }
 

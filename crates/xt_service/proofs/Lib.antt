@@ -1,9 +1,12 @@
 pub mod AnswerLemmas
+pub mod Captures
 pub mod ChainLemmas
 pub mod CutLemmas
 pub mod HostChains
+pub mod HostCrossing
 pub mod HostLemmas
 pub mod IntakeLemmas
 pub mod Loops
 pub mod SessionMaps
 pub mod StreamLemmas
+pub mod TableLemmas

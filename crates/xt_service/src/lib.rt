@@ -2,15 +2,21 @@
 //! The sessions themselves know the language of lines and nothing of mounts; `host_calls` is the object over a running host.
 #![tactic(auto)]
 
+pub mod accept;
+pub mod bench;
 pub mod calls;
+pub mod door;
 mod effect;
+pub mod ended;
 mod holding;
 pub mod host_calls;
 pub mod host_session;
 mod intake;
 mod names;
 mod reply;
+pub mod service;
 pub mod session;
 pub mod session_end;
+pub mod table;
 #[cfg(test)]
 mod tests;

@@ -4,6 +4,7 @@
 //! in constants, helpers compare, and a test has few assertions.
 
 mod host;
+mod tcp;
 
 use crate::calls::Calls;
 use crate::session::{session, session_bounded};

@@ -242,6 +242,13 @@ impl Guess {
         }
     }
 
+    /// Learns which life the slot has, where others mount it too.
+    pub fn see(&mut self, life: Life) {
+        if life != self.life {
+            self.begin_life(life);
+        }
+    }
+
     /// Learns from a step of the slot that was taken.
     pub fn learn(&mut self, step: &Step, reply: &Reply) {
         match reply {

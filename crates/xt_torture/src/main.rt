@@ -5,22 +5,30 @@
 //!
 //! `xt_torture bytes VALUES` reads texts of checkpoints cut at each length, and with each byte changed to so many other values, 1 to 255.
 //!
+//! `xt_torture threads SEED HOSTS TURNS` has four threads call the sixteen slots of each host at random, over devices that fail, and runs
+//! the books of all slots again.
+//!
 //! `xt_torture refusals` takes a script and its output, with an empty line between them, from standard input, and tries it through the host
 //! core. Who starts it refuses memory: the status is 3 where a step was refused memory and all else was as it must be, 2 where something
 //! was not, and 1 where the trial itself was refused memory.
 #![tactic(auto)]
 
 mod bytes;
+mod crew;
 mod dice;
 mod guess;
+mod guest;
 mod hunger;
 mod judge;
 mod refusals;
+mod replay;
 mod round;
 mod row;
 mod simulation;
+mod working;
 
 use crate::bytes::try_bytes;
+use crate::crew::{Ended, Plan, try_host};
 use crate::refusals::{Seen, try_row};
 use crate::row::RowFault;
 use crate::simulation::simulate;
@@ -29,9 +37,15 @@ use std::alloc::Global;
 use std::env;
 use std::io::{Input, Read};
 use std::process::ExitCode;
+use std::sync::Wait;
+use std::thread::Threads;
+use xt_cell::reserve::Blanks;
 
 /// The trials.
-const TRIALS: &str = "simulation, bytes or refusals";
+const TRIALS: &str = "simulation, bytes, threads or refusals";
+
+/// How much each thread of a host does at most, so that no book is folded.
+const MOST_TURNS: u64 = 100_000;
 
 /// The status of a trial that found so many differences.
 fn status(different: u64) -> ExitCode {
@@ -69,6 +83,36 @@ fn print_bytes<R: Print>(rt: &R, alloc: Global, values: u8) -> Result<ExitCode> 
         tried.texts, tried.whole, tried.cut, tried.fault, tried.different
     )?;
     Ok(status(tried.different))
+}
+
+/// Tries hosts with four threads each, and prints what their books tell: the status.
+fn print_threads<R: Print + Threads + Wait + Sync>(
+    rt: &R,
+    alloc: Global,
+    first: Plan,
+    hosts: u64,
+) -> Result<ExitCode> {
+    let mut ended = Ended::default();
+    for number in 0..hosts {
+        let seed = first.seed.wrapping_add(number);
+        try_host(rt, alloc, Blanks::new(), Plan { seed, ..first }, &mut ended)?;
+    }
+    let tally = ended.tally;
+    println!(rt;
+        "threads, seed {}: {} events on {} hosts of sixteen slots by four threads, {} mounts, {} unmounts, {} checkpoints landed, {} blocks written home, {} calls told to try again, {} device calls failed: {} hosts unclean, {} books different",
+        first.seed,
+        tally.events,
+        ended.hosts,
+        tally.mounts,
+        tally.unmounts,
+        tally.landed,
+        tally.flushed,
+        tally.again,
+        tally.failed,
+        ended.unclean,
+        ended.different
+    )?;
+    Ok(status(ended.unclean.saturating_add(ended.different)))
 }
 
 /// The status of a row, which is printed.
@@ -114,6 +158,12 @@ fn main(rt: HostRuntime) -> Result<ExitCode> {
         "bytes" => {
             let values = number(&words, 2, "VALUES")?.clamp(1, 255) as u8;
             print_bytes(&rt, alloc, values)
+        }
+        "threads" => {
+            let seed = number(&words, 2, "SEED")?;
+            let hosts = number(&words, 3, "HOSTS")?;
+            let turns = number(&words, 4, "TURNS")?.min(MOST_TURNS) as u32;
+            print_threads(&rt, alloc, Plan { seed, turns }, hosts)
         }
         "refusals" => {
             let mut text = Vec::new(alloc);

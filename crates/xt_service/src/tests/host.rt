@@ -42,7 +42,7 @@ struct Left {
 }
 
 /// Mounts a slot over devices.
-fn mount<H: House, T: Wait>(
+pub fn mount<H: House, T: Wait>(
     rt: &T,
     host: &Host<H>,
     seat: &mut HostSeat<H>,

@@ -1,0 +1,7 @@
+//! `xth serve`: a host over volumes in files, for daemons in any language.
+
+pub mod fault;
+pub mod files;
+pub mod options;
+pub mod running;
+pub mod volume;

@@ -1,0 +1,46 @@
+//! Why volumes are not served.
+
+use std::alloc::AllocError;
+use std::io;
+use thiserror::Error;
+use xt_base::names::Slot;
+use xt_base::steps::Errno;
+use xt_dev::fault::FileFault;
+
+/// Why volumes are not served, or not to the end of the service.
+#[derive(Debug, Drop, Error)]
+pub enum ServeFault {
+    /// A word that spells no volume.
+    #[error("fault: volume")]
+    Volume,
+    /// A slot that can't be mounted.
+    #[error("fault: slot {} {}", .0.index(), .1.name())]
+    Slot(Slot, Errno),
+    /// A slot that is mounted still, since something of it is open or unwritten.
+    #[error("fault: slot {} busy", .0.index())]
+    Busy(Slot),
+    /// A file that two devices would have.
+    #[error("fault: {0} is named twice")]
+    Twice(String),
+    /// A file that can't be a device.
+    #[error("fault: {0}: {1}")]
+    File(String, FileFault),
+    /// A port that can't be listened at.
+    #[error("fault: port {0}: {1}")]
+    Port(u16, io::Error),
+    /// The service could not begin.
+    #[error("fault: start {}", .0.name())]
+    Start(Errno),
+    /// A client could not be accepted.
+    #[error("fault: accept: {0}")]
+    Accept(io::Error),
+    /// The books of the host and its seats do not agree.
+    #[error("fault: close")]
+    Close,
+    /// Standard output failed.
+    #[error("fault: {0}")]
+    Io(#[from] io::Error),
+    /// Memory was refused.
+    #[error("fault: {0}")]
+    Memory(#[from(alloc)] AllocError),
+}

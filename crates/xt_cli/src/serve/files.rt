@@ -1,0 +1,124 @@
+//! The files of volumes, looked at before any is made, and opened as devices.
+
+use crate::serve::fault::ServeFault;
+use crate::serve::volume::Volume;
+use std::alloc::Global;
+use std::fs;
+use std::io::{self, ErrorKind};
+use std::path::{Path, PathBuf};
+use xt_base::names::Slot;
+use xt_dev::fault::FileFault;
+use xt_dev::files::{FileHome, FileLog};
+
+/// A volume whose files are open.
+#[derive(Drop)]
+pub struct Opened {
+    pub slot: Slot,
+    pub log_bytes: u32,
+    pub blocks: u64,
+    pub home: FileHome,
+    pub log: FileLog,
+}
+
+/// A fault of a file, with its name.
+fn fault(alloc: Global, name: &str, fault: FileFault) -> ServeFault {
+    match String::from_str(alloc, name) {
+        Ok(name) => ServeFault::File(name, fault),
+        Err(refused) => ServeFault::Memory(refused),
+    }
+}
+
+/// Where a file will be that is not there, in a folder that is.
+fn new_place(rt: &HostRuntime, alloc: Global, path: Path) -> io::Result<PathBuf> {
+    let (Some(folder), Some(name)) = (path.parent(), path.file_name()) else {
+        return Err(io::Error::from(ErrorKind::NotFound));
+    };
+    let folder = if folder.as_str().is_empty() {
+        Path::new(".")
+    } else {
+        folder
+    };
+    Ok(fs::canonicalize(rt, folder)?.join(alloc, name)?)
+}
+
+/// Where a file is, or will be, by a path with no links.
+fn place(rt: &HostRuntime, alloc: Global, name: &str) -> io::Result<PathBuf> {
+    let path = Path::new(name);
+    match fs::canonicalize(rt, path) {
+        Err(error) if error.kind() == ErrorKind::NotFound => new_place(rt, alloc, path),
+        result => result,
+    }
+}
+
+/// How many bytes a file has, if it is there; no folder is a file.
+fn size(rt: &HostRuntime, name: &str) -> io::Result<u64> {
+    match fs::metadata(rt, name) {
+        Ok(found) if found.is_dir() => Err(io::Error::from(ErrorKind::IsADirectory)),
+        Ok(found) => Ok(found.len()),
+        Err(error) if error.kind() == ErrorKind::NotFound => Ok(0),
+        Err(error) => Err(error),
+    }
+}
+
+/// Looks at a file, and notes where it is: its size.
+fn look_at(
+    rt: &HostRuntime,
+    alloc: Global,
+    name: &str,
+    places: &mut Vec<PathBuf>,
+) -> Result<u64, ServeFault> {
+    let (place, size) = match (place(rt, alloc, name), size(rt, name)) {
+        (Ok(place), Ok(size)) => (place, size),
+        (Err(error), _) | (_, Err(error)) => return Err(fault(alloc, name, FileFault::Io(error))),
+    };
+    if places.contains(&place) {
+        return Err(ServeFault::Twice(String::from_str(alloc, name)?));
+    }
+    places.push(place)?;
+    Ok(size)
+}
+
+/// Looks at the files of volumes before any is made: a file in no folder, one that is a folder, one that two devices would have, and a log
+/// that has something in it are faults.
+pub fn look(rt: &HostRuntime, alloc: Global, volumes: &[Volume]) -> Result<(), ServeFault> {
+    let mut places = Vec::new(alloc);
+    for volume in volumes {
+        look_at(rt, alloc, volume.home.as_str(), &mut places)?;
+        if look_at(rt, alloc, volume.log.as_str(), &mut places)? > 0 {
+            return Err(fault(alloc, volume.log.as_str(), FileFault::NotEmpty));
+        }
+    }
+    Ok(())
+}
+
+/// Opens the files of a volume.
+fn open_one(rt: &HostRuntime, alloc: Global, volume: &Volume) -> Result<Opened, ServeFault> {
+    let home = match FileHome::open(rt, volume.home.as_str()) {
+        Ok(home) => home,
+        Err(found) => return Err(fault(alloc, volume.home.as_str(), found)),
+    };
+    let log = match FileLog::open(rt, volume.log.as_str()) {
+        Ok(log) => log,
+        Err(found) => return Err(fault(alloc, volume.log.as_str(), found)),
+    };
+    Ok(Opened {
+        slot: volume.slot,
+        log_bytes: volume.log_bytes,
+        blocks: volume.blocks,
+        home,
+        log,
+    })
+}
+
+/// Opens the files of volumes, each of which is made where it is missing.
+pub fn open(
+    rt: &HostRuntime,
+    alloc: Global,
+    volumes: &[Volume],
+) -> Result<Vec<Opened>, ServeFault> {
+    let mut opened = Vec::new(alloc);
+    for volume in volumes {
+        opened.push(open_one(rt, alloc, volume)?)?;
+    }
+    Ok(opened)
+}

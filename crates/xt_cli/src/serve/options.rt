@@ -1,0 +1,92 @@
+//! What the command line says of a service.
+
+use crate::serve::fault::ServeFault;
+use crate::serve::volume::{Volume, volumes};
+use clap::builder::ValueParser;
+use clap::{Arg, ArgMatches, Command};
+use std::alloc::{AllocError, Global};
+
+/// What a volume is, with an example.
+const VOLUME: &str = "A volume, SLOT:LOGBYTES:BLOCKS:HOMEFILE:LOGFILE: \
+a slot (0 to 15), the bytes of its log (65536 to 16777216), the blocks of 4096 bytes of its home device, and the files of both, \
+which are made where they are missing; the log file must be empty. Example: 0:65536:1024:vol.home:vol.log";
+
+/// What a service is asked to do.
+#[derive(Debug, Drop)]
+pub struct Options {
+    /// The port of 127.0.0.1 to listen at; 0 where the system chooses.
+    pub port: u16,
+    /// How many workers, 1 to 8.
+    pub workers: usize,
+    /// How many sessions, 1 to 1,000,000.
+    pub sessions: u32,
+    /// The volumes, ascending by slot.
+    pub volumes: Vec<Volume>,
+}
+
+/// An option that must be there, and whose value is a number within bounds.
+fn number<'a>(
+    alloc: Global,
+    id: &'a str,
+    value: &'a str,
+    help: &'a str,
+    bounds: (u64, u64),
+) -> Arg<'a> {
+    Arg::new(alloc, id)
+        .long(id)
+        .value_name(value)
+        .help(help)
+        .required(true)
+        .value_parser(ValueParser::unsigned(bounds.0, bounds.1))
+}
+
+/// The command line of a service.
+pub fn serve_command<'a>(alloc: Global) -> Result<Command<'a>, AllocError> {
+    let port = number(
+        alloc,
+        "port",
+        "P",
+        "The port of 127.0.0.1 to listen at, 0 to 65535; with 0 the system chooses",
+        (0, 65_535),
+    );
+    let workers = number(
+        alloc,
+        "workers",
+        "W",
+        "How many workers write logs and blocks, 1 to 8",
+        (1, 8),
+    );
+    let sessions = number(
+        alloc,
+        "sessions",
+        "N",
+        "How many sessions are served, 1 to 1000000; then the service ends",
+        (1, 1_000_000),
+    );
+    let volume = Arg::new(alloc, "VOL")
+        .help(VOLUME)
+        .required(true)
+        .num_args(1usize..);
+    Command::new(alloc, "serve")
+        .about("Mounts volumes in files, and serves sessions of lines over TCP")
+        .arg(port)?
+        .arg(workers)?
+        .arg(sessions)?
+        .arg(volume)
+}
+
+impl Options {
+    /// The options of a service, if that is asked.
+    pub fn of(alloc: Global, matches: &ArgMatches) -> Result<Option<Self>, ServeFault> {
+        let Some(serve) = matches.subcommand_matches("serve") else {
+            return Ok(None);
+        };
+        let words = serve.get_strs("VOL").unwrap_or(&[]);
+        Ok(Some(Options {
+            port: serve.get_one("port").unwrap_or(0),
+            workers: usize::from(serve.get_one::<u8>("workers").unwrap_or(1)),
+            sessions: serve.get_one("sessions").unwrap_or(1),
+            volumes: volumes(alloc, words)?,
+        }))
+    }
+}

@@ -1,0 +1,196 @@
+//! A service over the files of volumes, from its mounts to its end.
+
+ghost use Rattle.std.specs.Prelude.{◌≡◌, ◌-◌, ◌^◌, All};
+ghost use Rattle.std.specs.Arc.{arc_value};
+ghost use Rattle.xt_cell.specs.Ledgers.{AreCut, AreNamed};
+
+use crate::serve::fault::ServeFault;
+use crate::serve::files::Opened;
+use std::alloc::Global;
+use std::io::{Eprint, Print};
+use std::marker::Brand;
+use std::net::TcpListener;
+use std::sync::{Arc, Wait};
+use std::thread::Threads;
+use std::time::Clock;
+use xt_base::names::Slot;
+use xt_base::sizes::SLOTS;
+use xt_base::steps::Errno;
+use xt_cell::house::House;
+use xt_cell::mount_ref::MountRef;
+use xt_cell::reserve::Blanks;
+use xt_cell::seat::HostSeat;
+use xt_dev::home::HomeDevice;
+use xt_dev::log::LogDevice;
+use xt_host::host::Host;
+use xt_service::service::{Service, ServiceEnd};
+
+/// After how many entries the book of a slot is folded.
+const BOOK_LIMIT: u64 = 4_096;
+
+/// A service that is to run: where it listens and at which port, how many workers it has, and how many sessions it serves.
+#[derive(Drop)]
+pub struct Orders {
+    pub listener: TcpListener,
+    pub port: u16,
+    pub workers: usize,
+    pub sessions: u32,
+}
+
+/// Mounts a volume over its devices.
+fn mount<H: House, R: Wait>(
+    rt: &R,
+    host: &Host<H>,
+    seat: &mut HostSeat<H>,
+    volume: (Slot, u32, u64),
+    home: Box<dyn HomeDevice + Send>,
+    log: Box<dyn LogDevice + Send>,
+) -> Result<MountRef, ServeFault>
+    requires board { seat.old.board.board ≡ host.now.board }
+    ensures board { seat.new.board.board ≡ seat.old.board.board }
+{
+    let (slot, log_bytes, blocks) = volume;
+    match host.mount(rt, seat, slot, log_bytes, blocks, home, log) {
+        Ok(at) => Ok(at),
+        Err(back) => Err(ServeFault::Slot(slot, back.errno)),
+    }
+}
+
+/// Prints why a slot is mounted still.
+fn print_kept<R: Eprint>(rt: &R, slot: Slot, errno: Errno) {
+    let fault = match errno {
+        Errno::Busy => ServeFault::Busy(slot),
+        _ => ServeFault::Slot(slot, errno),
+    };
+    let _ = eprintln!(rt; "{fault}");
+}
+
+/// Prints of each slot that is mounted still why it is: whether there is none.
+fn print_all_kept<R: Eprint>(rt: &R, kept: &[Option<Errno>; SLOTS]) -> bool {
+    let mut is_none = true;
+    for index in 0..16 {
+        if let (Some(slot), Some(errno)) = (Slot::new(index), kept[usize::from(index)]) {
+            print_kept(rt, slot, errno);
+            is_none = false;
+        }
+    }
+    is_none
+}
+
+/// Prints a fault, if there is one: whether there is none.
+fn report<R: Eprint>(rt: &R, outcome: Result<(), ServeFault>) -> bool {
+    match outcome {
+        Ok(()) => true,
+        Err(fault) => {
+            let _ = eprintln!(rt; "{fault}");
+            false
+        }
+    }
+}
+
+/// Says that a service listens, serves its sessions, and ends it: what it leaves, and why not all sessions were served, if they were not.
+fn serve_sessions<
+    H: House + Send + Sync + 'static,
+    R: Threads + Wait + Clock + Print + Copy + Send + 'static,
+>(
+    rt: R,
+    alloc: Global,
+    host: &Arc<Host<H>, Global>,
+    service: Service<H>,
+    orders: &Orders,
+    mounts: &[MountRef],
+) -> (ServiceEnd<H>, Result<(), ServeFault>)
+    requires board { service.own.board.board ≡ (arc_value host.now).board }
+    requires workers { All (λ worker. (worker.promise.0.value.seat.board.board ≡ (arc_value host.now).board) × (worker.promise.0.value.pass.queue ≡ arc_value (arc_value host.now).queue)) service.crew.workers.items }
+{
+    let mut service = service;
+    let served = match println!(rt; "listening {}", orders.port) {
+        Ok(()) => service
+            .serve(rt, alloc, host, &orders.listener, orders.sessions)
+            .map_err(ServeFault::Accept),
+        Err(error) => Err(ServeFault::Io(error)),
+    };
+    (service.end(&rt, alloc, host, mounts), served)
+}
+
+/// Tells what was not as it should be at the end of a service: the status.
+fn tell_end<R: Eprint>(
+    rt: &R,
+    served: Result<(), ServeFault>,
+    kept: &[Option<Errno>; SLOTS],
+    is_closed: bool,
+) -> u8 {
+    let closed = if is_closed {
+        Ok(())
+    } else {
+        Err(ServeFault::Close)
+    };
+    let all_were_served = report(rt, served);
+    let none_is_mounted = print_all_kept(rt, kept);
+    let is_closed = report(rt, closed);
+    u8::from(!(all_were_served && none_is_mounted && is_closed))
+}
+
+/// Makes a host over the files of volumes, says that it listens, serves its sessions, and ends it: the status. The devices are boxed here,
+/// where no type of a parameter has a boxed one, and here the host ends.
+fn run<
+    H: House + Send + Sync + 'static,
+    R: Threads + Wait + Clock + Print + Eprint + Copy + Send + 'static,
+>(
+    rt: R,
+    alloc: Global,
+    blanks: Blanks,
+    orders: &Orders,
+    volumes: Vec<Opened>,
+) -> Result<u8, ServeFault>
+    requires names { AreNamed H.names blanks }
+    requires parts { AreCut H.all blanks }
+    requires all { H.all ≡ 2 ^ 64 - 1 }
+{
+    let (host, mut seat, passes) = match Host::<H>::new(alloc, blanks, orders.workers, BOOK_LIMIT) {
+        Ok(made) => made,
+        Err(errno) => return Err(ServeFault::Start(errno)),
+    };
+    let mut mounts = Vec::new(alloc);
+    for opened in volumes {
+        let Opened {
+            slot,
+            log_bytes,
+            blocks,
+            home,
+            log,
+        } = opened;
+        let (home, log) = (Box::new(alloc, home)?, Box::new(alloc, log)?);
+        let at = mount(&rt, &host, &mut seat, (slot, log_bytes, blocks), home, log)?;
+        mounts.push(at)?;
+    }
+    let host = Arc::new(alloc, host)?;
+    let service = match Service::start(rt, alloc, &host, seat, passes) {
+        Ok(service) => service,
+        Err(errno) => return Err(ServeFault::Start(errno)),
+    };
+    let (end, served) = serve_sessions(rt, alloc, &host, service, orders, &mounts);
+    let ServiceEnd {
+        kept,
+        seats,
+        passes,
+    } = end;
+    let is_closed = match Arc::into_inner(host) {
+        Some(host) => host.close(seats, passes).is_ok(),
+        None => false,
+    };
+    Ok(tell_end(&rt, served, &kept, is_closed))
+}
+
+/// Serves volumes over new ledgers, to the end of the last session: the status.
+pub fn serve<R: Threads + Wait + Clock + Print + Eprint + Copy + Send + 'static>(
+    rt: R,
+    alloc: Global,
+    blanks: Blanks,
+    orders: &Orders,
+    volumes: Vec<Opened>,
+) -> Result<u8, ServeFault>
+    requires parts { AreCut (2 ^ 64 - 1) blanks }
+{
+    run::<Brand, R>(rt, alloc, blanks, orders, volumes)
+}

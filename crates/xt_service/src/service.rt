@@ -1,0 +1,373 @@
+//! The life of a service over a host whose volumes are mounted: its workers, the sessions, and the end.
+
+ghost use Rattle.std.specs.Prelude.{◌≡◌, ◌+◌, All, IfOk, OnOk, vec_len};
+ghost use Rattle.std.specs.Arc.{arc_value};
+ghost use Rattle.slab.specs.Slab.{slab_len};
+ghost use Rattle.xt_service.specs.declared.ended.TheConstants.{PLACES};
+
+use crate::accept::accept_sessions;
+use crate::bench::Bench;
+use crate::door::Door;
+use crate::ended::{Ended, PLACES};
+use crate::table::Table;
+use std::alloc::{AllocError, Global};
+use std::net::TcpListener;
+use std::snapshot::Snapshot;
+use std::sync::{Arc, Wait};
+use std::thread::{Promise, PromisedHandle, Threads};
+use std::time::Clock;
+use std::{io, thread};
+use xt_base::sizes::SLOTS;
+use xt_base::steps::Errno;
+use xt_cell::house::House;
+use xt_cell::mount_ref::MountRef;
+use xt_cell::seat::HostSeat;
+use xt_host::host::Host;
+use xt_queue::jobs::WorkPass;
+
+/// How often all mounts are written out at the end of a service.
+const ROUNDS: u32 = 4;
+
+/// What a worker's thread promises: the bench that it gives back is of the same host as the one that it was given.
+#[derive(Drop)]
+pub struct SameHost<H: House>(pub Snapshot<Bench<H>>);
+
+impl<H: House> Promise<Bench<H>> for SameHost<H> {
+    ghost kept_by = { λ promise bench. (bench.seat.board.board ≡ promise.0.value.seat.board.board) × (bench.pass.queue ≡ promise.0.value.pass.queue) };
+}
+
+/// A worker in a thread of its own, which gives its bench back at its end.
+type Worker<H> = PromisedHandle<Bench<H>, SameHost<H>>;
+
+/// A service of a host: a seat of its own, its sessions, and its workers.
+#[derive(Drop)]
+pub struct Service<H: House> {
+    own: HostSeat<H>,
+    table: Table<H>,
+    crew: Crew<H>,
+    ghost tied: { table.like.value.board.board ≡ own.board.board },
+}
+
+/// The workers of a service, each in a thread of its own, and the door at which they stop.
+#[derive(Drop)]
+struct Crew<H: House> {
+    workers: Vec<Worker<H>>,
+    door: Arc<Door, Global>,
+}
+
+/// What the end of a service leaves.
+#[derive(Drop)]
+pub struct ServiceEnd<H: House> {
+    /// Why each slot is still mounted, of those that are.
+    pub kept: [Option<Errno>; SLOTS],
+    /// The seats and passes that the service had, for the end of the host. Where memory was refused some are missing, and that end says so.
+    pub seats: Vec<HostSeat<H>>,
+    pub passes: Vec<WorkPass>,
+}
+
+/// Fills a table with places, by seats that are drawn for them: ENOSPC where the numbers of callers end.
+fn add_places<H: House, R: Wait>(
+    rt: &R,
+    host: &Host<H>,
+    own: &mut HostSeat<H>,
+    table: &mut Table<H>,
+) -> Result<(), Errno>
+    requires board { own.old.board.board ≡ host.now.board }
+    requires like { table.old.like.value.board.board ≡ host.now.board }
+    requires empty { slab_len table.old.sessions + vec_len table.old.free ≡ 0 }
+    ensures own { own.new ≡ own.old }
+    ensures like { table.new.like ≡ table.old.like }
+    ensures places { OnOk result (slab_len table.new.sessions + vec_len table.new.free ≡ PLACES) }
+{
+    for _ in 0..PLACES {
+        let seat = host.seat(rt, own)?;
+        table.add(seat);
+    }
+    Ok(())
+}
+
+/// A full table of a host: ENOMEM where memory is refused.
+fn full_table<H: House, R: Wait>(
+    rt: &R,
+    alloc: Global,
+    host: &Host<H>,
+    own: &mut HostSeat<H>,
+) -> Result<Table<H>, Errno>
+    requires board { own.old.board.board ≡ host.now.board }
+    ensures own { own.new ≡ own.old }
+    ensures like { IfOk result (λ table. table.like.value.board.board ≡ host.now.board) }
+    ensures places { IfOk result (λ table. slab_len table.sessions + vec_len table.free ≡ PLACES) }
+{
+    let Ok(ended) = Arc::new(alloc, Ended::new()) else {
+        return Err(Errno::NoMemory);
+    };
+    let Ok(mut table) = Table::new(alloc, ended, own) else {
+        return Err(Errno::NoMemory);
+    };
+    add_places(rt, host, own, &mut table)?;
+    Ok(table)
+}
+
+/// Works at a bench until a door is shut.
+fn work_at<H: House, R: Wait + Clock + Copy>(
+    rt: R,
+    host: Arc<Host<H>, Global>,
+    bench: Bench<H>,
+    door: Arc<Door, Global>,
+) -> Bench<H>
+    requires board { bench.seat.board.board ≡ (arc_value host).board }
+    requires queue { bench.pass.queue ≡ arc_value (arc_value host).queue }
+    ensures board { result.seat.board.board ≡ (arc_value host).board }
+    ensures queue { result.pass.queue ≡ arc_value (arc_value host).queue }
+{
+    let mut bench = bench;
+    bench.work_until(&rt, &host, &door);
+    bench
+}
+
+/// A worker at a bench of a host, in a thread of its own. The one error is want of memory, or of a thread.
+fn hire<H: House + Send + Sync + 'static, R: Threads + Wait + Clock + Copy + Send + 'static>(
+    rt: R,
+    host: &Arc<Host<H>, Global>,
+    bench: Bench<H>,
+    door: &Arc<Door, Global>,
+) -> Result<Worker<H>, AllocError>
+    requires board { bench.seat.board.board ≡ (arc_value host.now).board }
+    requires queue { bench.pass.queue ≡ arc_value (arc_value host.now).queue }
+    ensures board { IfOk result (λ worker. worker.promise.0.value.seat.board.board ≡ (arc_value host.now).board) }
+    ensures queue { IfOk result (λ worker. worker.promise.0.value.pass.queue ≡ arc_value (arc_value host.now).queue) }
+{
+    let theirs = Arc::try_clone(host)?;
+    let shut = Arc::try_clone(door)?;
+    let promise = SameHost(Snapshot::of(&bench));
+    let work = move || -> Bench<H>
+        requires { (bench.seat.board.board ≡ (arc_value theirs).board) × (bench.pass.queue ≡ arc_value (arc_value theirs).queue) }
+        ensures { (result.seat.board.board ≡ bench.seat.board.board) × (result.pass.queue ≡ bench.pass.queue) }
+    { work_at(rt, theirs, bench, shut) };
+    Ok(thread::spawn_with(&rt, promise, work)?)
+}
+
+impl<H: House> Crew<H> {
+    /// No workers yet. The one error is want of memory.
+    fn new(alloc: Global) -> Result<Self, AllocError>
+        ensures { IfOk result (λ crew. vec_len crew.workers ≡ 0) }
+    {
+        let door = Arc::new(alloc, Door::new())?;
+        Ok(Crew {
+            workers: Vec::new(alloc),
+            door,
+        })
+    }
+
+    /// Has the workers stop, and waits until all have: their benches. One for which there is no memory is lost, and the end of the host
+    /// then finds its seat missing.
+    fn dismiss<R: Threads>(self, rt: &R, alloc: Global, host: &Host<H>) -> Vec<Bench<H>>
+        requires workers { All (λ worker. (worker.promise.0.value.seat.board.board ≡ host.now.board) × (worker.promise.0.value.pass.queue ≡ arc_value host.now.queue)) self.workers.items }
+        ensures benches { All (λ bench. (bench.seat.board.board ≡ host.now.board) × (bench.pass.queue ≡ arc_value host.now.queue)) result.items }
+    {
+        let _ = host;
+        let Crew { workers, door } = self;
+        door.shut();
+        let mut benches = Vec::new(alloc);
+        for worker in workers {
+            let _ = benches.push(worker.join(rt));
+        }
+        benches
+    }
+}
+
+impl<H: House + Send + Sync + 'static> Crew<H> {
+    /// A worker for each pass: ENOMEM where memory or a thread is refused.
+    fn add_all<R: Threads + Wait + Clock + Copy + Send + 'static>(
+        &mut self,
+        rt: R,
+        host: &Arc<Host<H>, Global>,
+        own: &mut HostSeat<H>,
+        passes: Vec<WorkPass>,
+    ) -> Result<(), Errno>
+        requires board { own.old.board.board ≡ (arc_value host.now).board }
+        requires queues { All (λ pass. pass.queue ≡ arc_value (arc_value host.now).queue) passes.items }
+        requires workers { All (λ worker. (worker.promise.0.value.seat.board.board ≡ (arc_value host.now).board) × (worker.promise.0.value.pass.queue ≡ arc_value (arc_value host.now).queue)) self.old.workers.items }
+        ensures own { own.new ≡ own.old }
+        ensures workers { All (λ worker. (worker.promise.0.value.seat.board.board ≡ (arc_value host.now).board) × (worker.promise.0.value.pass.queue ≡ arc_value (arc_value host.now).queue)) self.new.workers.items }
+    {
+        for pass in passes {
+            let seat = host.seat(&rt, own)?;
+            if self.workers.reserve(1).is_err() {
+                return Err(Errno::NoMemory);
+            }
+            match hire(rt, host, Bench { seat, pass }, &self.door) {
+                Ok(worker) => self.workers.push_reserved(worker),
+                Err(_refused) => return Err(Errno::NoMemory),
+            }
+        }
+        Ok(())
+    }
+}
+
+impl<H: House + Send + Sync + 'static> Service<H> {
+    /// A service over a host: a worker in a thread of its own for each pass, and no session yet. ENOMEM where memory or a thread is
+    /// refused; then the workers that there are have stopped.
+    pub fn start<R: Threads + Wait + Clock + Copy + Send + 'static>(
+        rt: R,
+        alloc: Global,
+        host: &Arc<Host<H>, Global>,
+        seat: HostSeat<H>,
+        passes: Vec<WorkPass>,
+    ) -> Result<Self, Errno>
+        requires board { seat.board.board ≡ (arc_value host.now).board }
+        requires queues { All (λ pass. pass.queue ≡ arc_value (arc_value host.now).queue) passes.items }
+        ensures own { IfOk result (λ service. service.own ≡ seat) }
+        ensures places { IfOk result (λ service. slab_len service.table.sessions + vec_len service.table.free ≡ PLACES) }
+        ensures workers { IfOk result (λ service. All (λ worker. (worker.promise.0.value.seat.board.board ≡ (arc_value host.now).board) × (worker.promise.0.value.pass.queue ≡ arc_value (arc_value host.now).queue)) service.crew.workers.items) }
+    {
+        let mut own = seat;
+        let Ok(mut crew) = Crew::new(alloc) else {
+            return Err(Errno::NoMemory);
+        };
+        let table = full_table(&rt, alloc, host, &mut own)?;
+        if let Err(errno) = crew.add_all(rt, host, &mut own, passes) {
+            let _benches = crew.dismiss(&rt, alloc, host);
+            return Err(errno);
+        }
+        Ok(Service { own, table, crew })
+    }
+
+    /// Serves so many sessions over the streams of a listener, at most sixteen at a time, and returns when the last has ended. An error is
+    /// one of accepting: then no more are served.
+    pub fn serve<R: Threads + Wait + Copy + Send + 'static>(
+        &mut self,
+        rt: R,
+        alloc: Global,
+        host: &Arc<Host<H>, Global>,
+        listener: &TcpListener,
+        count: u32,
+    ) -> io::Result<()>
+        requires board { self.old.own.board.board ≡ (arc_value host.now).board }
+        ensures own { self.new.own ≡ self.old.own }
+        ensures crew { self.new.crew ≡ self.old.crew }
+        ensures running { slab_len self.new.table.sessions ≡ 0 }
+        ensures places { slab_len self.new.table.sessions + vec_len self.new.table.free ≡ slab_len self.old.table.sessions + vec_len self.old.table.free }
+    {
+        let accepted = accept_sessions(rt, alloc, host, listener, &mut self.table, count);
+        self.table.wait_for_all(&rt);
+        accepted
+    }
+}
+
+/// Has each mount written out once.
+fn write_out_each<H: House, R: Wait>(
+    rt: &R,
+    host: &Host<H>,
+    bench: &mut Bench<H>,
+    mounts: &[MountRef],
+)
+    requires board { bench.old.seat.board.board ≡ host.now.board }
+    requires queue { bench.old.pass.queue ≡ arc_value host.now.queue }
+    ensures board { bench.new.seat.board.board ≡ host.now.board }
+    ensures queue { bench.new.pass.queue ≡ arc_value host.now.queue }
+{
+    for at in mounts {
+        bench.write_out(rt, host, at);
+    }
+}
+
+/// Has all mounts written out, again and again: what one force and one push leave is written by a later one.
+fn write_out_all<H: House, R: Wait>(
+    rt: &R,
+    host: &Host<H>,
+    bench: &mut Bench<H>,
+    mounts: &[MountRef],
+)
+    requires board { bench.old.seat.board.board ≡ host.now.board }
+    requires queue { bench.old.pass.queue ≡ arc_value host.now.queue }
+    ensures board { bench.new.seat.board.board ≡ host.now.board }
+    ensures queue { bench.new.pass.queue ≡ arc_value host.now.queue }
+{
+    for _ in 0..ROUNDS {
+        write_out_each(rt, host, bench, mounts);
+    }
+}
+
+/// Unmounts a mount, and lets its devices go: why it is still mounted, if it is.
+fn unmount<H: House, R: Wait>(
+    rt: &R,
+    host: &Host<H>,
+    seat: &mut HostSeat<H>,
+    at: &MountRef,
+) -> Option<Errno>
+    requires board { seat.old.board.board ≡ host.now.board }
+    ensures board { seat.new.board.board ≡ host.now.board }
+{
+    match host.unmount(rt, seat, *at) {
+        Ok(_devices) => None,
+        Err(errno) => Some(errno),
+    }
+}
+
+/// Unmounts all mounts: why each slot is still mounted, of those that are.
+fn unmount_each<H: House, R: Wait>(
+    rt: &R,
+    host: &Host<H>,
+    seat: &mut HostSeat<H>,
+    mounts: &[MountRef],
+) -> [Option<Errno>; SLOTS]
+    requires board { seat.old.board.board ≡ host.now.board }
+{
+    let mut kept = [None; SLOTS];
+    for at in mounts {
+        kept[at.slot.index()] = unmount(rt, host, seat, at);
+    }
+    kept
+}
+
+/// Puts the seats and passes of benches among others; those for which there is no memory are lost.
+fn collect_benches<H: House>(
+    seats: &mut Vec<HostSeat<H>>,
+    passes: &mut Vec<WorkPass>,
+    benches: Vec<Bench<H>>,
+) {
+    for bench in benches {
+        let Bench { seat, pass } = bench;
+        let _ = seats.push(seat);
+        let _ = passes.push(pass);
+    }
+}
+
+impl<H: House> Service<H> {
+    /// Ends a service: its workers stop, what its mounts have committed is written to the logs and home, and the mounts are unmounted. The
+    /// mounts are ascending by slot. The host is then to be closed with the seats that are left.
+    pub fn end<R: Threads + Wait>(
+        self,
+        rt: &R,
+        alloc: Global,
+        host: &Host<H>,
+        mounts: &[MountRef],
+    ) -> ServiceEnd<H>
+        requires board { self.own.board.board ≡ host.now.board }
+        requires workers { All (λ worker. (worker.promise.0.value.seat.board.board ≡ host.now.board) × (worker.promise.0.value.pass.queue ≡ arc_value host.now.queue)) self.crew.workers.items }
+    {
+        let Service {
+            mut own,
+            mut table,
+            crew,
+        } = self;
+        table.wait_for_all(rt);
+        let mut seats = table.into_seats();
+        let mut passes = Vec::new(alloc);
+        let mut benches = crew.dismiss(rt, alloc, host);
+        if let Some(mut bench) = benches.pop() {
+            write_out_all(rt, host, &mut bench, mounts);
+            let _ = seats.push(bench.seat);
+            let _ = passes.push(bench.pass);
+        }
+        let kept = unmount_each(rt, host, &mut own, mounts);
+        let _ = seats.push(own);
+        collect_benches(&mut seats, &mut passes, benches);
+        ServiceEnd {
+            kept,
+            seats,
+            passes,
+        }
+    }
+}

@@ -1,0 +1,239 @@
+//! The sessions that run, at most sixteen at a time, each in a thread of its own.
+
+ghost use Rattle.std.specs.Prelude.{◌≡◌, ◌≤◌, ◌<◌, ◌+◌, ℕ, All, IfErr, IfOk, vec_len, vec_capacity};
+ghost use Rattle.slab.specs.Slab.{get, slab_len};
+ghost use Rattle.std.specs.Arc.{arc_value};
+ghost use Rattle.std.specs.Option.{ForSome};
+ghost use Rattle.xt_service.specs.declared.ended.TheConstants.{PLACES};
+
+use crate::ended::{Ended, PLACES};
+use crate::host_session::host_session;
+use slab::Slab;
+use std::alloc::{AllocError, Global};
+use std::net::TcpStream;
+use std::snapshot::Snapshot;
+use std::sync::{Arc, Wait};
+use std::thread;
+use std::thread::{Promise, PromisedHandle, Threads};
+use xt_cell::house::House;
+use xt_cell::seat::HostSeat;
+use xt_host::host::Host;
+
+/// What a session's thread promises: the seat that it gives back is of the same host as the one that it was given.
+#[derive(Drop)]
+pub struct SameBoard<H: House>(pub Snapshot<HostSeat<H>>);
+
+impl<H: House> Promise<HostSeat<H>> for SameBoard<H> {
+    ghost kept_by = { λ promise seat. seat.board.board ≡ promise.0.value.board.board };
+}
+
+/// A session in a thread of its own, which gives its seat back at its end.
+type Session<H> = PromisedHandle<HostSeat<H>, SameBoard<H>>;
+
+/// The sessions that run, by the numbers that they tell at their ends, and the seats of those that may begin.
+#[derive(Drop)]
+pub struct Table<H: House> {
+    sessions: Slab<Session<H>>,
+    free: Vec<HostSeat<H>>,
+    ended: Arc<Ended, Global>,
+    /// A seat as it was once: each seat here is of the same host.
+    like: Snapshot<HostSeat<H>>,
+    ghost most: { slab_len sessions + vec_len free ≤ PLACES },
+    ghost keys: { PLACES ≤ sessions.capacity },
+    ghost room: { PLACES ≤ vec_capacity free },
+    ghost seats: { All (λ seat. seat.board.board ≡ like.value.board.board) free.items },
+    ghost promised: { (number : ℕ) → ForSome (get sessions number) (λ session. session.promise.0.value.board.board ≡ like.value.board.board) },
+}
+
+/// Serves a session over a stream to its end, and closes the stream: the seat.
+fn serve_stream<H: House, R: Wait>(
+    rt: &R,
+    alloc: Global,
+    host: &Host<H>,
+    seat: HostSeat<H>,
+    stream: TcpStream,
+) -> HostSeat<H>
+    requires board { seat.board.board ≡ host.now.board }
+    ensures board { result.board.board ≡ host.now.board }
+{
+    let _ = stream.set_nodelay(true);
+    let (seat, _end) = host_session(rt, alloc, host, seat, &mut &stream, &mut &stream);
+    seat
+}
+
+/// Serves a session over a stream, and then tells of its end under its number.
+fn serve_told<H: House, R: Wait + Copy>(
+    rt: R,
+    alloc: Global,
+    host: Arc<Host<H>, Global>,
+    seat: HostSeat<H>,
+    stream: TcpStream,
+    ended: Arc<Ended, Global>,
+    number: usize,
+) -> HostSeat<H>
+    requires board { seat.board.board ≡ (arc_value host).board }
+    ensures board { result.board.board ≡ (arc_value host).board }
+{
+    let seat = serve_stream(&rt, alloc, &host, seat, stream);
+    ended.tell(&rt, number);
+    seat
+}
+
+/// Serves a session in a thread of its own: its handle. Where no thread can be made it is served here: its seat, once it has ended.
+fn start<H: House + Send + Sync + 'static, R: Threads + Wait + Copy + Send + 'static>(
+    rt: R,
+    alloc: Global,
+    host: &Arc<Host<H>, Global>,
+    seat: HostSeat<H>,
+    stream: TcpStream,
+    ended: &Arc<Ended, Global>,
+    number: usize,
+) -> Result<Session<H>, HostSeat<H>>
+    requires board { seat.board.board ≡ (arc_value host.now).board }
+    ensures session { IfOk result (λ session. session.promise.0.value.board.board ≡ (arc_value host.now).board) }
+    ensures seat { IfErr result (λ back. back.board.board ≡ (arc_value host.now).board) }
+{
+    let (Ok(theirs), Ok(told)) = (Arc::try_clone(host), Arc::try_clone(ended)) else {
+        return Err(serve_stream(&rt, alloc, host, seat, stream));
+    };
+    let promise = SameBoard(Snapshot::of(&seat));
+    let session = move || -> HostSeat<H>
+        requires { seat.board.board ≡ (arc_value theirs).board }
+        ensures { result.board.board ≡ seat.board.board }
+    { serve_told(rt, alloc, theirs, seat, stream, told, number) };
+    match thread::spawn_with(&rt, promise, session) {
+        Ok(session) => Ok(session),
+        Err(refused) => Err((refused.value)()),
+    }
+}
+
+impl<H: House> Table<H> {
+    /// A table with no seat yet, whose sessions tell their ends there; its seats will be of the host of this one. The one error is want
+    /// of memory.
+    pub fn new(
+        alloc: Global,
+        ended: Arc<Ended, Global>,
+        seat: &HostSeat<H>,
+    ) -> Result<Self, AllocError>
+        ensures like { IfOk result (λ table. table.like.value ≡ seat.now) }
+        ensures running { IfOk result (λ table. slab_len table.sessions ≡ 0) }
+        ensures free { IfOk result (λ table. vec_len table.free ≡ 0) }
+    {
+        let sessions = Slab::with_capacity(alloc, PLACES)?;
+        let free = Vec::with_capacity(alloc, PLACES)?;
+        Ok(Table {
+            sessions,
+            free,
+            ended,
+            like: Snapshot::of(seat),
+        })
+    }
+
+    /// How many sessions run: sixteen at most.
+    pub fn running(&self) -> usize
+        ensures count { result ≡ slab_len self.now.sessions }
+        ensures most { result ≤ PLACES }
+    {
+        self.sessions.len()
+    }
+
+    /// How many places there are in all, with those of the sessions that run: sixteen at most.
+    pub fn places(&self) -> usize
+        ensures count { result ≡ slab_len self.now.sessions + vec_len self.now.free }
+        ensures most { result ≤ PLACES }
+    {
+        self.sessions.len() + self.free.len()
+    }
+
+    /// One more place, which is free, by a seat of the table's host.
+    pub fn add(&mut self, seat: HostSeat<H>)
+        requires room { slab_len self.old.sessions + vec_len self.old.free < PLACES }
+        requires board { seat.board.board ≡ self.old.like.value.board.board }
+        ensures running { slab_len self.new.sessions ≡ slab_len self.old.sessions }
+        ensures free { vec_len self.new.free ≡ vec_len self.old.free + 1 }
+        ensures like { self.new.like ≡ self.old.like }
+    {
+        self.free.push_reserved(seat);
+    }
+
+    /// Waits for the end of a session, and takes its seat back.
+    fn take_back<R: Threads + Wait>(&mut self, rt: &R)
+        ensures like { self.new.like ≡ self.old.like }
+        ensures places { slab_len self.new.sessions + vec_len self.new.free ≡ slab_len self.old.sessions + vec_len self.old.free }
+    {
+        let number = self.ended.next(rt);
+        let Some(session) = self.sessions.try_remove(number) else {
+            return;
+        };
+        self.free.push_reserved(session.join(rt));
+    }
+
+    /// Waits until a place is free: while all are taken, until a session ends.
+    pub fn wait_for_seat<R: Threads + Wait>(&mut self, rt: &R)
+        ensures free { 0 < vec_len self.new.free }
+        ensures like { self.new.like ≡ self.old.like }
+        ensures places { slab_len self.new.sessions + vec_len self.new.free ≡ slab_len self.old.sessions + vec_len self.old.free }
+    {
+        for _ in rt.forever() {
+            if !self.free.is_empty() {
+                return;
+            }
+            self.take_back(rt);
+        }
+        unreachable!()
+    }
+
+    /// Waits until no session runs.
+    pub fn wait_for_all<R: Threads + Wait>(&mut self, rt: &R)
+        ensures running { slab_len self.new.sessions ≡ 0 }
+        ensures like { self.new.like ≡ self.old.like }
+        ensures places { slab_len self.new.sessions + vec_len self.new.free ≡ slab_len self.old.sessions + vec_len self.old.free }
+    {
+        for _ in rt.forever() {
+            if self.sessions.is_empty() {
+                return;
+            }
+            self.take_back(rt);
+        }
+        unreachable!()
+    }
+
+    /// The seats, for the end of the host.
+    pub fn into_seats(self) -> Vec<HostSeat<H>>
+        requires running { slab_len self.sessions ≡ 0 }
+        ensures seats { result ≡ self.free }
+    {
+        self.free
+    }
+}
+
+impl<H: House + Send + Sync + 'static> Table<H> {
+    /// Serves a session of a host over a stream, in a thread of its own and by a free place. Where no thread can be made it is served
+    /// here, and this returns at its end.
+    pub fn open<R: Threads + Wait + Copy + Send + 'static>(
+        &mut self,
+        rt: R,
+        alloc: Global,
+        host: &Arc<Host<H>, Global>,
+        stream: TcpStream,
+    )
+        requires free { 0 < vec_len self.old.free }
+        requires board { self.old.like.value.board.board ≡ (arc_value host.now).board }
+        ensures like { self.new.like ≡ self.old.like }
+        ensures places { slab_len self.new.sessions + vec_len self.new.free ≡ slab_len self.old.sessions + vec_len self.old.free }
+    {
+        let Some(seat) = self.free.pop() else {
+            unreachable!()
+        };
+        let number = self.sessions.vacant_key();
+        match start(rt, alloc, host, seat, stream, &self.ended, number) {
+            Ok(session) => {
+                self.sessions.insert_reserved(session);
+            }
+            Err(seat) => {
+                self.ended.forget(&rt, number);
+                self.free.push_reserved(seat);
+            }
+        }
+    }
+}
