@@ -1,7 +1,1 @@
-pub mod AppendLemmas
-pub mod ScriptLemmas
-pub mod PlayLemmas
-pub mod LineLemmas
-pub mod DumpLemmas
-pub mod WindowLemmas
 pub mod ServeLemmas

@@ -1,24 +1,14 @@
 //! The program `xth`: transactions of mounted volumes, step by step.
 #![tactic(auto)]
 
-mod fault;
-mod lines;
-mod logdump;
-mod printing;
 mod progress;
-mod script;
 mod serve;
 #[cfg(test)]
 mod tests;
-mod window;
-mod writing;
 
 use clap::error::ErrorKind;
 use clap::{Arg, ArgMatches, Command};
-use fault::ScriptFault;
-use logdump::{dump, tell};
 use progress::Watched;
-use script::run_script;
 use serve::fault::ServeFault;
 use serve::files::{Opened, look, open};
 use serve::options::{Options, serve_command};
@@ -28,9 +18,9 @@ use std::fs::File;
 use std::io::{BufWriter, Input, IsTerminal, Stderr};
 use std::net::TcpListener;
 use std::process::ExitCode;
-use window::{LOG_BYTES, LogFault};
 use xt_base::names::Slot;
 use xt_cell::reserve::Blanks;
+use xt_offline::{LOG_BYTES, LogFault, ScriptFault, dump, run_script, tell};
 
 /// How many bytes of output are written at once.
 const OUTPUT_BYTES: usize = 65_536;

@@ -1,7 +1,0 @@
-use Rattle.std.proofs.Common.{take}
-use Rattle.std.specs.Io.KnownBytes.{Appends}
-use Rattle.xt_cli.specs.LogDump.{item_lines}
-use Rattle.xt_cli.proofs.logdump.print_items.Given as goal
-
-abbrev pub invariant-loop-item : goal.invariant-loop-item
-invariant-loop-item g l = Appends (g.W.Write.contents l.fn.writer) (g.W.Write.contents l.writer) (item_lines (take l.item-index l.items))

@@ -1,0 +1,6 @@
+pub mod AppendLemmas
+pub mod ScriptLemmas
+pub mod PlayLemmas
+pub mod LineLemmas
+pub mod DumpLemmas
+pub mod WindowLemmas

@@ -1,0 +1,37 @@
+//! Why a script was not run to its end.
+
+ghost use Rattle.std.specs.Prelude.{◌≡◌};
+ghost use Rattle.xt_offline.specs.Script.{status_of};
+
+use std::alloc::AllocError;
+use std::io;
+use thiserror::Error;
+
+/// Why a script was not run to its end.
+#[derive(Debug, Drop, Error)]
+pub enum ScriptFault {
+    /// A line that is no step's, counted from 1.
+    #[error("bad line {0}")]
+    BadLine(usize),
+    /// A script of more than 16,777,216 bytes.
+    #[error("fault: script too long")]
+    TooLong,
+    /// The reader or the writer failed.
+    #[error("fault: {0}")]
+    Io(#[from] io::Error),
+    /// Memory was refused.
+    #[error("fault: {0}")]
+    Memory(#[from(alloc)] AllocError),
+}
+
+impl ScriptFault {
+    /// The exit status: 2 for a line that is no step's, else 1.
+    pub fn status(&self) -> u8
+        ensures { result ≡ status_of self.now }
+    {
+        match self {
+            ScriptFault::BadLine(_) => 2,
+            ScriptFault::TooLong | ScriptFault::Io(_) | ScriptFault::Memory(_) => 1,
+        }
+    }
+}

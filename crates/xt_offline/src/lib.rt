@@ -1,0 +1,17 @@
+//! What `xth` does with no service: a script played step by step, or the steps of one of its slots, and a log printed.
+#![tactic(auto)]
+
+pub mod fault;
+mod lines;
+pub mod logdump;
+mod printing;
+pub mod script;
+#[cfg(test)]
+mod tests;
+mod window;
+mod writing;
+
+pub use fault::ScriptFault;
+pub use logdump::{dump, tell};
+pub use script::run_script;
+pub use window::{LOG_BYTES, LogFault};

@@ -1,0 +1,212 @@
+//! `xth logdump`: the checkpoints of a log, printed.
+
+ghost use Rattle.std.specs.Prelude.{◌++◌, ◌<◌, ◌≡◌, ◌≤◌, All, IfErr, IfOk, IfSome, OnErr, OnOk, length};
+ghost use Rattle.std.specs.Io.KnownBytes.{Appends};
+ghost use Rattle.xt_ckpt.specs.declared.item.Item.{Item as AnItem};
+ghost use Rattle.xt_offline.specs.LogDump.{checkpoint_lines, fault_line, found_lines, item_lines, rest_lines, status_after, AreShort, IsLogBegun, IsLogPrinted, IsLogRun, IsLogStatus, IsTold, IsWhy};
+ghost use Rattle.xt_offline.specs.Printing.{ended, Begins};
+ghost use Rattle.xt_text.specs.Items.{head_text, item_text};
+
+use crate::printing::print_line;
+use crate::window::{Found, LogFault, PIECE_BYTES, Window};
+use crate::writing::{write_bytes, write_numbered};
+use std::alloc::Global;
+use std::io::{self, ErrorKind, Read, Write};
+use xt_base::sizes::DATA_BYTES;
+use xt_ckpt::{Checkpoint, Item};
+use xt_text::buffer::Text;
+use xt_text::print_ckpt::{print_head, print_item};
+
+/// Prints the checkpoints of a log, and answers the exit status: 0, after `rest N` where N bytes behind the last whole text are
+/// no text yet; 3 after the texts before the first fault and `fault OFFSET`; 1 after a fault of the reader, of the writer or of memory, or of a
+/// log that turns out too long, which is printed on `err`, with at most a beginning of what is printed of the log. What is printed on `err` may
+/// end early, where `err` fails.
+#[tactic(auto, using(crate::proofs::DumpLemmas::dump_whole, crate::proofs::DumpLemmas::dump_stopped))]
+pub fn dump<R: Read, W: Write, E: Write>(
+    alloc: Global,
+    reader: &mut R,
+    writer: &mut W,
+    err: &mut E,
+) -> u8
+    ensures run { IfSome (R.remaining reader.old) (λ log. IsLogRun log (W.contents writer.old) (W.contents writer.new) (E.contents err.old) (E.contents err.new) result) }
+    ensures status { IsLogStatus result }
+{
+    match dump_to_the_end(alloc, reader, writer) {
+        Ok(status) => status,
+        Err(fault) => tell(err, &fault),
+    }
+}
+
+/// Tells of a fault, and answers its exit status, 1.
+pub fn tell<E: Write>(err: &mut E, fault: &LogFault) -> u8
+    ensures status { result ≡ 1 }
+    ensures told { IsTold fault.now (E.contents err.old) (E.contents err.new) }
+{
+    let _ = report(err, fault);
+    1
+}
+
+/// Tells that a log is too long, or the words of another fault.
+fn report<E: Write>(err: &mut E, fault: &LogFault) -> io::Result<()>
+    ensures { IsTold fault.now (E.contents err.old) (E.contents err.new) }
+{
+    match fault {
+        LogFault::TooLong => write_bytes(err, b"fault: log too long\n"),
+        LogFault::Io(_) | LogFault::Memory(_) => writeln!(err, "{fault}"),
+    }
+}
+
+/// Prints all texts, with all that the writer holds back written too.
+#[tactic(auto, using(crate::proofs::DumpLemmas::why_known, crate::proofs::DumpLemmas::log_printed_kept))]
+fn dump_to_the_end<R: Read, W: Write>(
+    alloc: Global,
+    reader: &mut R,
+    writer: &mut W,
+) -> Result<u8, LogFault>
+    ensures printed { IfOk result (λ status. IfSome (R.remaining reader.old) (λ log. IsLogPrinted log (W.contents writer.old) (W.contents writer.new) status)) }
+    ensures begun { OnErr result (IfSome (R.remaining reader.old) (λ log. IsLogBegun log (W.contents writer.old) (W.contents writer.new))) }
+    ensures why { IfErr result (λ fault. IfSome (R.remaining reader.old) (λ log. IsWhy (length log) fault)) }
+    ensures status { IfOk result IsLogStatus }
+{
+    let status = dump_texts(alloc, reader, writer)?;
+    writer.flush().map_err(LogFault::Io)?;
+    Ok(status)
+}
+
+/// The same, without what the writer holds back.
+#[tactic(auto, using(crate::proofs::DumpLemmas::why_known))]
+fn dump_texts<R: Read, W: Write>(
+    alloc: Global,
+    reader: &mut R,
+    writer: &mut W,
+) -> Result<u8, LogFault>
+    ensures printed { IfOk result (λ status. IfSome (R.remaining reader.old) (λ log. IsLogPrinted log (W.contents writer.old) (W.contents writer.new) status)) }
+    ensures begun { OnErr result (IfSome (R.remaining reader.old) (λ log. IsLogBegun log (W.contents writer.old) (W.contents writer.new))) }
+    ensures why { IfErr result (λ fault. IfSome (R.remaining reader.old) (λ log. IsWhy (length log) fault)) }
+    ensures status { IfOk result IsLogStatus }
+{
+    let mut piece = vec![in alloc; 0u8; PIECE_BYTES].map_err(LogFault::Memory)?;
+    let mut text = Text::new(alloc).map_err(LogFault::Memory)?;
+    dump_by_pieces(alloc, reader, writer, &mut piece, &mut text)
+}
+
+/// Prints each text, and how the log ends: the status is 0, or 3 where a text breaks a rule. The log is read by way of `piece`.
+#[tactic(auto, using(crate::proofs::DumpLemmas::status_found, crate::proofs::DumpLemmas::why_known))]
+fn dump_by_pieces<R: Read, W: Write>(
+    alloc: Global,
+    reader: &mut R,
+    writer: &mut W,
+    piece: &mut [u8],
+    text: &mut Text,
+) -> Result<u8, LogFault>
+    requires room { 0 < length piece.old }
+    ensures printed { IfOk result (λ status. IfSome (R.remaining reader.old) (λ log. IsLogPrinted log (W.contents writer.old) (W.contents writer.new) status)) }
+    ensures begun { OnErr result (IfSome (R.remaining reader.old) (λ log. IsLogBegun log (W.contents writer.old) (W.contents writer.new))) }
+    ensures why { IfErr result (λ fault. IfSome (R.remaining reader.old) (λ log. IsWhy (length log) fault)) }
+    ensures status { IfOk result IsLogStatus }
+{
+    let mut window = Window::new(alloc);
+    for _ in 0..u64::MAX {
+        let found = window.next(reader, piece)?;
+        let status = print_found(writer, text, &found).map_err(LogFault::Io)?;
+        if let Some(status) = status {
+            return Ok(status);
+        }
+    }
+    Err(LogFault::Io(io::Error::from(ErrorKind::TimedOut)))
+}
+
+/// Prints what was found, and answers the status, where the log ends with it: 0, or 3 where a text breaks a rule.
+fn print_found<W: Write>(writer: &mut W, text: &mut Text, found: &Found) -> io::Result<Option<u8>>
+    requires short { AreShort found.now }
+    ensures all { OnOk result (Appends (W.contents writer.old) (W.contents writer.new) (found_lines found.now)) }
+    ensures part { Begins (W.contents writer.old) (W.contents writer.new) (found_lines found.now) }
+    ensures status { IfOk result (λ status. status ≡ status_after found.now) }
+{
+    match found {
+        Found::Text(checkpoint) => {
+            print_checkpoint(writer, text, checkpoint)?;
+            Ok(None)
+        }
+        Found::Rest(count) => {
+            print_rest(writer, *count)?;
+            Ok(Some(0))
+        }
+        Found::Fault(offset) => {
+            print_fault(writer, *offset)?;
+            Ok(Some(3))
+        }
+    }
+}
+
+/// Prints a checkpoint: its number with the count of its items, and a line for each of them.
+fn print_checkpoint<W: Write>(
+    writer: &mut W,
+    text: &mut Text,
+    checkpoint: &Checkpoint,
+) -> io::Result<()>
+    requires short { All (λ (i : AnItem). length i.content.items ≤ DATA_BYTES) checkpoint.now.items.items }
+    ensures all { OnOk result (Appends (W.contents writer.old) (W.contents writer.new) (checkpoint_lines checkpoint.now)) }
+    ensures part { Begins (W.contents writer.old) (W.contents writer.new) (checkpoint_lines checkpoint.now) }
+{
+    print_head_line(writer, text, checkpoint)?;
+    print_items(writer, text, &checkpoint.items)
+}
+
+/// Prints the number of a checkpoint and the count of its items.
+fn print_head_line<W: Write>(
+    writer: &mut W,
+    text: &mut Text,
+    checkpoint: &Checkpoint,
+) -> io::Result<()>
+    ensures all { OnOk result (Appends (W.contents writer.old) (W.contents writer.new) (ended (head_text checkpoint.now.no (length checkpoint.now.items.items)))) }
+    ensures part { Begins (W.contents writer.old) (W.contents writer.new) (ended (head_text checkpoint.now.no (length checkpoint.now.items.items))) }
+{
+    text.clear();
+    print_head(checkpoint.no, checkpoint.items.len(), text);
+    print_line(writer, text)
+}
+
+/// Prints a line for each item.
+#[tactic(auto, using(crate::proofs::AppendLemmas::begins_all, crate::proofs::AppendLemmas::begins_at, crate::proofs::AppendLemmas::begins_same))]
+fn print_items<W: Write>(writer: &mut W, text: &mut Text, items: &[Item]) -> io::Result<()>
+    requires short { All (λ (i : AnItem). length i.content.items ≤ DATA_BYTES) items.now }
+    ensures all { OnOk result (Appends (W.contents writer.old) (W.contents writer.new) (item_lines items.now)) }
+    ensures part { Begins (W.contents writer.old) (W.contents writer.new) (item_lines items.now) }
+{
+    for item in items {
+        print_item_line(writer, text, item)?;
+    }
+    Ok(())
+}
+
+/// Prints an item.
+fn print_item_line<W: Write>(writer: &mut W, text: &mut Text, item: &Item) -> io::Result<()>
+    requires short { length item.now.content.items ≤ DATA_BYTES }
+    ensures all { OnOk result (Appends (W.contents writer.old) (W.contents writer.new) (ended (item_text item.now.block item.now.chunks item.now.content.items))) }
+    ensures part { Begins (W.contents writer.old) (W.contents writer.new) (ended (item_text item.now.block item.now.chunks item.now.content.items)) }
+{
+    text.clear();
+    print_item(item.block, item.chunks, &item.content, text);
+    print_line(writer, text)
+}
+
+/// Prints how many bytes stand behind the last whole text, if there are any.
+#[tactic(auto, using(crate::proofs::AppendLemmas::appends_none, crate::proofs::AppendLemmas::begins_same))]
+fn print_rest<W: Write>(writer: &mut W, count: usize) -> io::Result<()>
+    ensures all { OnOk result (Appends (W.contents writer.old) (W.contents writer.new) (rest_lines count)) }
+    ensures part { Begins (W.contents writer.old) (W.contents writer.new) (rest_lines count) }
+{
+    if count == 0 {
+        return Ok(());
+    }
+    write_numbered(writer, b"rest ", count)
+}
+
+/// Prints where a text breaks a rule, counted in the log from 0.
+fn print_fault<W: Write>(writer: &mut W, offset: usize) -> io::Result<()>
+    ensures all { OnOk result (Appends (W.contents writer.old) (W.contents writer.new) (fault_line offset)) }
+    ensures part { Begins (W.contents writer.old) (W.contents writer.new) (fault_line offset) }
+{
+    write_numbered(writer, b"fault ", offset)
+}

@@ -1,0 +1,122 @@
+//! `xth script` and `xth strike`: all lines are parsed, then run, or those of one slot, and each reply is printed, with the offers
+//! that its step made.
+
+ghost use Rattle.std.specs.Prelude.{◌≡◌, IfErr, IfOk, IfSome, OnErr, false};
+ghost use Rattle.xt_offline.specs.Script.{is_of_script, picked, IsCutShort, IsFault, IsPlayed, IsPrinted, IsReported, IsRun};
+
+use crate::fault::ScriptFault;
+use crate::lines::{parse_script, read_script};
+use crate::printing::{print_broken, print_turns};
+use crate::writing::{write_bytes, write_numbered};
+use std::alloc::{AllocError, Global};
+use std::io::{self, Read, Write};
+use std::mem::ManuallyDrop;
+use xt_base::names::Slot;
+use xt_base::outcomes::RunFault;
+use xt_base::steps::Step;
+use xt_core::HostCore;
+
+/// The steps that are run: all, or those of one slot.
+fn pick(alloc: Global, steps: Vec<Step>, only: Option<Slot>) -> Result<Vec<Step>, ScriptFault>
+    ensures picked { IfOk result (λ chosen. chosen.items ≡ picked only steps.items) }
+    ensures fault { IfErr result (λ fault. is_of_script fault ≡ false) }
+{
+    let Some(slot) = only else {
+        return Ok(steps);
+    };
+    match HostCore::strike(alloc, &steps, slot) {
+        Ok(struck) => Ok(struck),
+        Err(_) => Err(ScriptFault::Memory(AllocError)),
+    }
+}
+
+/// Runs steps and prints what they said: the status is 0, or 3 where one breaks order. What was said is left to the end of the
+/// process, since to give back its parts one by one takes longer than to print some of them.
+#[tactic(auto, using(crate::proofs::PlayLemmas::printed_up_to, crate::proofs::PlayLemmas::printed_all, crate::proofs::PlayLemmas::cut_all, crate::proofs::PlayLemmas::cut_up_to, crate::proofs::PlayLemmas::cut_none))]
+fn play_steps<W: Write>(alloc: Global, writer: &mut W, steps: &[Step]) -> Result<u8, ScriptFault>
+    ensures printed { IfOk result (IsPrinted steps.now (W.contents writer.old) (W.contents writer.new)) }
+    ensures cut { OnErr result (IsCutShort steps.now (W.contents writer.old) (W.contents writer.new)) }
+    ensures fault { IfErr result (λ fault. is_of_script fault ≡ false) }
+{
+    match HostCore::run(alloc, steps) {
+        Ok(told) => {
+            print_turns(alloc, writer, told.turns()).map_err(ScriptFault::Io)?;
+            let _left = ManuallyDrop::new(told);
+            Ok(0)
+        }
+        Err(RunFault::Disorder { at, before }) => {
+            print_broken(alloc, writer, before.turns(), at).map_err(ScriptFault::Io)?;
+            Ok(3)
+        }
+        Err(RunFault::Memory) => Err(ScriptFault::Memory(AllocError)),
+    }
+}
+
+/// The same, with all that the writer holds back written too.
+fn play_to_the_end<W: Write>(
+    alloc: Global,
+    writer: &mut W,
+    steps: &[Step],
+) -> Result<u8, ScriptFault>
+    ensures printed { IfOk result (IsPrinted steps.now (W.contents writer.old) (W.contents writer.new)) }
+    ensures cut { OnErr result (IsCutShort steps.now (W.contents writer.old) (W.contents writer.new)) }
+    ensures fault { IfErr result (λ fault. is_of_script fault ≡ false) }
+{
+    let status = play_steps(alloc, writer, steps)?;
+    writer.flush().map_err(ScriptFault::Io)?;
+    Ok(status)
+}
+
+/// Reads, parses, runs and prints: the status is 0, or 3 where a step breaks order. The steps too are left to the end of the process.
+#[tactic(auto, using(crate::proofs::PlayLemmas::fault_unread, crate::proofs::PlayLemmas::fault_unparsed, crate::proofs::PlayLemmas::fault_unpicked))]
+fn play<R: Read, W: Write>(
+    alloc: Global,
+    reader: &mut R,
+    writer: &mut W,
+    only: Option<Slot>,
+) -> Result<u8, ScriptFault>
+    ensures played { IfOk result (λ status. IfSome (R.remaining reader.old) (λ script. IsPlayed only script (W.contents writer.old) (W.contents writer.new) status)) }
+    ensures fault { IfErr result (λ fault. IfSome (R.remaining reader.old) (λ script. IsFault only script (W.contents writer.old) (W.contents writer.new) fault)) }
+{
+    let script = read_script(alloc, reader)?;
+    let steps = pick(alloc, parse_script(alloc, &script)?, only)?;
+    drop(script);
+    let played = play_to_the_end(alloc, writer, &steps);
+    let _left = ManuallyDrop::new(steps);
+    played
+}
+
+/// Runs a script: parses all its lines, runs the steps (with `only`, those of one slot), and prints for each step
+/// the slot and the reply, followed by a line for each offer that the step made. It answers the exit status:
+/// 0; 1 after a fault, which is printed on `err`, with at most a beginning of what a run prints on `writer`; 2 after
+/// `bad line N` on `err`, with nothing on `writer`; 3 after the lines before the first step that breaks order and
+/// `disorder N`. What is printed on `err` may end early, where `err` fails.
+#[tactic(auto, using(crate::proofs::PlayLemmas::run_whole, crate::proofs::PlayLemmas::run_stopped))]
+pub fn run_script<R: Read, W: Write, E: Write>(
+    alloc: Global,
+    reader: &mut R,
+    writer: &mut W,
+    err: &mut E,
+    only: Option<Slot>,
+) -> u8
+    ensures { IfSome (R.remaining reader.old) (λ script. IsRun only script (W.contents writer.old) (W.contents writer.new) (E.contents err.old) (E.contents err.new) result) }
+{
+    match play(alloc, reader, writer, only) {
+        Ok(status) => status,
+        Err(fault) => {
+            let _ = report(err, &fault);
+            fault.status()
+        }
+    }
+}
+
+/// Tells of a fault: which line is no step's, that the script is too long, or the words of another.
+fn report<E: Write>(err: &mut E, fault: &ScriptFault) -> io::Result<()>
+    ensures { IsReported fault.now (E.contents err.old) (E.contents err.new) }
+{
+    match fault {
+        ScriptFault::BadLine(number) => write_numbered(err, b"bad line ", *number),
+        ScriptFault::TooLong => write_bytes(err, b"fault: script too long\n"),
+        ScriptFault::Io(_) | ScriptFault::Memory(_) => writeln!(err, "{fault}"),
+    }
+}

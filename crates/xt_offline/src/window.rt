@@ -1,0 +1,183 @@
+//! A log read piece by piece, of which only what is not yet taken as texts is held.
+
+ghost use Rattle.std.specs.Prelude.{◌+◌, ◌<◌, ◌≤◌, ◌≡◌, IfErr, IfOk, IfSome, OnOk, [], false, length};
+ghost use Rattle.xt_offline.specs.LogDump.{ahead, is_too_long, taken, with_more, AreShort, IsAhead, IsNext, IsRefilled, IsTied, IsWhy};
+
+use std::alloc::{AllocError, Global};
+use std::io::{self, ErrorKind, Read};
+use std::marker::Model;
+use thiserror::Error;
+use xt_ckpt::{Checkpoint, ReadFault, read_checkpoint};
+
+/// The most bytes of a log.
+pub const LOG_BYTES: usize = 67_108_864;
+
+/// How many bytes are read at once.
+pub const PIECE_BYTES: usize = 65_536;
+
+/// Why a log was not read to its end.
+#[derive(Debug, Drop, Error)]
+pub enum LogFault {
+    /// A log of more than 67,108,864 bytes.
+    #[error("fault: log too long")]
+    TooLong,
+    /// The reader or the writer failed.
+    #[error("fault: {0}")]
+    Io(#[from] io::Error),
+    /// Memory was refused.
+    #[error("fault: {0}")]
+    Memory(#[from(alloc)] AllocError),
+}
+
+/// What comes next in a log.
+#[derive(Debug, Drop)]
+pub enum Found {
+    /// A whole text.
+    Text(Checkpoint),
+    /// So many bytes up to the end, which are no text yet.
+    Rest(usize),
+    /// A field that breaks its rule, by its offset in the log.
+    Fault(usize),
+}
+
+/// What is held of a log that is read. Clauses see the bytes that are not taken yet, their offset in the log, and whether the
+/// log ends with them.
+#[derive(Debug, Drop)]
+pub struct Window {
+    alloc: Global,
+    bytes: Vec<u8>,
+    /// How many of the bytes are taken.
+    taken: usize,
+    /// Where the bytes begin in the log.
+    start: usize,
+    is_ended: bool,
+}
+
+impl Model for Window {
+    ghost use Rattle.std.specs.Prelude.{drop, length, ◌+◌, ◌≤◌};
+    ghost use Rattle.xt_offline.specs.LogDump.{Held};
+
+    ghost Value = { Held };
+
+    ghost view = { λ w. record { bytes = drop w.taken w.bytes.items; offset = w.start + w.taken; is_ended = w.is_ended } };
+
+    ghost invariant = { λ w. (w.taken ≤ length w.bytes.items) × (w.start + length w.bytes.items ≤ 67108864) };
+}
+
+impl Window {
+    /// The beginning of a log, of which nothing is read.
+    pub fn new(alloc: Global) -> Self
+        ensures { result ≡ record { bytes = []; offset = 0; is_ended = false } }
+    {
+        Window {
+            alloc,
+            bytes: Vec::new(alloc),
+            taken: 0,
+            start: 0,
+            is_ended: false,
+        }
+    }
+
+    /// The bytes that are not taken.
+    fn held(&self) -> &[u8]
+        ensures { result.now ≡ self.now.bytes }
+    {
+        &self.bytes[self.taken..]
+    }
+
+    /// Their offset in the log.
+    fn offset(&self) -> usize
+        ensures value { result ≡ self.now.offset }
+        ensures bound { result + length self.now.bytes ≤ LOG_BYTES }
+    {
+        self.start + self.taken
+    }
+
+    /// Whether the log ends with them.
+    fn is_ended(&self) -> bool
+        ensures { result ≡ self.now.is_ended }
+    {
+        self.is_ended
+    }
+
+    /// The first bytes are taken.
+    fn take(&mut self, len: usize)
+        requires { len ≤ length self.old.bytes }
+        ensures { self.new ≡ taken len self.old }
+    {
+        self.taken += len;
+    }
+
+    /// Takes the text that begins what is held, or says how the log ends; where more bytes are wanted they are read, by way of `piece`.
+    /// A reader that is interrupted is asked again.
+    #[tactic(auto, using(crate::proofs::WindowLemmas::is_ahead, crate::proofs::WindowLemmas::is_tied, crate::proofs::WindowLemmas::refilled_more, crate::proofs::WindowLemmas::refilled_none, crate::proofs::WindowLemmas::why_ahead, crate::proofs::WindowLemmas::why_other))]
+    pub fn next<R: Read>(&mut self, reader: &mut R, piece: &mut [u8]) -> Result<Found, LogFault>
+        requires room { 0 < length piece.old }
+        requires ended { IsTied self.old (R.remaining reader.old) }
+        ensures short { IfOk result AreShort }
+        ensures found { IfOk result (λ found. IfSome (ahead self.old (R.remaining reader.old)) (λ log. IsAhead self.old.offset log found self.new (R.remaining reader.new))) }
+        ensures tied { OnOk result (IsTied self.new (R.remaining reader.new)) }
+        ensures fault { IfErr result (λ fault. IfSome (ahead self.old (R.remaining reader.old)) (λ log. IsWhy (self.old.offset + length log) fault)) }
+    {
+        for _ in 0..u64::MAX {
+            if let Some(found) = self.judge()? {
+                return Ok(found);
+            }
+            self.refill(reader, piece)?;
+        }
+        Err(LogFault::Io(io::Error::from(ErrorKind::TimedOut)))
+    }
+
+    /// Judges what is held; None where more is to be read.
+    fn judge(&mut self) -> Result<Option<Found>, LogFault>
+        ensures judged { IfOk result (λ found. IsNext self.old found self.new) }
+        ensures bound { self.old.offset + length self.old.bytes ≤ LOG_BYTES }
+        ensures fault { IfErr result (λ fault. is_too_long fault ≡ false) }
+    {
+        match read_checkpoint(self.alloc, self.held()) {
+            Ok(Some((checkpoint, len))) => {
+                self.take(len);
+                Ok(Some(Found::Text(checkpoint)))
+            }
+            Ok(None) if self.is_ended() => Ok(Some(Found::Rest(self.held().len()))),
+            Ok(None) => Ok(None),
+            Err(ReadFault::Ckpt(fault)) => Ok(Some(Found::Fault(self.offset() + fault.at))),
+            Err(ReadFault::Memory) => Err(LogFault::Memory(AllocError)),
+        }
+    }
+
+    /// Reads some more bytes behind what is held.
+    fn refill<R: Read>(&mut self, reader: &mut R, piece: &mut [u8]) -> Result<(), LogFault>
+        requires room { 0 < length piece.old }
+        requires going { self.old.is_ended ≡ false }
+        ensures more { OnOk result (IsRefilled self.old self.new (R.remaining reader.old) (R.remaining reader.new)) }
+        ensures fault { IfErr result (λ fault. IfSome (ahead self.old (R.remaining reader.old)) (λ log. IsWhy (self.old.offset + length log) fault)) }
+    {
+        match reader.read(piece) {
+            Ok(0) => {
+                self.is_ended = true;
+                Ok(())
+            }
+            Ok(count) => self.keep(&piece[..count]),
+            Err(error) if error.kind() == ErrorKind::Interrupted => Ok(()),
+            Err(error) => Err(LogFault::Io(error)),
+        }
+    }
+
+    /// Puts bytes behind what is held; what was taken goes. `TooLong` where the log has more than 67,108,864 bytes.
+    fn keep(&mut self, more: &[u8]) -> Result<(), LogFault>
+        ensures kept { OnOk result (self.new ≡ with_more more.now self.old) }
+        ensures fault { IfErr result (IsWhy (self.old.offset + length self.old.bytes + length more.now)) }
+    {
+        let start = self.offset();
+        let mut bytes = Vec::from_slice(self.alloc, self.held()).map_err(LogFault::Memory)?;
+        if more.len() > LOG_BYTES - start - bytes.len() {
+            return Err(LogFault::TooLong);
+        }
+        bytes.extend_from_slice(more).map_err(LogFault::Memory)?;
+        self.bytes = bytes;
+        self.start = start;
+        self.taken = 0;
+        Ok(())
+    }
+}
