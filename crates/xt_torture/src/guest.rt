@@ -24,7 +24,7 @@ use xt_queue::jobs::WorkPass;
 pub const LOG_BYTES: u32 = 65_536;
 
 /// The two devices of a mount.
-type Devices = (Box<dyn HomeDevice + Send>, Box<dyn LogDevice + Send>);
+pub type Devices = (Box<dyn HomeDevice + Send>, Box<dyn LogDevice + Send>);
 
 /// What a thread does next.
 #[derive(Clone, Copy)]

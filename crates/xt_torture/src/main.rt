@@ -9,8 +9,8 @@
 //! the books of all slots again.
 //!
 //! `xt_torture refusals` takes a script and its output, with an empty line between them, from standard input, and tries it through the host
-//! core. Who starts it refuses memory: the status is 3 where a step was refused memory and all else was as it must be, 2 where something
-//! was not, and 1 where the trial itself was refused memory.
+//! core; `xt_torture served` through a running host of one worker. Who starts them refuses memory: the status is 3 where a step was refused
+//! memory and all else was as it must be, 2 where something was not, and 1 where the trial itself was refused memory.
 #![tactic(auto)]
 
 mod bytes;
@@ -24,6 +24,7 @@ mod refusals;
 mod replay;
 mod round;
 mod row;
+mod served;
 mod simulation;
 mod working;
 
@@ -31,6 +32,7 @@ use crate::bytes::try_bytes;
 use crate::crew::{Ended, Plan, try_host};
 use crate::refusals::{Seen, try_row};
 use crate::row::RowFault;
+use crate::served::try_served;
 use crate::simulation::simulate;
 use anyhow::{Context, Result, bail};
 use std::alloc::Global;
@@ -42,7 +44,7 @@ use std::thread::Threads;
 use xt_cell::reserve::Blanks;
 
 /// The trials.
-const TRIALS: &str = "simulation, bytes, threads or refusals";
+const TRIALS: &str = "simulation, bytes, threads, refusals or served";
 
 /// How much each thread of a host does at most, so that no book is folded.
 const MOST_TURNS: u64 = 100_000;
@@ -169,6 +171,11 @@ fn main(rt: HostRuntime) -> Result<ExitCode> {
             let mut text = Vec::new(alloc);
             rt.reader().read_to_end(&mut text)?;
             print_seen(&rt, try_row(alloc, &text))
+        }
+        "served" => {
+            let mut text = Vec::new(alloc);
+            rt.reader().read_to_end(&mut text)?;
+            print_seen(&rt, try_served(&rt, alloc, Blanks::new(), &text))
         }
         _ => bail!(TRIALS),
     }

@@ -23,7 +23,7 @@ pub struct Seen {
 
 impl Seen {
     /// One more step.
-    fn count(&mut self) {
+    pub fn count(&mut self) {
         self.steps = self.steps.saturating_add(1);
     }
 
