@@ -6,6 +6,7 @@
 mod asked;
 mod buffers;
 mod drive;
+mod failing;
 mod frozen;
 mod home;
 mod idle;

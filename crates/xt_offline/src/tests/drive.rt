@@ -34,7 +34,7 @@ pub enum Told {
 }
 
 /// What a line of slot 0 tells.
-fn told_by(line: &str) -> Told {
+pub fn told_by(line: &str) -> Told {
     if line.starts_with("0 log") {
         Told::Log
     } else if line.starts_with("0 home") {
@@ -293,6 +293,17 @@ pub fn drive(
     log: &mut dyn LogDevice,
     home: &mut dyn HomeDevice,
 ) -> Result<Vec<u8>, Fail> {
+    let (_, replies) = driven(alloc, script, log, home)?;
+    Ok(replies)
+}
+
+/// The same, with the mount as it is then in front.
+pub fn driven(
+    alloc: Global,
+    script: &str,
+    log: &mut dyn LogDevice,
+    home: &mut dyn HomeDevice,
+) -> Result<(Mount, Vec<u8>), Fail> {
     let steps = parse_script(alloc, script.as_bytes()).map_err(|_| "lines of steps")?;
     let mut mount = mounted(alloc, steps.first())?;
     let mut text = Text::new(alloc)?;
@@ -308,5 +319,5 @@ pub fn drive(
         print_slot_reply(slot, &reply, &mut text);
         put_line(&mut replies, &text)?;
     }
-    Ok(replies)
+    Ok((mount, replies))
 }
