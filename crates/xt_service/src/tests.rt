@@ -3,6 +3,7 @@
 //! A test function is proved too, at a cost that grows with the square of its length. So rows stand
 //! in constants, helpers compare, and a test has few assertions.
 
+mod endless;
 mod host;
 mod tcp;
 
