@@ -1,4 +1,3 @@
-//! Sessions over one host, and what is told of a long input.
+//! What is told of a long input.
 
-mod core_calls;
 mod progress;

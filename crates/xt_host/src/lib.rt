@@ -17,8 +17,6 @@ pub mod outcomes;
 pub mod receipts;
 mod slot_lock;
 pub mod slots;
-#[cfg(test)]
-mod tests;
 pub mod tokens;
 mod told;
 mod trans;

@@ -1,37 +1,20 @@
-//! Worked scripts: what they print, and how they end.
+//! What scripts print and how they end, with readers and writers that fail, and one mount driven over devices. The worked
+//! scripts are the files of `rows`, on which the built program is run.
 //!
-//! A test function is proved too, at a cost that grows with the square of its length. So scripts
-//! stand in tables, helpers compare, and a test has few assertions.
+//! A test function is proved too, at a cost that grows with the square of its length. So helpers
+//! compare, and a test has few assertions.
 
-mod asked;
-mod buffers;
 mod drive;
 mod failing;
-mod frozen;
-mod home;
-mod idle;
 mod logdump;
-mod longest;
 mod maxima;
-mod names;
-mod orders;
-mod places;
-mod rolls;
 mod rows;
-mod scripts;
-mod shut;
-mod slots;
 
 use crate::lines::parse_script;
 use crate::script::run_script;
 use drive::{Told, drive, home_lines, lines_of, log_lines, told_home_lines, told_log_lines};
-use home::{FAILED_WRITE_IN, FAILED_WRITE_OUT, FLOWN_AGAIN_IN, FLOWN_AGAIN_OUT};
-use idle::{IDLE_IN, IDLE_OUT};
-use names::*;
-use rows::{ROW01_IN, ROW01_OUT, ROW21B_IN};
-use scripts::*;
-use shut::{INVALIDATED_IN, INVALIDATED_OUT};
-use std::alloc::{AllocError, Global};
+use rows::*;
+use std::alloc::Global;
 use std::io::{self, Read, Write};
 use std::process::Abort;
 use std::test::Fail;
@@ -85,128 +68,27 @@ fn says(rt: &impl Abort, alloc: Global, input: &str, want: &str, status: u8) {
     assert!(rt; is_said(alloc, input, None, want, status));
 }
 
-/// Asserts what each script prints, and its status.
-fn all_say(rt: &impl Abort, alloc: Global, scripts: &[Script]) {
-    for (i, (name, input, want, status)) in scripts.iter().enumerate() {
-        assert!(rt;
-            is_said(alloc, input, None, want, *status),
-            "{name}, row {i}"
-        );
+/// Steps of two slots, among each other.
+const TWO_SLOTS: &str = "\
+    mount 0 65536 1024\n\
+    mount 1 65536 1024\n\
+    0.1 alloc 5000 1 plain\n\
+    1.1 alloc 5000 1 plain\n\
+    0.1 get t1 7\n";
+
+/// Slots, and what their steps of these print.
+const ALONE: &[(u8, &str)] = &[
+    (0, "0 life 1\n0 t1\n0 ok\n"),
+    (1, "1 life 1\n1 t1\n"),
+    (15, ""),
+];
+
+#[test]
+fn the_steps_of_one_slot_are_run(rt: HostRuntime) {
+    for (index, want) in ALONE {
+        let only = Slot::new(*index);
+        assert!(rt; is_said(rt.alloc(), TWO_SLOTS, only, want, 0));
     }
-}
-
-#[test]
-fn buffers_are_locked_logged_and_given_back(rt: HostRuntime) {
-    all_say(&rt, rt.alloc(), BUFFERS);
-}
-
-#[test]
-fn a_clean_cancel_gives_back_and_a_dirty_one_shuts(rt: HostRuntime) {
-    all_say(&rt, rt.alloc(), CANCELS);
-}
-
-#[test]
-fn the_board_shows_why_a_mount_was_shut(rt: HostRuntime) {
-    all_say(&rt, rt.alloc(), SHOWN);
-}
-
-#[test]
-fn blocks_are_given_up_and_lives_are_counted(rt: HostRuntime) {
-    all_say(&rt, rt.alloc(), GIVEN_UP);
-}
-
-#[test]
-fn a_frozen_mount_opens_no_transaction_and_ends_the_open_ones(rt: HostRuntime) {
-    all_say(&rt, rt.alloc(), FROZEN);
-}
-
-#[test]
-fn log_space_is_asked_and_given_back(rt: HostRuntime) {
-    all_say(&rt, rt.alloc(), LOG_SPACE);
-}
-
-#[test]
-fn blocks_are_written_home(rt: HostRuntime) {
-    all_say(&rt, rt.alloc(), HOME);
-}
-
-#[test]
-fn a_failed_flush_or_checkpoint_leaves_its_blocks(rt: HostRuntime) {
-    all_say(&rt, rt.alloc(), FAILED);
-}
-
-#[test]
-fn what_is_not_asked_is_not_owed_and_the_first_refusal_is_answered(rt: HostRuntime) {
-    all_say(&rt, rt.alloc(), OWED);
-}
-
-#[test]
-fn a_full_mount_asks_for_no_block_and_a_shut_one_flushes_none(rt: HostRuntime) {
-    all_say(&rt, rt.alloc(), FULL);
-}
-
-#[test]
-fn the_longest_checkpoint_lands_and_goes_home(rt: HostRuntime) {
-    all_say(&rt, rt.alloc(), LONGEST);
-}
-
-#[test]
-fn short_scripts_and_broken_orders_are_told(rt: HostRuntime) {
-    all_say(&rt, rt.alloc(), SHORT);
-}
-
-/// Whether the steps of one slot print just this by themselves.
-fn is_said_alone(alloc: Global, input: &str, index: u8, want: &str) -> bool {
-    let Some(slot) = Slot::new(index) else {
-        return false;
-    };
-    is_said(alloc, input, Some(slot), want, 0)
-}
-
-/// Asserts what each script prints, and what the steps of each of its slots print by themselves.
-fn all_say_alone(rt: &impl Abort, alloc: Global, scripts: &[Struck]) {
-    for ((name, input, want, status), first, second) in scripts {
-        let is_so = is_said(alloc, input, None, want, *status)
-            && is_said_alone(alloc, input, first.0, first.1)
-            && is_said_alone(alloc, input, second.0, second.1);
-        assert!(rt; is_so, "{name}");
-    }
-}
-
-#[test]
-fn slots_say_by_themselves_what_they_say_together(rt: HostRuntime) {
-    all_say_alone(&rt, rt.alloc(), TWO);
-}
-
-#[test]
-fn a_slot_is_told_nothing_of_another(rt: HostRuntime) {
-    all_say_alone(&rt, rt.alloc(), BESIDE);
-}
-
-#[test]
-fn thirty_two_names(rt: HostRuntime) {
-    let alloc = rt.alloc();
-    says(&rt, alloc, NAMES_IN, NAMES_OUT, 0);
-    assert!(rt; is_said_alone(alloc, NAMES_IN, 0, NAMES_0));
-    assert!(rt; is_said_alone(alloc, NAMES_IN, 15, NAMES_15));
-}
-
-/// Two texts as one.
-fn joined(alloc: Global, first: &str, second: &str) -> Result<String, AllocError> {
-    let mut text = String::new(alloc);
-    text.push_str(first)?;
-    text.push_str(second)?;
-    Ok(text)
-}
-
-#[test]
-fn the_idle_list_is_cut_at_64(rt: HostRuntime) -> Result<(), AllocError> {
-    for (input, want, status) in IDLE {
-        let input = joined(rt.alloc(), IDLE_IN, input)?;
-        let want = joined(rt.alloc(), IDLE_OUT, want)?;
-        says(&rt, rt.alloc(), input.as_str(), want.as_str(), *status);
-    }
-    Ok(())
 }
 
 #[test]

@@ -18,5 +18,3 @@ pub mod service;
 pub mod session;
 pub mod session_end;
 pub mod table;
-#[cfg(test)]
-mod tests;

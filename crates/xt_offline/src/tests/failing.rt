@@ -2,7 +2,7 @@
 //! checkpoint is in flight, up to the call that fails.
 
 use crate::tests::drive::{Told, driven, home_lines, log_lines, told_by};
-use crate::tests::home::{FLOWN_AGAIN_IN, FLOWN_AGAIN_OUT};
+use crate::tests::rows::{FLOWN_AGAIN_IN, FLOWN_AGAIN_OUT};
 use std::alloc::{AllocError, Global};
 use std::test::Fail;
 use xt_base::names::Slot;

@@ -1,4 +1,4 @@
-//! Worked scripts and what they print.
+//! Worked scripts that are driven here too; all of them stand in the folder `rows`.
 
 /// A force waits for the checkpoint of one commit, which lands with both of its offers.
 pub const ROW01_IN: &str = "\
@@ -31,65 +31,42 @@ pub const ROW01_OUT: &str = "\
     0 logsync ok\n\
     0 done\n";
 
-/// The second offer of a checkpoint fails, and so does the force after it.
-pub const ROW13_R1_IN: &str = "\
-    mount 0 65536 1024\n\
-    0.1 alloc 5000 1 plain\n\
-    0.1 get t1 7\n\
-    0.1 log t1 7 0 aa*4096\n\
-    0.1 commit t1\n\
-    0.1 force\n\
-    post 0.1.ckpt.1\n\
-    take 0 0.1.ckpt.1\n\
-    begin 0 0.1.ckpt.1\n\
-    end 0 0.1.ckpt.1 1 none\n\
-    0.1 force\n";
-
-/// The second offer of a checkpoint fails, and so does the force after it: what is printed.
-pub const ROW13_R1_OUT: &str = "\
-    0 life 1\n\
-    0 t1\n\
-    0 ok\n\
-    0 ok\n\
-    0 c1\n\
-    0 wait c1\n\
-    0 ok\n\
-    0 ok\n\
-    0 begun c1 2\n\
-    0 failed c1\n\
-    0 log 58435031.00*7.0100000001.00*7.07.ff*4.00*4.aa*4064 ok\n\
-    0 log aa*32.5843453100000001.00*7.01 fail\n\
-    0 EIO\n";
-
 /// Data that has a shorter spelling.
 pub const ROW21B_IN: &str = "\
     0.1 log t1 7 0 aaaaaaaa\n";
 
-/// A chunk that is logged again after its first checkpoint landed.
-pub const RELOGGED_IN: &str = "\
+/// A block is logged again while its checkpoint is in flight, and is written home once both have landed.
+pub const FLOWN_AGAIN_IN: &str = "\
     mount 0 65536 1024\n\
-    0.1 alloc 5000 1 plain\n\
-    0.1 get t1 7\n\
-    0.1 log t1 7 0 aa*4096\n\
+    0.1 alloc 176 1 plain\n\
+    0.1 read t1 7 = 00*4096\n\
+    0.1 log t1 7 0 11\n\
     0.1 commit t1\n\
     0.1 force\n\
     post 0.1.ckpt.1\n\
     take 0 0.1.ckpt.1\n\
     begin 0 0.1.ckpt.1\n\
-    end 0 0.1.ckpt.1 2 ok\n\
-    0.1 force\n\
     0.1 alloc 176 1 plain\n\
     0.1 get t2 7\n\
-    0.1 log t2 7 0 bb\n\
+    0.1 log t2 7 128 22\n\
     0.1 commit t2\n\
+    end 0 0.1.ckpt.1 1 ok\n\
+    0.1 push\n\
+    post 0.1.flush.2\n\
+    take 0 0.1.flush.2\n\
+    flush 0 0.1.flush.2\n\
     0.1 force\n\
-    post 0.1.ckpt.2\n\
-    take 0 0.1.ckpt.2\n\
-    begin 0 0.1.ckpt.2\n\
-    end 0 0.1.ckpt.2 1 ok\n";
+    post 0.1.ckpt.3\n\
+    take 0 0.1.ckpt.3\n\
+    begin 0 0.1.ckpt.3\n\
+    end 0 0.1.ckpt.3 1 ok\n\
+    0.1 push\n\
+    post 0.1.flush.4\n\
+    take 0 0.1.flush.4\n\
+    flush 0 0.1.flush.4 ok ok\n";
 
-/// A chunk that is logged again after its first checkpoint landed: what is printed.
-pub const RELOGGED_OUT: &str = "\
+/// What it prints.
+pub const FLOWN_AGAIN_OUT: &str = "\
     0 life 1\n\
     0 t1\n\
     0 ok\n\
@@ -98,64 +75,126 @@ pub const RELOGGED_OUT: &str = "\
     0 wait c1\n\
     0 ok\n\
     0 ok\n\
-    0 begun c1 2\n\
-    0 landed c1\n\
-    0 log 58435031.00*7.0100000001.00*7.07.ff*4.00*4.aa*4064 ok\n\
-    0 log aa*32.5843453100000001.00*7.01 ok\n\
-    0 logsync ok\n\
-    0 done\n\
+    0 begun c1 1\n\
     0 t2\n\
     0 ok\n\
     0 ok\n\
     0 c2\n\
+    0 landed c1\n\
+    0 log 58435031.00*7.0100000001.00*7.0700000001.00*4.11.00*127.5843453100000001.00*7.01 ok\n\
+    0 logsync ok\n\
+    0 ok\n\
+    0 ok\n\
+    0 ok\n\
+    0 nothing\n\
     0 wait c2\n\
     0 ok\n\
     0 ok\n\
     0 begun c2 1\n\
     0 landed c2\n\
-    0 log 58435031.00*7.0200000001.00*7.0700000001.00*4.bb.aa*127.5843453100000001.00*7.02 ok\n\
-    0 logsync ok\n";
+    0 log 58435031.00*7.0200000001.00*7.0700000002.00*4.22.00*127.5843453100000001.00*7.02 ok\n\
+    0 logsync ok\n\
+    0 ok\n\
+    0 ok\n\
+    0 ok\n\
+    0 flushed 1\n\
+    0 home 7 11.00*127.22.00*3967 ok\n\
+    0 homesync ok\n";
 
-/// A checkpoint of an eighth of the log, posted before any force.
-pub const EIGHTH_IN: &str = "\
-    mount 0 66055 9\n\
-    0.1 alloc 8256 1 plain\n\
-    0.1 get t1 1\n\
-    0.1 log t1 1 0 11*4096\n\
-    0.1 get t1 2\n\
-    0.1 log t1 2 0 22*4096\n\
+/// A failed write home, and then a good one.
+pub const FAILED_WRITE_IN: &str = "\
+    mount 0 65536 1024\n\
+    0.1 alloc 176 1 plain\n\
+    0.1 read t1 7 = 00*4096\n\
+    0.1 log t1 7 130 0102\n\
     0.1 commit t1\n\
-    post 0.1.ckpt.1\n";
+    0.1 force\n\
+    post 0.1.ckpt.1\n\
+    take 0 0.1.ckpt.1\n\
+    begin 0 0.1.ckpt.1\n\
+    end 0 0.1.ckpt.1 1 ok\n\
+    0.1 push\n\
+    post 0.1.flush.2\n\
+    take 0 0.1.flush.2\n\
+    flush 0 0.1.flush.2 fail ok\n\
+    0.1 unmount\n\
+    0.1 push\n\
+    post 0.1.flush.3\n\
+    take 0 0.1.flush.3\n\
+    flush 0 0.1.flush.3 ok ok\n\
+    0.1 unmount\n";
 
-/// A checkpoint of an eighth of the log, posted before any force: what is printed.
-pub const EIGHTH_OUT: &str = "\
+/// What it prints.
+pub const FAILED_WRITE_OUT: &str = "\
     0 life 1\n\
     0 t1\n\
     0 ok\n\
     0 ok\n\
-    0 ok\n\
-    0 ok\n\
     0 c1\n\
+    0 wait c1\n\
+    0 ok\n\
+    0 ok\n\
+    0 begun c1 1\n\
+    0 landed c1\n\
+    0 log 58435031.00*7.0100000001.00*7.0700000002.00*6.0102.00*124.5843453100000001.00*7.01 ok\n\
+    0 logsync ok\n\
+    0 ok\n\
+    0 ok\n\
+    0 ok\n\
+    0 flushed 0\n\
+    0 home 7 00*130.0102.00*3964 fail\n\
+    0 homesync ok\n\
+    0 EBUSY\n\
+    0 ok\n\
+    0 ok\n\
+    0 ok\n\
+    0 flushed 1\n\
+    0 home 7 00*130.0102.00*3964 ok\n\
+    0 homesync ok\n\
     0 ok\n";
 
-/// The same commit, on a log of one byte more.
-pub const EIGHTH_LESS_IN: &str = "\
-    mount 0 66056 9\n\
-    0.1 alloc 8256 1 plain\n\
-    0.1 get t1 1\n\
-    0.1 log t1 1 0 11*4096\n\
-    0.1 get t1 2\n\
-    0.1 log t1 2 0 22*4096\n\
+/// A block that a transaction gave up for good stays locked until its checkpoint has landed, and is never written home.
+pub const INVALIDATED_IN: &str = "\
+    mount 0 65536 1024\n\
+    0.1 alloc 48 1 plain\n\
+    0.1 read t1 7 = 55*4096\n\
+    0.1 inval t1 7\n\
     0.1 commit t1\n\
-    post 0.1.ckpt.1\n";
+    0.1 alloc 176 1 plain\n\
+    0.1 get t2 7\n\
+    0.1 force\n\
+    post 0.1.ckpt.1\n\
+    take 0 0.1.ckpt.1\n\
+    begin 0 0.1.ckpt.1\n\
+    0.1 get t2 7\n\
+    end 0 0.1.ckpt.1 1 ok\n\
+    0.1 get t2 7\n\
+    0.1 view t2 7\n\
+    0.1 push\n\
+    post 0.1.flush.2\n\
+    take 0 0.1.flush.2\n\
+    flush 0 0.1.flush.2\n";
 
-/// The same commit, on a log of one byte more: what is printed.
-pub const EIGHTH_LESS_OUT: &str = "\
+/// What it prints.
+pub const INVALIDATED_OUT: &str = "\
     0 life 1\n\
     0 t1\n\
     0 ok\n\
     0 ok\n\
-    0 ok\n\
-    0 ok\n\
     0 c1\n\
-    disorder 8\n";
+    0 t2\n\
+    0 EAGAIN\n\
+    0 wait c1\n\
+    0 ok\n\
+    0 ok\n\
+    0 begun c1 1\n\
+    0 EAGAIN\n\
+    0 landed c1\n\
+    0 log 58435031.00*7.0100000001.00*7.07.00*7.015843453100000001.00*7.01 ok\n\
+    0 logsync ok\n\
+    0 ok\n\
+    0 data 00*4096\n\
+    0 ok\n\
+    0 ok\n\
+    0 ok\n\
+    0 nothing\n";

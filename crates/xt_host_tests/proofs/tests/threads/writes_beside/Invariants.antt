@@ -1,0 +1,10 @@
+use Rattle.std.specs.Prelude.{◌-◌, ◌^◌}
+use Rattle.xt_cell.specs.Ledgers.{name_in}
+use Rattle.xt_host_tests.proofs.tests.threads.writes_beside.Given as goal
+
+-- the house of sixteen new ledgers
+abbrev pub ghosts-write_beside : goal.ghosts-write_beside
+ghosts-write_beside g a = record {
+  names = name_in a.blanks;
+  all = 2 ^ 64 - 1;
+}

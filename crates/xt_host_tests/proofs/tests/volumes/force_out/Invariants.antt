@@ -1,0 +1,10 @@
+use Rattle.std.proofs.Common.{◌≡◌}
+use Rattle.std.specs.Arc.{arc_value}
+use Rattle.xt_host_tests.proofs.tests.volumes.force_out.Given as goal
+
+-- the tenant is of the host's queue and board
+abbrev pub invariant-loop : goal.invariant-loop
+invariant-loop g l = record {
+  queue : l.tenant.pass.queue ≡ arc_value l.host.queue;
+  board : l.tenant.seat.board.board ≡ l.host.board;
+}

@@ -1,0 +1,10 @@
+use Rattle.std.specs.Prelude.{◌-◌, ◌^◌}
+use Rattle.xt_cell.specs.Ledgers.{name_in}
+use Rattle.xt_service_tests.proofs.tests.host.crosses.Given as goal
+
+-- the house of sixteen new ledgers
+abbrev pub ghosts-cross : goal.ghosts-cross
+ghosts-cross g a = record {
+  names = name_in a.blanks;
+  all = 2 ^ 64 - 1;
+}
