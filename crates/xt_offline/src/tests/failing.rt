@@ -99,16 +99,21 @@ fn faulty_offers(
     Ok(lines)
 }
 
-/// Whether a mount is shut for this reason, or live, and has just these blocks on its active list.
-fn is_left(mount: &Mount, shut: Option<Reason>, active: &[u64]) -> Result<bool, Fail> {
-    let state = mount.snapshot()?;
-    let list = &state.items.ail;
-    let is_list = list.len() == active.len()
+/// Whether a list, of blocks with the number of a checkpoint each, has just these blocks.
+fn are_blocks(list: &[(u64, u64)], blocks: &[u64]) -> bool {
+    list.len() == blocks.len()
         && list
             .iter()
-            .zip(active)
-            .all(|(item, block)| item.0 == *block);
-    Ok(is_list && mount.shut() == shut)
+            .zip(blocks)
+            .all(|(item, block)| item.0 == *block)
+}
+
+/// Whether a mount is shut for this reason, or live, and has just these blocks on its active list.
+fn is_left(mount: &Mount, shut: Option<Reason>, active: &[u64]) -> Result<bool, Fail> {
+    let snapshot = mount.snapshot()?;
+    let state = &snapshot;
+    let items = &state.items;
+    Ok(mount.shut() == shut && are_blocks(&items.ail, active))
 }
 
 /// Whether a log that fails the call at a place gives a case's replies and the offers up to it, no other, and leaves a mount that is shut.
