@@ -1,14 +1,10 @@
 //! The program `xth`: transactions of mounted volumes, step by step.
 #![tactic(auto)]
 
-mod progress;
 mod serve;
-#[cfg(test)]
-mod tests;
 
 use clap::error::ErrorKind;
 use clap::{Arg, ArgMatches, Command};
-use progress::Watched;
 use serve::fault::ServeFault;
 use serve::files::{Opened, look, open};
 use serve::options::{Options, serve_command};
@@ -20,6 +16,7 @@ use std::net::TcpListener;
 use std::process::ExitCode;
 use xt_base::names::Slot;
 use xt_cell::reserve::Blanks;
+use xt_offline::progress::Watched;
 use xt_offline::{LOG_BYTES, LogFault, ScriptFault, dump, run_script, tell};
 
 /// How many bytes of output are written at once.

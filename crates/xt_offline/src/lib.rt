@@ -5,6 +5,7 @@ pub mod fault;
 mod lines;
 pub mod logdump;
 mod printing;
+pub mod progress;
 pub mod script;
 #[cfg(test)]
 mod tests;

@@ -8,6 +8,7 @@ mod drive;
 mod failing;
 mod logdump;
 mod maxima;
+mod progress;
 mod rows;
 
 use crate::lines::parse_script;

@@ -14,7 +14,8 @@ const MEGABYTE: u64 = 1_048_576;
 /// gives what the reader under it gives.
 #[derive(Drop)]
 pub struct Watched<R: Read + Drop, T: Write + Drop> {
-    reader: R,
+    /// The reader under it.
+    pub reader: R,
     terminal: Option<T>,
     /// How many bytes were read, and how many the last line told of.
     read: u64,

@@ -1,3 +1,0 @@
-//! What is told of a long input.
-
-mod progress;
