@@ -71,14 +71,15 @@ impl<H: House, const S: u8> Model for SlotBook<H, S> {
 
 impl<H: House, const S: u8> SlotBook<H, S> {
     /// The book of a slot that was never mounted, in which nothing is written yet.
-    pub fn new(alloc: Global, slot: Slot, count: Book<Of<H, S>>) -> Self
-        requires slot { slot ≡ S }
+    pub fn new(alloc: Global, share: FrameShare, count: Book<Of<H, S>>) -> Self
+        requires share { share ≡ no_contents S }
         requires none { count.total ≡ 0 }
         ensures { IsSameBook (unwritten S) result }
     {
+        let slot = share.slot();
         SlotBook {
             alloc,
-            mount: MountSlot::new(alloc, slot),
+            mount: MountSlot::new(alloc, share),
             base: SlotState::empty(slot),
             folded: 0,
             events: 0,
