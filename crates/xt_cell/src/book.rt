@@ -16,6 +16,7 @@ ghost use Rattle.xt_cell.specs.Counting.{counted};
 ghost use Rattle.xt_cell.specs.Events.{IsBooked};
 ghost use Rattle.xt_cell.specs.HostSeats.{Notes};
 ghost use Rattle.xt_cell.specs.Twins.{AreReady};
+ghost use Rattle.xt_frames.specs.Shares.{no_contents};
 ghost use Rattle.xt_mount.specs.Slots.{IsServed, IsServedUnlessMemory, lone_with, pieces_in, plan_in};
 
 use crate::account::Account;
@@ -29,8 +30,9 @@ use bytes::Bytes;
 use std::alloc::{AllocError, Global};
 use std::marker::Model;
 use std::sync::ledger::Book;
-use xt_base::names::{Caller, JobName, Slot, Worker};
+use xt_base::names::{Caller, JobName, Worker};
 use xt_base::steps::{Errno, HomeAnswers, LogAnswers, Reply, Step};
+use xt_frames::share::FrameShare;
 use xt_mount::slot::MountSlot;
 use xt_mount::state::SlotState;
 

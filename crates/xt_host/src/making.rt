@@ -136,10 +136,38 @@ fn all_cells<H: House>(
         b15,
     } = books;
     let (mut posts, mut shares) = (posts, shares);
-    let high = next_four(alloc, book_limit, (b15, b14, b13, b12), queue, &mut posts, &mut shares)?;
-    let upper = next_four(alloc, book_limit, (b11, b10, b9, b8), queue, &mut posts, &mut shares)?;
-    let lower = next_four(alloc, book_limit, (b7, b6, b5, b4), queue, &mut posts, &mut shares)?;
-    let low = next_four(alloc, book_limit, (b3, b2, b1, b0), queue, &mut posts, &mut shares)?;
+    let high = next_four(
+        alloc,
+        book_limit,
+        (b15, b14, b13, b12),
+        queue,
+        &mut posts,
+        &mut shares,
+    )?;
+    let upper = next_four(
+        alloc,
+        book_limit,
+        (b11, b10, b9, b8),
+        queue,
+        &mut posts,
+        &mut shares,
+    )?;
+    let lower = next_four(
+        alloc,
+        book_limit,
+        (b7, b6, b5, b4),
+        queue,
+        &mut posts,
+        &mut shares,
+    )?;
+    let low = next_four(
+        alloc,
+        book_limit,
+        (b3, b2, b1, b0),
+        queue,
+        &mut posts,
+        &mut shares,
+    )?;
     Ok(Cells {
         high,
         upper,
