@@ -30,7 +30,7 @@ use bytes::Bytes;
 use std::alloc::{AllocError, Global};
 use std::marker::Model;
 use std::sync::ledger::Book;
-use xt_base::names::{Caller, JobName, Worker};
+use xt_base::names::{Caller, JobName, Slot, Worker};
 use xt_base::steps::{Errno, HomeAnswers, LogAnswers, Reply, Step};
 use xt_frames::share::FrameShare;
 use xt_mount::slot::MountSlot;
