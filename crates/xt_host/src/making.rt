@@ -4,10 +4,10 @@ ghost use Rattle.std.specs.Prelude.{◌≡◌, ◌≢◌, ◌<◌, ◌+◌, ◌-
 ghost use Rattle.std.specs.Arc.{arc_value};
 ghost use Rattle.xt_base.specs.declared.sizes.TheConstants.{SLOTS, WORKERS};
 ghost use Rattle.xt_base.specs.declared.steps.Errno.TheVariants.{Invalid, NoMemory};
-ghost use Rattle.xt_queue.specs.Passes.{fresh_posts, fresh_works};
+ghost use Rattle.xt_queue.specs.Passes.{fresh_post, fresh_posts, fresh_works};
 ghost use Rattle.xt_queue.specs.Seats.{fresh_seat};
 ghost use Rattle.xt_queue.specs.Boards.{blank_words};
-ghost use Rattle.xt_frames.specs.Shares.{AreThere};
+ghost use Rattle.xt_frames.specs.Shares.{AreThere, no_contents};
 ghost use Rattle.xt_host.specs.Making.{MayHave};
 ghost use Rattle.xt_cell.specs.Ledgers.{AreCut, AreNamed};
 
@@ -25,6 +25,7 @@ use xt_cell::house::{House, Of};
 use xt_cell::poster::Poster;
 use xt_cell::reserve::{Blanks, Books, Reserve};
 use xt_cell::seat::HostSeat;
+use xt_frames::share::FrameShare;
 use xt_frames::table::FrameTable;
 use xt_queue::board::{Board, Seat};
 use xt_queue::jobs::{JobQueue, Passes, PostPass, WorkPass};
@@ -47,30 +48,52 @@ struct Cells<H: House> {
     low: Four<H, 3, 2, 1, 0>,
 }
 
-/// The cell of slot S, with the last of the passes that are left. The one error is want of memory.
+/// The pass of slot S, the last of those that are left.
+fn next_pass<const S: u8>(queue: &Arc<JobQueue, Global>, posts: &mut Vec<PostPass>) -> PostPass
+    requires { posts.old.items ≡ fresh_posts (arc_value queue.now) (S + 1) }
+    ensures pass { result ≡ fresh_post (arc_value queue.now) S }
+    ensures left { posts.new.items ≡ fresh_posts (arc_value queue.now) S }
+{
+    let _queue = queue;
+    let Some(pass) = posts.pop() else {
+        unreachable!()
+    };
+    pass
+}
+
+/// The share of slot S, the last of those that are left.
+fn next_share<const S: u8>(shares: &mut FrameTable) -> FrameShare
+    requires slot { S < SLOTS }
+    requires there { AreThere 0 (S + 1) shares.old }
+    ensures share { result ≡ no_contents S }
+    ensures left { AreThere 0 S shares.new }
+{
+    let Some(slot) = Slot::new(S) else {
+        unreachable!()
+    };
+    let Some(share) = shares.take_share(slot) else {
+        unreachable!()
+    };
+    share
+}
+
+/// The cell of slot S, in its share of the frames, with the last of the passes that are left. The one error is want of memory.
 fn next_cell<H: House, const S: u8>(
     alloc: Global,
     book_limit: u64,
     count: Book<Of<H, S>>,
     queue: &Arc<JobQueue, Global>,
     posts: &mut Vec<PostPass>,
-    shares: &mut FrameTable,
+    share: FrameShare,
 ) -> Result<SlotLock<H, S>, AllocError>
     requires slot { S < SLOTS }
     requires none { count.total ≡ 0 }
     requires posts { posts.old.items ≡ fresh_posts (arc_value queue.now) (S + 1) }
-    requires shares { AreThere 0 (S + 1) shares.old }
-    ensures posts { OnOk result (posts.new.items ≡ fresh_posts (arc_value queue.now) S) }
-    ensures shares { OnOk result (AreThere 0 S shares.new) }
+    requires share { share ≡ no_contents S }
+    ensures { OnOk result (posts.new.items ≡ fresh_posts (arc_value queue.now) S) }
 {
-    let queue = Arc::try_clone(queue)?;
-    let (Some(slot), Some(pass)) = (Slot::new(S), posts.pop()) else {
-        unreachable!()
-    };
-    let Some(share) = shares.take_share(slot) else {
-        unreachable!()
-    };
-    let poster = Poster::new(queue, pass);
+    let pass = next_pass::<S>(queue, posts);
+    let poster = Poster::new(Arc::try_clone(queue)?, pass);
     let book = SlotBook::new(alloc, share, count);
     Ok(SlotLock::new(SlotCell::new(alloc, book_limit, book, poster, None, None)))
 }
@@ -97,10 +120,10 @@ fn next_four<H: House, const A: u8, const B: u8, const C: u8, const D: u8>(
     ensures shares { OnOk result (AreThere 0 D shares.new) }
 {
     let (a, b, c, d) = counts;
-    let a = next_cell(alloc, book_limit, a, queue, posts, shares)?;
-    let b = next_cell(alloc, book_limit, b, queue, posts, shares)?;
-    let c = next_cell(alloc, book_limit, c, queue, posts, shares)?;
-    let d = next_cell(alloc, book_limit, d, queue, posts, shares)?;
+    let a = next_cell(alloc, book_limit, a, queue, posts, next_share::<A>(shares))?;
+    let b = next_cell(alloc, book_limit, b, queue, posts, next_share::<B>(shares))?;
+    let c = next_cell(alloc, book_limit, c, queue, posts, next_share::<C>(shares))?;
+    let d = next_cell(alloc, book_limit, d, queue, posts, next_share::<D>(shares))?;
     Ok(Four { a, b, c, d })
 }
 
