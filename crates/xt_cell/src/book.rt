@@ -16,6 +16,7 @@ ghost use Rattle.xt_cell.specs.Counting.{counted};
 ghost use Rattle.xt_cell.specs.Events.{IsBooked};
 ghost use Rattle.xt_cell.specs.HostSeats.{Notes};
 ghost use Rattle.xt_cell.specs.Twins.{AreReady};
+ghost use Rattle.xt_frames.specs.Shares.{no_contents};
 ghost use Rattle.xt_mount.specs.Slots.{IsServed, IsServedUnlessMemory, lone_with, pieces_in, plan_in};
 
 use crate::account::Account;
@@ -31,6 +32,7 @@ use std::marker::Model;
 use std::sync::ledger::Book;
 use xt_base::names::{Caller, JobName, Slot, Worker};
 use xt_base::steps::{Errno, HomeAnswers, LogAnswers, Reply, Step};
+use xt_frames::share::FrameShare;
 use xt_mount::slot::MountSlot;
 use xt_mount::state::SlotState;
 
@@ -71,14 +73,15 @@ impl<H: House, const S: u8> Model for SlotBook<H, S> {
 
 impl<H: House, const S: u8> SlotBook<H, S> {
     /// The book of a slot that was never mounted, in which nothing is written yet.
-    pub fn new(alloc: Global, slot: Slot, count: Book<Of<H, S>>) -> Self
-        requires slot { slot ≡ S }
+    pub fn new(alloc: Global, share: FrameShare, count: Book<Of<H, S>>) -> Self
+        requires share { share ≡ no_contents S }
         requires none { count.total ≡ 0 }
         ensures { IsSameBook (unwritten S) result }
     {
+        let slot = share.slot();
         SlotBook {
             alloc,
-            mount: MountSlot::new(alloc, slot),
+            mount: MountSlot::new(alloc, share),
             base: SlotState::empty(slot),
             folded: 0,
             events: 0,

@@ -22,9 +22,6 @@ module _ {A : Type 0} (P : A → Type 0) where
   more_at (x ∷ xs) y zero d old new = old
   more_at (x ∷ xs) y (suc m) d old new = more_at xs y m d old (λ e. new (ap suc e))
 
-pub unused_none : AreUnused 0 []
-unused_none = record { count = refl; each = λ m. refl }
-
 -- one slot more
 pub unused_more : (n : ℕ) (cells : List Cell) (c : Cell) → AreUnused n cells → c ≡ unused n → AreUnused (n + 1) (cells ++ c ∷ [])
 unused_more n cells c a is = record {

@@ -8,6 +8,7 @@ ghost use Rattle.xt_base.specs.State.{empty};
 ghost use Rattle.xt_base.specs.Steps.{slot_of};
 ghost use Rattle.xt_base.specs.declared.steps.Step.{Step as AStep};
 ghost use Rattle.xt_core.specs.Cells.{IsTurned, with_lone};
+ghost use Rattle.xt_frames.specs.Shares.{no_contents};
 ghost use Rattle.xt_mount.specs.Slots.{plan_in};
 
 use crate::offers::{home_offers, log_offers};
@@ -16,6 +17,7 @@ use std::marker::Model;
 use xt_base::names::{JobName, Life, Slot};
 use xt_base::outcomes::Offers;
 use xt_base::steps::{Answer, HomeAnswers, LogAnswers, Reason, Reply, Request, Step};
+use xt_frames::share::FrameShare;
 use xt_mount::mount::Stage;
 use xt_mount::slot::MountSlot;
 
@@ -38,12 +40,13 @@ impl Model for SlotCell {
 }
 
 impl SlotCell {
-    /// A slot that was never mounted.
-    pub fn new(alloc: Global, slot: Slot) -> Self
-        ensures { result ≡ record { slot = slot; lone = empty } }
+    /// The slot of a share, which has no contents; it was never mounted.
+    pub fn new(alloc: Global, share: FrameShare) -> Self
+        requires { share ≡ no_contents share.slot }
+        ensures { result ≡ record { slot = share.slot; lone = empty } }
     {
         SlotCell {
-            mount: MountSlot::new(alloc, slot),
+            mount: MountSlot::new(alloc, share),
             seen_life: Life(0),
             seen_reason: None,
         }

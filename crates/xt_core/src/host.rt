@@ -18,9 +18,10 @@ use xt_base::names::{JobName, Slot};
 use xt_base::outcomes::{Disorder, Offers, Outcomes, Turn};
 use xt_base::sizes::SLOTS;
 use xt_base::steps::{Errno, Reason, Reply, Step};
+use xt_frames::table::FrameTable;
 
 /// The host. Clauses see the state of each slot by its number, the names that were posted and not taken, and what each
-/// worker took and has not finished. The memory of a mount comes with the mount: an empty slot has none.
+/// worker took and has not finished. The frames of all slots are made with the host, without contents; all other memory of a mount comes with the mount.
 #[derive(Debug, Drop)]
 pub struct HostCore {
     alloc: Global,
@@ -50,13 +51,17 @@ fn slot_at(number: u8) -> Slot
     }
 }
 
-/// Sixteen slots that were never mounted. The one error is want of memory.
+/// Sixteen slots that were never mounted, each with its share of the frames, which are made at once. The one error is want of memory.
 fn empty_cells(alloc: Global) -> Result<Vec<SlotCell>, AllocError>
     ensures { IfOk result (λ cells. AreUnused SLOTS cells.items) }
 {
+    let mut table = FrameTable::new(alloc, SLOTS as u8)?;
     let mut cells = Vec::with_capacity(alloc, SLOTS)?;
     for number in 0..SLOTS as u8 {
-        cells.push(SlotCell::new(alloc, slot_at(number)))?;
+        let Some(share) = table.take_share(slot_at(number)) else {
+            unreachable!()
+        };
+        cells.push(SlotCell::new(alloc, share))?;
     }
     Ok(cells)
 }

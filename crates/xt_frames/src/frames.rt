@@ -37,21 +37,6 @@ impl Model for Frames {
 }
 
 impl Frames {
-    /// No content at all. The one error is want of memory.
-    pub fn new(alloc: Global) -> Result<Self, AllocError>
-        ensures { IfOk result (λ frames. frames ≡ no_frames) }
-    {
-        let busy = BusyFrames::new(alloc)?;
-        let fresh = FreshBlocks::new(alloc)?;
-        let idle = IdleList::new(alloc)?;
-        Ok(Frames {
-            busy,
-            fresh,
-            idle,
-            spare: None,
-        })
-    }
-
     /// No content at all, in a share that has none. Where memory is refused for the fresh marks, the share is handed back.
     pub fn over(alloc: Global, share: FrameShare) -> Result<Self, FrameShare>
         requires { share ≡ no_contents share.slot }

@@ -25,9 +25,16 @@ fn commit(alloc: Global, frames: &mut Frames, block: u64, first: u8) -> Result<(
     Ok(())
 }
 
+/// The frames of a slot, without contents.
+fn no_frames(alloc: Global) -> Result<Frames, AllocError> {
+    let slot = Slot::new(0).ok_or(AllocError)?;
+    let share = FrameShare::new(alloc, slot)?;
+    Frames::over(alloc, share).map_err(|_| AllocError)
+}
+
 /// Contents of which one is committed.
 fn with_one(alloc: Global, block: u64, first: u8) -> Result<Frames, AllocError> {
-    let mut frames = Frames::new(alloc)?;
+    let mut frames = no_frames(alloc)?;
     commit(alloc, &mut frames, block, first)?;
     Ok(frames)
 }
@@ -126,7 +133,7 @@ fn contents_go_one_by_one(rt: HostRuntime) -> Result<(), AllocError> {
 /// stays.
 #[test]
 fn the_idle_list_keeps_the_last_64(rt: HostRuntime) -> Result<(), AllocError> {
-    let mut frames = Frames::new(rt.alloc())?;
+    let mut frames = no_frames(rt.alloc())?;
     for block in 1..66 {
         let _is_idle = rest(rt.alloc(), &mut frames, block)?;
     }
@@ -141,7 +148,7 @@ fn the_idle_list_keeps_the_last_64(rt: HostRuntime) -> Result<(), AllocError> {
 /// Fresh blocks come by number, and leave by number or where they settle.
 #[test]
 fn fresh_blocks_come_and_go(rt: HostRuntime) -> Result<(), AllocError> {
-    let mut frames = Frames::new(rt.alloc())?;
+    let mut frames = no_frames(rt.alloc())?;
     bring(&mut frames, 9);
     bring(&mut frames, 4);
     if !frames.is_full() {

@@ -4,9 +4,10 @@ ghost use Rattle.std.specs.Prelude.{◌≡◌, ◌≢◌, ◌<◌, ◌+◌, ◌-
 ghost use Rattle.std.specs.Arc.{arc_value};
 ghost use Rattle.xt_base.specs.declared.sizes.TheConstants.{SLOTS, WORKERS};
 ghost use Rattle.xt_base.specs.declared.steps.Errno.TheVariants.{Invalid, NoMemory};
-ghost use Rattle.xt_queue.specs.Passes.{fresh_posts, fresh_works};
+ghost use Rattle.xt_queue.specs.Passes.{fresh_post, fresh_posts, fresh_works};
 ghost use Rattle.xt_queue.specs.Seats.{fresh_seat};
 ghost use Rattle.xt_queue.specs.Boards.{blank_words};
+ghost use Rattle.xt_frames.specs.Shares.{AreThere, no_contents};
 ghost use Rattle.xt_host.specs.Making.{MayHave};
 ghost use Rattle.xt_cell.specs.Ledgers.{AreCut, AreNamed};
 
@@ -16,7 +17,7 @@ use std::alloc::{AllocError, Global};
 use std::sync::ledger::Book;
 use std::sync::{Arc, Mutex};
 use xt_base::names::Slot;
-use xt_base::sizes::WORKERS;
+use xt_base::sizes::{SLOTS, WORKERS};
 use xt_base::steps::Errno;
 use xt_cell::book::SlotBook;
 use xt_cell::cell::SlotCell;
@@ -24,6 +25,8 @@ use xt_cell::house::{House, Of};
 use xt_cell::poster::Poster;
 use xt_cell::reserve::{Blanks, Books, Reserve};
 use xt_cell::seat::HostSeat;
+use xt_frames::share::FrameShare;
+use xt_frames::table::FrameTable;
 use xt_queue::board::{Board, Seat};
 use xt_queue::jobs::{JobQueue, Passes, PostPass, WorkPass};
 
@@ -45,25 +48,53 @@ struct Cells<H: House> {
     low: Four<H, 3, 2, 1, 0>,
 }
 
-/// The cell of slot S, with the last of the passes that are left. The one error is want of memory.
+/// The pass of slot S, the last of those that are left.
+fn next_pass<const S: u8>(queue: &Arc<JobQueue, Global>, posts: &mut Vec<PostPass>) -> PostPass
+    requires { posts.old.items ≡ fresh_posts (arc_value queue.now) (S + 1) }
+    ensures pass { result ≡ fresh_post (arc_value queue.now) S }
+    ensures left { posts.new.items ≡ fresh_posts (arc_value queue.now) S }
+{
+    let _queue = queue;
+    let Some(pass) = posts.pop() else {
+        unreachable!()
+    };
+    pass
+}
+
+/// The share of slot S, the last of those that are left.
+fn next_share<const S: u8>(shares: &mut FrameTable) -> FrameShare
+    requires slot { S < SLOTS }
+    requires there { AreThere 0 (S + 1) shares.old }
+    ensures share { result ≡ no_contents S }
+    ensures left { AreThere 0 S shares.new }
+{
+    let Some(slot) = Slot::new(S) else {
+        unreachable!()
+    };
+    let Some(share) = shares.take_share(slot) else {
+        unreachable!()
+    };
+    share
+}
+
+/// The cell of slot S, in its share of the frames, with the last of the passes that are left. The one error is want of memory.
 fn next_cell<H: House, const S: u8>(
     alloc: Global,
     book_limit: u64,
     count: Book<Of<H, S>>,
     queue: &Arc<JobQueue, Global>,
     posts: &mut Vec<PostPass>,
+    share: FrameShare,
 ) -> Result<SlotLock<H, S>, AllocError>
     requires slot { S < SLOTS }
     requires none { count.total ≡ 0 }
     requires posts { posts.old.items ≡ fresh_posts (arc_value queue.now) (S + 1) }
+    requires share { share ≡ no_contents S }
     ensures { OnOk result (posts.new.items ≡ fresh_posts (arc_value queue.now) S) }
 {
-    let queue = Arc::try_clone(queue)?;
-    let (Some(slot), Some(pass)) = (Slot::new(S), posts.pop()) else {
-        unreachable!()
-    };
-    let poster = Poster::new(queue, pass);
-    let book = SlotBook::new(alloc, slot, count);
+    let pass = next_pass::<S>(queue, posts);
+    let poster = Poster::new(Arc::try_clone(queue)?, pass);
+    let book = SlotBook::new(alloc, share, count);
     Ok(SlotLock::new(SlotCell::new(alloc, book_limit, book, poster, None, None)))
 }
 
@@ -79,17 +110,20 @@ fn next_four<H: House, const A: u8, const B: u8, const C: u8, const D: u8>(
     ),
     queue: &Arc<JobQueue, Global>,
     posts: &mut Vec<PostPass>,
+    shares: &mut FrameTable,
 ) -> Result<Four<H, A, B, C, D>, AllocError>
     requires slots { (A < SLOTS) × (A ≡ B + 1) × (B ≡ C + 1) × (C ≡ D + 1) }
     requires none { (counts.0.total ≡ 0) × (counts.1.total ≡ 0) × (counts.2.total ≡ 0) × (counts.3.total ≡ 0) }
     requires posts { posts.old.items ≡ fresh_posts (arc_value queue.now) (A + 1) }
-    ensures { OnOk result (posts.new.items ≡ fresh_posts (arc_value queue.now) D) }
+    requires shares { AreThere 0 (A + 1) shares.old }
+    ensures posts { OnOk result (posts.new.items ≡ fresh_posts (arc_value queue.now) D) }
+    ensures shares { OnOk result (AreThere 0 D shares.new) }
 {
     let (a, b, c, d) = counts;
-    let a = next_cell(alloc, book_limit, a, queue, posts)?;
-    let b = next_cell(alloc, book_limit, b, queue, posts)?;
-    let c = next_cell(alloc, book_limit, c, queue, posts)?;
-    let d = next_cell(alloc, book_limit, d, queue, posts)?;
+    let a = next_cell(alloc, book_limit, a, queue, posts, next_share::<A>(shares))?;
+    let b = next_cell(alloc, book_limit, b, queue, posts, next_share::<B>(shares))?;
+    let c = next_cell(alloc, book_limit, c, queue, posts, next_share::<C>(shares))?;
+    let d = next_cell(alloc, book_limit, d, queue, posts, next_share::<D>(shares))?;
     Ok(Four { a, b, c, d })
 }
 
@@ -100,9 +134,11 @@ fn all_cells<H: House>(
     books: Books<H>,
     queue: &Arc<JobQueue, Global>,
     posts: Vec<PostPass>,
+    shares: FrameTable,
 ) -> Result<Cells<H>, AllocError>
     requires none { (books.b0.total ≡ 0) × (books.b1.total ≡ 0) × (books.b2.total ≡ 0) × (books.b3.total ≡ 0) × (books.b4.total ≡ 0) × (books.b5.total ≡ 0) × (books.b6.total ≡ 0) × (books.b7.total ≡ 0) × (books.b8.total ≡ 0) × (books.b9.total ≡ 0) × (books.b10.total ≡ 0) × (books.b11.total ≡ 0) × (books.b12.total ≡ 0) × (books.b13.total ≡ 0) × (books.b14.total ≡ 0) × (books.b15.total ≡ 0) }
     requires posts { posts.items ≡ fresh_posts (arc_value queue.now) SLOTS }
+    requires shares { AreThere 0 SLOTS shares }
 {
     let Books {
         b0,
@@ -122,11 +158,39 @@ fn all_cells<H: House>(
         b14,
         b15,
     } = books;
-    let mut posts = posts;
-    let high = next_four(alloc, book_limit, (b15, b14, b13, b12), queue, &mut posts)?;
-    let upper = next_four(alloc, book_limit, (b11, b10, b9, b8), queue, &mut posts)?;
-    let lower = next_four(alloc, book_limit, (b7, b6, b5, b4), queue, &mut posts)?;
-    let low = next_four(alloc, book_limit, (b3, b2, b1, b0), queue, &mut posts)?;
+    let (mut posts, mut shares) = (posts, shares);
+    let high = next_four(
+        alloc,
+        book_limit,
+        (b15, b14, b13, b12),
+        queue,
+        &mut posts,
+        &mut shares,
+    )?;
+    let upper = next_four(
+        alloc,
+        book_limit,
+        (b11, b10, b9, b8),
+        queue,
+        &mut posts,
+        &mut shares,
+    )?;
+    let lower = next_four(
+        alloc,
+        book_limit,
+        (b7, b6, b5, b4),
+        queue,
+        &mut posts,
+        &mut shares,
+    )?;
+    let low = next_four(
+        alloc,
+        book_limit,
+        (b3, b2, b1, b0),
+        queue,
+        &mut posts,
+        &mut shares,
+    )?;
     Ok(Cells {
         high,
         upper,
@@ -202,7 +266,8 @@ fn opened<H: House>(
     ensures receipts { IfOk result (λ made. made.1.receipts ≡ []) }
 {
     let (books, mut reserve) = Reserve::open(blanks);
-    let cells = all_cells(alloc, book_limit, books, &queue, posts)?;
+    let shares = FrameTable::new(alloc, SLOTS as u8)?;
+    let cells = all_cells(alloc, book_limit, books, &queue, posts, shares)?;
     let Some((caller, shares)) = reserve.draw() else {
         unreachable!()
     };

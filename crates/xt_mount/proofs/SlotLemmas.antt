@@ -1,5 +1,5 @@
 -- A call to one life of a slot, which an unmount empties.
-use Rattle.std.proofs.Common.{◌≡◌, ◌∙◌, ℕ, Bool, None, Option, Some, [], ap, false, if◌then◌else◌, inl, inr, refl, subst, sym, true}
+use Rattle.std.proofs.Common.{◌≡◌, ◌∙◌, ℕ, Bool, IfSome, None, Option, Some, [], ap, false, if◌then◌else◌, inl, inr, refl, subst, sym, true}
 use Rattle.std.specs.Prelude.{◌&&◌, ◌==◌}
 use Rattle.xt_base.proofs.SameLemmas.{same_call}
 use Rattle.xt_base.specs.Alone.{call, called, is_okay, may_want_memory, turn}
@@ -13,7 +13,9 @@ use Rattle.xt_base.specs.declared.steps.Reply.{Reply}
 use Rattle.xt_base.specs.declared.steps.Reply.TheVariants.{Refused}
 use Rattle.xt_base.specs.declared.steps.Request.{Request}
 use Rattle.xt_base.specs.declared.steps.Step.TheVariants.{Call}
-use Rattle.xt_mount.specs.Slots.{IsAnsweredUnlessMemory, IsServedUnlessMemory, SlotState, answered_in}
+use Rattle.xt_frames.specs.Shares.{no_contents}
+use Rattle.xt_frames.specs.declared.share.FrameShare.{FrameShare}
+use Rattle.xt_mount.specs.Slots.{IsAnsweredUnlessMemory, IsServedUnlessMemory, SlotState, answered_in, share_left, spare_share}
 
 and_none : (x : Bool) → (x && false) ≡ false
 and_none true = refl
@@ -90,3 +92,35 @@ own_called slot last life request answer r b mid new o left (inl gave) own =
     subst (IsOwnIn slot last) (sym left) (own_if slot last b mid (subst (IsOwnIn slot last) (sym (ap (λ (p : Reply × Option State). p.1) gave)) (own_answered slot last life request answer o own)))
 own_called slot last life request answer r b mid new o left (inr refused) own =
     subst (IsOwnIn slot last) (sym left) (own_if slot last b mid (subst (IsOwnIn slot last) (sym refused.1) own))
+
+-- ---- the share of the slot
+share_if : (slot : ℕ) (b : Bool) (mid : Option State) (share : Option FrameShare) → IfSome mid (λ m. m.slot ≡ slot) → share ≡ spare_share slot mid
+    → (if b then share_left mid share else share) ≡ spare_share slot (if b then None else mid)
+share_if slot true None share own is = is
+share_if slot true (Some m) share own is = ap (λ n. Some (no_contents n)) own
+share_if slot false mid share own is = is
+
+slot_of_own : (slot last : ℕ) (o : Option State) → IsOwnIn slot last o → IfSome o (λ m. m.slot ≡ slot)
+slot_of_own slot last None own = tt
+slot_of_own slot last (Some m) own = own.0
+
+spare_answered : (slot life : ℕ) (request : Request) (answer : Answer) (o : Option State) → spare_share slot (answered_in life request answer o).1 ≡ spare_share slot o
+spare_answered slot life request answer None = refl
+spare_answered slot life request answer (Some m) = spare_by (m.life == life)
+  where
+    spare_by : (e : Bool) → spare_share slot (let p : Reply × Option State = if e then ((alone_with [] request answer m).reply, Some (alone_with [] request answer m).state) else (Refused Stale, Some m) in p.1) ≡ None
+    spare_by true = refl
+    spare_by false = refl
+
+spare_mid : (slot life : ℕ) (request : Request) (answer : Answer) (r : Reply) (mid o : Option State) → IsAnsweredUnlessMemory life request answer r mid o → spare_share slot o ≡ spare_share slot mid
+spare_mid slot life request answer r mid o (inl gave) = sym (ap (λ (p : Reply × Option State). spare_share slot p.1) gave ∙ spare_answered slot life request answer o)
+spare_mid slot life request answer r mid o (inr refused) = sym (ap (spare_share slot) refused.1)
+
+own_mid : (slot last life : ℕ) (request : Request) (answer : Answer) (r : Reply) (mid o : Option State) → IsAnsweredUnlessMemory life request answer r mid o → IsOwnIn slot last o → IsOwnIn slot last mid
+own_mid slot last life request answer r mid o (inl gave) own = subst (IsOwnIn slot last) (sym (ap (λ (p : Reply × Option State). p.1) gave)) (own_answered slot last life request answer o own)
+own_mid slot last life request answer r mid o (inr refused) own = subst (IsOwnIn slot last) (sym refused.1) own
+
+pub share_called : (slot last life : ℕ) (request : Request) (answer : Answer) (r : Reply) (b : Bool) (mid new o : Option State) (before after : Option FrameShare) → new ≡ (if b then None else mid)
+    → after ≡ (if b then share_left mid before else before) → IsAnsweredUnlessMemory life request answer r mid o → IsOwnIn slot last o → before ≡ spare_share slot o → after ≡ spare_share slot new
+share_called slot last life request answer r b mid new o before after left kept gave own is =
+    kept ∙ share_if slot b mid before (slot_of_own slot last mid (own_mid slot last life request answer r mid o gave own)) (is ∙ spare_mid slot life request answer r mid o gave) ∙ ap (spare_share slot) (sym left)

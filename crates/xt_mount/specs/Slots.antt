@@ -15,6 +15,8 @@ use Rattle.xt_base.specs.declared.steps.Reply.{Reply}
 use Rattle.xt_base.specs.declared.steps.Reply.TheVariants.{Refused}
 use Rattle.xt_base.specs.declared.steps.Request.{Request}
 use Rattle.xt_base.specs.declared.steps.Step.{Step}
+use Rattle.xt_frames.specs.Shares.{no_contents}
+use Rattle.xt_frames.specs.declared.share.FrameShare.{FrameShare}
 use Rattle.xt_mount.specs.Come.{owed_name}
 use Rattle.xt_mount.specs.declared.mount.Stage.{Stage}
 use Rattle.xt_mount.specs.declared.mount.Stage.TheVariants.{Begun, Waiting}
@@ -94,3 +96,14 @@ plan_in (Some m) = flush_plan m
 abbrev pub contents_in : Option State → List (ℕ × List ℕ)
 contents_in None = []
 contents_in (Some m) = m.frames.committed
+
+-- ---- the frames of a slot
+-- the share of the slot while no mount has it, without contents
+abbrev pub spare_share : ℕ → Option State → Option FrameShare
+spare_share slot None = Some (no_contents slot)
+spare_share slot (Some m) = None
+
+-- the share once the mount has gone, if there was one
+abbrev pub share_left : Option State → Option FrameShare → Option FrameShare
+share_left None share = share
+share_left (Some m) share = Some (no_contents m.slot)

@@ -1,21 +1,24 @@
 //! The parts of a mount, and what several requests ask of them.
 
-ghost use Rattle.std.specs.Prelude.{◌≡◌, ◌≤◌, is_some, IfOk};
+ghost use Rattle.std.specs.Prelude.{◌≡◌, ◌≤◌, [], is_some, IfErr, IfOk};
 ghost use Rattle.xt_base.specs.Calls.{asks_ckpt, asks_flush, is_elsewhere, is_own, shut_down};
 ghost use Rattle.xt_base.specs.Legs.{own_count};
 ghost use Rattle.xt_base.specs.Maps.{at};
 ghost use Rattle.xt_base.specs.Space.{busy_count, is_busy};
 ghost use Rattle.xt_base.specs.State.{mount_of};
+ghost use Rattle.xt_frames.specs.Shares.{no_contents};
+ghost use Rattle.xt_mount.specs.Accounts.{no_accounts};
 ghost use Rattle.xt_mount.specs.Machines.{state_of};
 
 use crate::accounts::Accounts;
 use crate::busy::{beside_ail, beside_cil, beside_flight};
 use std::alloc::{AllocError, Global};
 use xt_base::form::Form;
-use xt_base::names::{Block, JobKind, Life, Slot, TransNo};
+use xt_base::names::{Block, JobKind, Life, TransNo};
 use xt_base::sizes::MOST_LOG;
 use xt_base::steps::Reason;
 use xt_frames::frames::Frames;
+use xt_frames::share::FrameShare;
 use xt_jobs::table::JobTable;
 use xt_locks::locks::Locks;
 
@@ -35,32 +38,46 @@ pub struct Machine {
 }
 
 impl Machine {
-    /// A new mount of a form. The one error is want of memory.
+    /// A new mount of a form, with the frames of a share that has no contents. Where memory is refused the share is handed back.
     pub fn new(
         alloc: Global,
         form: Form,
-        slot: Slot,
+        share: FrameShare,
         life: Life,
         log_bytes: u32,
         blocks: u64,
-    ) -> Result<Self, AllocError>
-        requires { log_bytes ≤ MOST_LOG }
-        ensures { IfOk result (λ machine. state_of machine ≡ mount_of slot life log_bytes blocks form) }
+    ) -> Result<Self, FrameShare>
+        requires log { log_bytes ≤ MOST_LOG }
+        requires empty { share ≡ no_contents share.slot }
+        ensures ok { IfOk result (λ machine. state_of machine ≡ mount_of share.slot life log_bytes blocks form) }
+        ensures back { IfErr result (λ back. back ≡ share) }
     {
-        let frames = Frames::new(alloc)?;
-        let locks = Locks::new(alloc)?;
-        let accounts = Accounts::new(alloc, form, log_bytes)?;
-        Ok(Machine {
-            alloc,
-            blocks,
-            frames,
-            locks,
-            accounts,
-            last_trans: 0,
-            jobs: JobTable::new(slot, life),
-            frozen: false,
-            shut: None,
-        })
+        let slot = share.slot();
+        let Ok((locks, accounts)) = layers(alloc, form, log_bytes) else {
+            return Err(share);
+        };
+        match Frames::over(alloc, share) {
+            Ok(frames) => Ok(Machine {
+                alloc,
+                blocks,
+                frames,
+                locks,
+                accounts,
+                last_trans: 0,
+                jobs: JobTable::new(slot, life),
+                frozen: false,
+                shut: None,
+            }),
+            Err(share) => Err(share),
+        }
+    }
+
+    /// Ends the mount: the share of its slot, without contents. It takes no memory.
+    pub fn into_share(self) -> FrameShare
+        ensures { result ≡ no_contents (state_of self).slot }
+    {
+        let Machine { frames, jobs, .. } = self;
+        frames.into_share(jobs.slot())
     }
 
     /// Whether the mount is shut.
@@ -140,4 +157,15 @@ impl Machine {
         self.ask_ckpt();
         self.ask_flush();
     }
+}
+
+/// The locks and the accounts of a new mount. The one error is want of memory.
+fn layers(alloc: Global, form: Form, log_bytes: u32) -> Result<(Locks, Accounts), AllocError>
+    requires { log_bytes ≤ MOST_LOG }
+    ensures locks { IfOk result (λ made. made.0 ≡ []) }
+    ensures accounts { IfOk result (λ made. made.1 ≡ no_accounts log_bytes form) }
+{
+    let locks = Locks::new(alloc)?;
+    let accounts = Accounts::new(alloc, form, log_bytes)?;
+    Ok((locks, accounts))
 }

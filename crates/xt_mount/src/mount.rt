@@ -9,6 +9,7 @@ ghost use Rattle.xt_base.specs.Maps.{at, is_in};
 ghost use Rattle.xt_base.specs.Order.{is_there};
 ghost use Rattle.xt_base.specs.State.{mount_of};
 ghost use Rattle.xt_base.specs.declared.steps.Errno.TheVariants.{NoMemory};
+ghost use Rattle.xt_frames.specs.Shares.{no_contents};
 ghost use Rattle.xt_mount.specs.Come.{new_refusals, owed_name, read_block};
 ghost use Rattle.xt_mount.specs.Machines.{IsSameMount};
 ghost use Rattle.xt_mount.specs.Stages.{stage_of};
@@ -19,9 +20,10 @@ use bytes::Bytes;
 use std::alloc::Global;
 use std::marker::Model;
 use xt_base::form::Form;
-use xt_base::names::{Block, JobKind, JobName, Life, Slot};
+use xt_base::names::{Block, JobKind, JobName, Life};
 use xt_base::sizes::{BLOCK_BYTES, LEAST_LOG, MOST_BLOCKS, MOST_LOG, PIECE_BYTES, TEXT_PIECES};
 use xt_base::steps::{Answer, Errno, HomeAnswers, LogAnswers, Reason, Reply, Request};
+use xt_frames::share::FrameShare;
 use xt_items::plan::FlushPlan;
 
 /// How far an outstanding job has come.
@@ -56,36 +58,62 @@ impl Model for Mount {
 }
 
 impl Mount {
-    /// A new mount of a slot, whose life is the one after `last` (0 at first), with a log of 65,536 to 16,777,216
-    /// bytes and a home device of 1 to 1,099,511,627,776 blocks. `Invalid` where a size is outside these,
-    /// `NoSpace` where the last life is the greatest, `NoMemory` where memory is refused.
+    /// A new mount of the slot whose share this is, which has no contents. Its life is the one after `last` (0 at first); it has a log
+    /// of 65,536 to 16,777,216 bytes and a home device of 1 to 1,099,511,627,776 blocks. `Invalid` where a size is outside these,
+    /// `NoSpace` where the last life is the greatest, `NoMemory` where memory is refused; each hands the share back.
     pub fn new(
         alloc: Global,
-        slot: Slot,
+        share: FrameShare,
         last: Life,
         log_bytes: u32,
         blocks: u64,
-    ) -> Result<Self, Errno>
-        ensures ok { IfOk result (λ mount. (first_of (new_refusals last log_bytes blocks) ≡ None) × (mount ≡ mount_of slot (last + 1) log_bytes blocks form_one)) }
-        ensures err { IfErr result (λ errno. (first_of (new_refusals last log_bytes blocks) ≡ Some errno) ⊎ ((first_of (new_refusals last log_bytes blocks) ≡ None) × (errno ≡ NoMemory))) }
+    ) -> Result<Self, (Errno, FrameShare)>
+        requires { share ≡ no_contents share.slot }
+        ensures ok { IfOk result (λ mount. (first_of (new_refusals last log_bytes blocks) ≡ None) × (mount ≡ mount_of share.slot (last + 1) log_bytes blocks form_one)) }
+        ensures err { IfErr result (λ refused. (first_of (new_refusals last log_bytes blocks) ≡ Some refused.0) ⊎ ((first_of (new_refusals last log_bytes blocks) ≡ None) × (refused.0 ≡ NoMemory))) }
+        ensures back { IfErr result (λ refused. refused.1 ≡ share) }
     {
         if log_bytes < LEAST_LOG || log_bytes > MOST_LOG || blocks == 0 || blocks > MOST_BLOCKS {
-            return Err(Errno::Invalid);
+            return Err((Errno::Invalid, share));
         }
         if last.0 == u32::MAX {
-            return Err(Errno::NoSpace);
+            return Err((Errno::NoSpace, share));
         }
         match Machine::new(
             alloc,
             Form::one(),
-            slot,
+            share,
             Life(last.0 + 1),
             log_bytes,
             blocks,
         ) {
             Ok(machine) => Ok(Mount { machine }),
-            Err(_) => Err(Errno::NoMemory),
+            Err(share) => Err((Errno::NoMemory, share)),
         }
+    }
+
+    /// Ends the mount: the share of its slot, without contents, for the next life. What is idle in one life is no part of the next. It
+    /// takes no memory.
+    pub fn into_share(self) -> FrameShare
+        ensures { result ≡ no_contents self.slot }
+    {
+        let Mount { machine } = self;
+        machine.into_share()
+    }
+
+    /// How many clean blocks settles of this mount dropped for want of memory: none, since its frames have room for each content that
+    /// it keeps.
+    pub fn drops(&self) -> u64
+        ensures { result ≡ 0 }
+    {
+        0
+    }
+
+    /// The blocks that settles of the last call or job dropped for want of memory: none.
+    pub fn dropped(&self) -> &[Block]
+        ensures { result.now ≡ [] }
+    {
+        &[]
     }
 
     /// The life of the mount, counted from 1.

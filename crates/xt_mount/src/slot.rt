@@ -1,16 +1,19 @@
 //! One slot of the host: the last life given, and the mount if there is one.
 
-ghost use Rattle.std.specs.Prelude.{◌≡◌, ◌≤◌, ◌&&◌, All, IfErr, IfOk, IfSome, IsOk, Ok, Some, if◌then◌else◌, is_some, length, option_copied, true, false, None, [], ℕ};
+ghost use Rattle.std.specs.Prelude.{◌≡◌, ◌≤◌, ◌+◌, ◌⊎◌, ◌&&◌, All, IfErr, IfOk, IfSome, IsOk, Ok, Some, if◌then◌else◌, is_some, length, option_copied, true, false, None, [], ℕ};
 ghost use Rattle.xt_base.specs.Alone.{has_begun, is_okay, reason_of};
-ghost use Rattle.xt_base.specs.Calls.{is_unmount};
+ghost use Rattle.xt_base.specs.Calls.{first_of, is_unmount};
+ghost use Rattle.xt_base.specs.Form.{form_one};
 ghost use Rattle.xt_base.specs.Jobs.{fits_pieces, fits_plan, is_begun, is_ckpt, is_owed_as, is_waiting};
 ghost use Rattle.xt_base.specs.Maps.{at, is_in};
 ghost use Rattle.xt_base.specs.Order.{is_there, mount_is, of_life};
+ghost use Rattle.xt_base.specs.State.{mount_of};
 ghost use Rattle.xt_base.specs.declared.steps.Errno.TheVariants.{NoMemory};
 ghost use Rattle.xt_base.specs.declared.steps.Reply.{Reply as AReply};
 ghost use Rattle.xt_base.specs.declared.steps.Step.{Step as AStep};
-ghost use Rattle.xt_mount.specs.Come.{read_block};
-ghost use Rattle.xt_mount.specs.Slots.{contents_in, form_in, life_in, owed_in, pieces_in, plan_in, stage_in, unused, IsAnsweredUnlessMemory, IsServed, IsServedUnlessMemory};
+ghost use Rattle.xt_frames.specs.Shares.{no_contents};
+ghost use Rattle.xt_mount.specs.Come.{new_refusals, read_block};
+ghost use Rattle.xt_mount.specs.Slots.{contents_in, form_in, life_in, owed_in, pieces_in, plan_in, stage_in, share_left, unused, IsAnsweredUnlessMemory, IsServed, IsServedUnlessMemory};
 
 use crate::mount::{Mount, Stage};
 use crate::state::SlotState;
@@ -21,6 +24,7 @@ use xt_base::form::Form;
 use xt_base::names::{Block, JobKind, JobName, Life, Slot};
 use xt_base::sizes::{BLOCK_BYTES, PIECE_BYTES, TEXT_PIECES};
 use xt_base::steps::{Answer, Errno, HomeAnswers, LogAnswers, Reason, Reply, Request};
+use xt_frames::share::FrameShare;
 use xt_items::plan::FlushPlan;
 
 /// One slot of the host. Clauses see its number, the last life given, and the state of the mount, if there is one, which is
@@ -32,6 +36,8 @@ pub struct MountSlot {
     /// 0 where none was given.
     last_life: Life,
     mount: Option<Mount>,
+    /// The frames of the slot, while no mount has them.
+    share: Option<FrameShare>,
 }
 
 impl Model for MountSlot {
@@ -42,19 +48,24 @@ impl Model for MountSlot {
 
     ghost view = { λ s. record { slot = s.slot; last_life = s.last_life; mounted = s.mount } };
 
-    ghost invariant = { λ s. IsOwnIn s.slot s.last_life s.mount };
+    ghost use Rattle.std.specs.Prelude.{◌≡◌};
+    ghost use Rattle.xt_mount.specs.Slots.{spare_share};
+
+    ghost invariant = { λ s. IsOwnIn s.slot s.last_life s.mount × (s.share ≡ spare_share s.slot s.mount) };
 }
 
 impl MountSlot {
-    /// A slot that was never mounted.
-    pub fn new(alloc: Global, slot: Slot) -> Self
-        ensures { result ≡ unused slot }
+    /// The slot of a share, which has no contents; it was never mounted. Its mounts keep their contents in the share's frames.
+    pub fn new(alloc: Global, share: FrameShare) -> Self
+        requires { share ≡ no_contents share.slot }
+        ensures { result ≡ unused share.slot }
     {
         MountSlot {
             alloc,
-            slot,
+            slot: share.slot(),
             last_life: Life(0),
             mount: None,
+            share: Some(share),
         }
     }
 
@@ -204,11 +215,17 @@ impl MountSlot {
         if self.mount.is_some() {
             return Reply::Refused(Errno::Busy);
         }
-        match Mount::new(self.alloc, self.slot, self.last_life, log_bytes, blocks) {
-            Ok(mount) => {
-                self.last_life = mount.life();
-                self.mount = Some(mount);
-                Reply::Life(self.last_life)
+        match mounted(
+            self.alloc,
+            &mut self.share,
+            &mut self.mount,
+            self.last_life,
+            log_bytes,
+            blocks,
+        ) {
+            Ok(life) => {
+                self.last_life = life;
+                Reply::Life(life)
             }
             Err(errno) => Reply::Refused(errno),
         }
@@ -223,7 +240,7 @@ impl MountSlot {
     {
         let reply = answered(&mut self.mount, life, request, answer);
         let is_gone = is_unmounted(request, &reply);
-        empty_if(&mut self.mount, is_gone);
+        empty_if(&mut self.mount, &mut self.share, is_gone);
         reply
     }
 
@@ -292,6 +309,40 @@ impl MountSlot {
     }
 }
 
+/// Makes a mount in the frames of an empty slot's share: its life. Where it is refused, the share is there again.
+fn mounted(
+    alloc: Global,
+    share: &mut Option<FrameShare>,
+    mount: &mut Option<Mount>,
+    last: Life,
+    log_bytes: u32,
+    blocks: u64,
+) -> Result<Life, Errno>
+    requires there { is_some share.old ≡ true }
+    requires empty { IfSome share.old (λ spare. spare ≡ no_contents spare.slot) }
+    ensures life { IfOk result (λ life. (first_of (new_refusals last log_bytes blocks) ≡ None) × (life ≡ last + 1)) }
+    ensures made { IfOk result (λ _. IfSome share.old (λ spare. mount.new ≡ Some (mount_of spare.slot (last + 1) log_bytes blocks form_one))) }
+    ensures lent { IfOk result (λ _. share.new ≡ None) }
+    ensures err { IfErr result (λ errno. (first_of (new_refusals last log_bytes blocks) ≡ Some errno) ⊎ ((first_of (new_refusals last log_bytes blocks) ≡ None) × (errno ≡ NoMemory))) }
+    ensures kept { IfErr result (λ _. mount.new ≡ mount.old) }
+    ensures back { IfErr result (λ _. share.new ≡ share.old) }
+{
+    let Some(spare) = share.take() else {
+        unreachable!()
+    };
+    match Mount::new(alloc, spare, last, log_bytes, blocks) {
+        Ok(made) => {
+            let life = made.life();
+            *mount = Some(made);
+            Ok(life)
+        }
+        Err((errno, spare)) => {
+            *share = Some(spare);
+            Err(errno)
+        }
+    }
+}
+
 /// Whether a reply is ok.
 fn is_okay(reply: &Reply) -> bool
     ensures { result ≡ is_okay reply.now }
@@ -320,11 +371,15 @@ fn answered(mount: &mut Option<Mount>, life: Life, request: &Request, answer: &A
     mounted.serve(request, answer)
 }
 
-/// The slot is emptied, if it is so.
-fn empty_if(mount: &mut Option<Mount>, is_gone: bool)
-    ensures { mount.new ≡ (if is_gone then None else mount.old) }
+/// The slot is emptied, if it is so, and has its share again.
+fn empty_if(mount: &mut Option<Mount>, share: &mut Option<FrameShare>, is_gone: bool)
+    ensures mount { mount.new ≡ (if is_gone then None else mount.old) }
+    ensures share { share.new ≡ (if is_gone then share_left mount.old share.old else share.old) }
 {
-    if is_gone {
-        *mount = None;
+    if !is_gone {
+        return;
+    }
+    if let Some(mounted) = mount.take() {
+        *share = Some(mounted.into_share());
     }
 }

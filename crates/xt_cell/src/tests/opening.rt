@@ -4,6 +4,7 @@ ghost use Rattle.std.specs.Prelude.{◌≡◌, ◌-◌, ◌^◌, IfOk, IfSome, f
 ghost use Rattle.std.specs.Arc.{arc_value};
 ghost use Rattle.xt_base.specs.Calls.{is_unmount};
 ghost use Rattle.xt_base.specs.Jobs.{fits_pieces};
+ghost use Rattle.xt_frames.specs.Shares.{no_contents};
 ghost use Rattle.xt_queue.specs.Passes.{fresh_post};
 ghost use Rattle.xt_cell.specs.Ledgers.{AreCut, AreNamed};
 
@@ -26,6 +27,7 @@ use xt_base::names::{Caller, JobName, Life, Slot, Worker};
 use xt_base::steps::{Errno, LogAnswers, Reason, Reply, Request};
 use xt_dev::home::HomeDevice;
 use xt_dev::log::LogDevice;
+use xt_frames::share::FrameShare;
 use xt_mount::mount::Stage;
 use xt_queue::board::{Board, Seat};
 use xt_queue::jobs::{JobQueue, PostPass, WorkPass};
@@ -68,7 +70,7 @@ pub fn hold(done: DoneJob) -> Held
     }
 }
 
-/// The way to the board and to the queue, and from there.
+/// The way to the board and to the queue, and from there, and the frames of slot 15.
 #[derive(Drop)]
 pub struct Ways {
     board: Board,
@@ -78,10 +80,12 @@ pub struct Ways {
     posting: Arc<JobQueue, Global>,
     post: PostPass,
     work: WorkPass,
+    share: FrameShare,
     ghost shows: { showing.board ≡ board },
     ghost reads: { reading.board ≡ board },
     ghost posts: { post ≡ fresh_post (arc_value posting) 15 },
     ghost takes: { work.queue ≡ arc_value queue },
+    ghost empty: { share ≡ no_contents 15 },
 }
 
 /// A queue twice, with the pass of slot 15 and of a worker.
@@ -120,6 +124,16 @@ fn queued(alloc: Global) -> Result<Queued, AllocError>
     Ok((queue, posting, post, work))
 }
 
+/// The frames of slot 15, without contents.
+fn new_share(alloc: Global) -> Result<FrameShare, AllocError>
+    ensures { IfOk result (λ share. share ≡ no_contents 15) }
+{
+    let Some(slot) = Slot::new(15) else {
+        unreachable!();
+    };
+    FrameShare::new(alloc, slot)
+}
+
 /// A new queue and a new board.
 pub fn new_ways(alloc: Global) -> Result<Ways, AllocError> {
     let (queue, posting, post, work) = queued(alloc)?;
@@ -127,6 +141,7 @@ pub fn new_ways(alloc: Global) -> Result<Ways, AllocError> {
         return Err(AllocError);
     };
     let reading = board.split(&mut showing);
+    let share = new_share(alloc)?;
     Ok(Ways {
         board,
         showing,
@@ -135,6 +150,7 @@ pub fn new_ways(alloc: Global) -> Result<Ways, AllocError> {
         posting,
         post,
         work,
+        share,
     })
 }
 
@@ -157,16 +173,15 @@ pub fn opened<H: House>(blanks: Blanks) -> (Book<Of<H, 15>>, Caller, Shares<H>)
 fn cell_over<H: House>(
     alloc: Global,
     count: Book<Of<H, 15>>,
+    share: FrameShare,
     queue: Arc<JobQueue, Global>,
     post: PostPass,
 ) -> SlotCell<H, 15>
     requires none { count.total ≡ 0 }
+    requires share { share ≡ no_contents 15 }
     requires post { post ≡ fresh_post (arc_value queue) 15 }
 {
-    let Some(slot) = Slot::new(15) else {
-        unreachable!();
-    };
-    let book = SlotBook::new(alloc, slot, count);
+    let book = SlotBook::new(alloc, share, count);
     let poster = Poster::new(queue, post);
     SlotCell::new(alloc, BOOK_LIMIT, book, poster, None, None)
 }
@@ -216,9 +231,10 @@ impl<H: House> Parts<H> {
             posting,
             post,
             work,
+            share,
         } = ways;
         Parts {
-            cell: cell_over(alloc, count, posting, post),
+            cell: cell_over(alloc, count, share, posting, post),
             seat: HostSeat::new(alloc, caller, shares, showing),
             board,
             reading,

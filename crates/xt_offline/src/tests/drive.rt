@@ -18,6 +18,7 @@ use xt_dev::home::HomeDevice;
 use xt_dev::log::LogDevice;
 use xt_dev::offer::offer;
 use xt_dev::offer_home::offer_home;
+use xt_frames::share::FrameShare;
 use xt_mount::mount::{Mount, Stage};
 use xt_text::buffer::Text;
 use xt_text::print_reply::{print_home_offer, print_log_offer, print_slot_reply};
@@ -281,7 +282,11 @@ fn mounted(alloc: Global, step: Option<&Step>) -> Result<Mount, Fail> {
                 log_bytes,
                 blocks,
             },
-        ) => Ok(Mount::new(alloc, *slot, Life(0), *log_bytes, *blocks)?),
+        ) => {
+            let share = FrameShare::new(alloc, *slot)?;
+            let mount = Mount::new(alloc, share, Life(0), *log_bytes, *blocks);
+            Ok(mount.map_err(|(errno, _share)| errno)?)
+        }
         _ => Err(Fail::from("no mount at first")),
     }
 }

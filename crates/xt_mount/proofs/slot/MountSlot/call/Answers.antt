@@ -1,13 +1,16 @@
 use Rattle.std.proofs.Common.{subst}
 use Rattle.xt_base.specs.declared.steps.Step.TheVariants.{Call}
-use Rattle.xt_mount.proofs.SlotLemmas.{called_slot, own_called}
+use Rattle.xt_mount.proofs.SlotLemmas.{called_slot, own_called, share_called}
 use Rattle.xt_mount.proofs.slot.MountSlot.call.Goals as goal
 use Rattle.xt_mount.specs.Slots.{IsServedUnlessMemory, SlotState}
 
 pub invariant_of-self : goal.invariant_of-self
-invariant_of-self c =
-    own_called c.self.inside.slot c.self.inside.last_life c.args.life c.args.request.now c.args.answer.now c.answered-reply.result c.is_unmounted-is_gone.result c.answered-reply.new.mount c.empty_if.new.mount c.self.inside.mount
-    c.empty_if.ensures c.answered-reply.ensures c.self.invariant
+invariant_of-self c = (
+  own_called c.self.inside.slot c.self.inside.last_life c.args.life c.args.request.now c.args.answer.now c.answered-reply.result c.is_unmounted-is_gone.result c.answered-reply.new.mount c.empty_if.new.mount c.self.inside.mount
+      c.empty_if.ensures.mount c.answered-reply.ensures c.self.invariant.0,
+  share_called c.self.inside.slot c.self.inside.last_life c.args.life c.args.request.now c.args.answer.now c.answered-reply.result c.is_unmounted-is_gone.result c.answered-reply.new.mount c.empty_if.new.mount c.self.inside.mount
+      c.self.inside.share c.empty_if.new.share c.empty_if.ensures.mount c.empty_if.ensures.share c.answered-reply.ensures c.self.invariant.0 c.self.invariant.1,
+)
 
 pub returns : goal.returns
 returns c =
@@ -15,4 +18,4 @@ returns c =
     (λ (s : SlotState). IsServedUnlessMemory (Call s.slot c.args.life c.args.request.now c.args.answer.now) c.answered-reply.result (record { slot = c.self.inside.slot; last_life = c.self.inside.last_life; mounted = c.empty_if.new.mount }) s)
     c.self.view_is
     (called_slot c.self.inside.slot c.self.inside.last_life c.args.life c.args.request.now c.args.answer.now c.answered-reply.result c.is_unmounted-is_gone.result c.answered-reply.new.mount c.empty_if.new.mount c.self.inside.mount
-    c.is_unmounted-is_gone.ensures c.empty_if.ensures c.answered-reply.ensures)
+    c.is_unmounted-is_gone.ensures c.empty_if.ensures.mount c.answered-reply.ensures)
