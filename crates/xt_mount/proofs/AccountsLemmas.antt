@@ -1,20 +1,20 @@
--- A accounts whose ledger agrees with its transactions and lists.
+-- Accounts whose ledger agrees with its transactions and lists.
 use Rattle.std.proofs.Common.{◌≡◌, ◌∙◌, ◌+◌, ◌*◌, ◌≤◌, ℕ, List, None, Ok, Option, Some, false, sym, ap, refl, subst, arith, IfSome}
 use Rattle.std.specs.Prelude.{is_some}
 use Rattle.std.proofs.lemmas.Bool.{false≢true}
 use Rattle.xt_base.proofs.MapLemmas.{some_same}
 use Rattle.xt_base.proofs.RisingLemmas.{sum_put, sum_without, weight_at}
 use Rattle.xt_base.proofs.ViewLemmas.{put_without}
-use Rattle.xt_base.specs.Form.{Form}
 use Rattle.xt_base.specs.Maps.{at, is_in, put, set_at, without}
 use Rattle.xt_base.specs.Sound.{IsRising}
 use Rattle.xt_base.specs.Space.{cost, granted, least_number, still_needed}
 use Rattle.xt_base.specs.Jobs.{activated}
 use Rattle.xt_base.specs.Legs.{clean_leg}
-use Rattle.xt_base.specs.State.{Flight, Items, Leg, Transaction}
+use Rattle.xt_base.specs.State.{Flight, Leg, Transaction}
 use Rattle.xt_base.specs.declared.steps.Errno.{Errno}
 use Rattle.xt_items.proofs.MountLemmas.{without_blocks}
-use Rattle.xt_items.specs.Lists.{Lists, flight_number, with_landed}
+use Rattle.xt_items.specs.Lists.{flight_number, with_landed}
+use Rattle.xt_journal.specs.Journals.{JournalState}
 use Rattle.xt_mount.proofs.KeepLemmas.{put_back}
 use Rattle.xt_mount.specs.Accounts.{AccountsState, cleaned_in, landed_in, legs_in, releg}
 use Rattle.xt_resv.proofs.MountLemmas.{still_is}
@@ -86,25 +86,26 @@ relegged_lent p q view t u v is rises f changed =
     let before : IsRising q.transactions = subst (λ (x : AccountsState). IsRising x.transactions) (sym view) rises in
     relegged p q view t u v (without t q.transactions) (put t v q.transactions) is rises refl (sym (put_without 0 t v q.transactions before)) f changed
 
--- a transaction has a clean leg and so many legs left
-module _ (p q : AccountsState) (view : q ≡ p) (t : ℕ) (u v : Transaction) (m ns : List (ℕ × Transaction)) (is : at t q.transactions ≡ Some u) (rises : IsRising p.transactions) (out : m ≡ without t q.transactions)
-    (back : ns ≡ put t v m) where
-  next_pages : (f : ℕ → ℕ) (g : Transaction → Items → Items) (log_bytes : ℕ) (items : Items) → v ≡ record u { legs = f u.legs; leg = clean_leg } → log_bytes ≡ q.log_bytes → items ≡ g u q.items
-      → IfSome (at t p.transactions) (λ x. record { log_bytes = log_bytes; form = q.form; transactions = ns; items = items } ≡ legs_in t (f x.legs) x (record p { items = g x p.items }))
-  next_pages f g log_bytes items changed size marked =
-      let given : ℕ → List (ℕ × Transaction) → Items → AccountsState = λ b xs l. record { log_bytes = b; form = q.form; transactions = xs; items = l } in
-      subst (λ (x : AccountsState). IfSome (at t x.transactions) (λ y. given log_bytes ns items ≡ legs_in t (f y.legs) y (record x { items = g y x.items }))) view
-      (subst (λ o. IfSome o (λ y. given log_bytes ns items ≡ legs_in t (f y.legs) y (record q { items = g y q.items }))) (sym is)
-      (ap (λ b. given b ns items) size ∙ ap (given q.log_bytes ns) marked
-      ∙ ap (λ (xs : List (ℕ × Transaction)). given q.log_bytes xs (g u q.items)) (set_in p q view t u v m ns is rises out back ∙ ap (λ x. set_at t x q.transactions) changed)))
+-- accounts by their parts
+abbrev pub pages : ℕ → List (ℕ × Transaction) → List (ℕ × ℕ) → JournalState → AccountsState
+pages b xs landed l = record { log_bytes = b; form = l.form; transactions = xs; items = with_landed landed l.lists; frames = l.frames; shut = l.shut }
 
--- the same where it was changed in its place
-pub next_lent : (p q : AccountsState) → q ≡ p → (t : ℕ) (u v : Transaction) → at t q.transactions ≡ Some u → IsRising p.transactions → (f : ℕ → ℕ) (g : Transaction → Items → Items) (log_bytes : ℕ) (items : Items)
-    → v ≡ record u { legs = f u.legs; leg = clean_leg } → log_bytes ≡ q.log_bytes → items ≡ g u q.items
-    → IfSome (at t p.transactions) (λ x. record { log_bytes = log_bytes; form = q.form; transactions = put t v q.transactions; items = items } ≡ legs_in t (f x.legs) x (record p { items = g x p.items }))
-next_lent p q view t u v is rises f g log_bytes items changed size marked =
-    let before : IsRising q.transactions = subst (λ (x : AccountsState). IsRising x.transactions) (sym view) rises in
-    next_pages p q view t u v (without t q.transactions) (put t v q.transactions) is rises refl (sym (put_without 0 t v q.transactions before)) f g log_bytes items changed size marked
+-- a transaction has a clean leg and so many legs left, in a journal that has changed by its leg
+module _ (p : AccountsState) (b : ℕ) (ts : List (ℕ × Transaction)) (landed : List (ℕ × ℕ)) (l : JournalState) (view : pages b ts landed l ≡ p) (t : ℕ) (u v : Transaction) (is : at t ts ≡ Some u) (rises : IsRising p.transactions) where
+  -- the map with it
+  set_there : put t v ts ≡ set_at t v ts
+  set_there =
+      let before : IsRising ts = subst (λ (x : AccountsState). IsRising x.transactions) (sym view) rises in
+      sym (put_without 0 t v ts before) ∙ put_back t u v ts before is
+
+  pub next_lent : (f : ℕ → ℕ) (g : Transaction → JournalState → JournalState) (h : Transaction → AccountsState → AccountsState) (c : ℕ) (counted : List (ℕ × ℕ)) (m : JournalState)
+      → pages b ts landed (g u l) ≡ h u (pages b ts landed l) → v ≡ record u { legs = f u.legs; leg = clean_leg } → c ≡ b → counted ≡ landed → m ≡ g u l
+      → IfSome (at t p.transactions) (λ x. pages c (put t v ts) counted m ≡ legs_in t (f x.legs) x (h x p))
+  next_lent f g h c counted m agree changed size kept marked =
+      subst (λ (x : AccountsState). IfSome (at t x.transactions) (λ y. pages c (put t v ts) counted m ≡ legs_in t (f y.legs) y (h y x))) view
+      (subst (λ o. IfSome o (λ y. pages c (put t v ts) counted m ≡ legs_in t (f y.legs) y (h y (pages b ts landed l)))) (sym is)
+      (ap (λ n. pages n (put t v ts) counted m) size ∙ ap (λ xs. pages b (put t v ts) xs m) kept ∙ ap (pages b (put t v ts) landed) marked
+      ∙ ap (λ (xs : List (ℕ × Transaction)). pages b xs landed (g u l)) (set_there ∙ ap (λ x. set_at t x ts) changed) ∙ ap (legs_in t (f u.legs) u) agree))
 
 -- a grant that was not refused
 pub grant_is : (o : Option Errno) (t g : Grant) → Ok t ≡ grant_unless o g → t ≡ g
@@ -112,43 +113,40 @@ grant_is None t g h = cc
 grant_is (Some e) t g h = absurd (cc)
 
 -- ---- a landing
-module _ (q : AccountsState) (number : ℕ) (m : Lists) (before after : Ledger) (least : Option ℕ) (size : before.size ≡ q.log_bytes) (landed : before.landed ≡ q.items.landed)
-    (ledger : after ≡ record before { flight = None; landed = still_counted least (put number (flight_cost before.flight) before.landed) }) (first : least ≡ least_number m.ail) where
-  -- the accounts after it
-  abbrev new_pages : AccountsState
-  new_pages = record { log_bytes = after.size; form = q.form; transactions = q.transactions; items = with_landed after.landed m }
+module _ (ts : List (ℕ × Transaction)) (l m : JournalState) (number : ℕ) (before after : Ledger) (least : Option ℕ)
+    (ledger : after ≡ record before { flight = None; landed = still_counted least (put number (flight_cost before.flight) before.landed) }) (first : least ≡ least_number m.lists.ail) where
+  -- the accounts before it
+  abbrev old_pages : AccountsState
+  old_pages = pages before.size ts before.landed l
 
-  landed_by : (o : Option Flight) → flight_number o ≡ Some number → before.flight ≡ flight_of q.form.ends o
-      → IfSome o (λ f. m ≡ record { open_number = q.items.open_number; cil = q.items.cil; flight = None; ail = activated f.number f.items q.items.ail })
-      → IfSome o (λ f. new_pages ≡ landed_in f q)
+  landed_by : (o : Option Flight) → flight_number o ≡ Some number → before.flight ≡ flight_of l.form.ends o
+      → IfSome o (λ f. m ≡ record l { lists = record l.lists { flight = None; ail = activated f.number f.items l.lists.ail } })
+      → IfSome o (λ f. pages after.size ts after.landed m ≡ landed_in f old_pages)
   landed_by None flying price lists = tt
   landed_by (Some f) flying price lists =
-      let given : ℕ → List (ℕ × ℕ) → Lists → AccountsState = λ b xs l. record { log_bytes = b; form = q.form; transactions = q.transactions; items = with_landed xs l } in
-      let counted : List (ℕ × ℕ) → Lists → List (ℕ × ℕ) = λ xs l. still_needed l.ail xs in
-      let costs : List (ℕ × ℕ) = put f.number (cost q.form.ends f.items) q.items.landed in
-      ap (λ (l : Ledger). given l.size l.landed m) ledger
-      ∙ ap (λ b. given b (still_counted least (put number (flight_cost before.flight) before.landed)) m) size
-      ∙ ap (λ o. given q.log_bytes (still_counted o (put number (flight_cost before.flight) before.landed)) m) first
-      ∙ ap (λ xs. given q.log_bytes xs m) (sym (still_is m.ail (put number (flight_cost before.flight) before.landed)))
-      ∙ ap (λ k. given q.log_bytes (counted (put k (flight_cost before.flight) before.landed) m) m) (sym (some_same f.number number flying))
-      ∙ ap (λ o. given q.log_bytes (counted (put f.number (flight_cost o) before.landed) m) m) price
-      ∙ ap (λ xs. given q.log_bytes (counted (put f.number (cost q.form.ends f.items) xs) m) m) landed
-      ∙ ap (λ (l : Lists). given q.log_bytes (counted costs l) l) lists
+      let given : ℕ → List (ℕ × ℕ) → JournalState → AccountsState = λ b xs n. pages b ts xs n in
+      let counted : List (ℕ × ℕ) → JournalState → List (ℕ × ℕ) = λ xs n. still_needed n.lists.ail xs in
+      let costs : List (ℕ × ℕ) = put f.number (cost l.form.ends f.items) before.landed in
+      ap (λ (x : Ledger). given x.size x.landed m) ledger
+      ∙ ap (λ o. given before.size (still_counted o (put number (flight_cost before.flight) before.landed)) m) first
+      ∙ ap (λ xs. given before.size xs m) (sym (still_is m.lists.ail (put number (flight_cost before.flight) before.landed)))
+      ∙ ap (λ k. given before.size (counted (put k (flight_cost before.flight) before.landed) m) m) (sym (some_same f.number number flying))
+      ∙ ap (λ o. given before.size (counted (put f.number (flight_cost o) before.landed) m) m) price
+      ∙ ap (λ (n : JournalState). given before.size (counted costs n) n) lists
 
-  pub landed_pages : (p : AccountsState) → q ≡ p → flight_number q.items.flight ≡ Some number → before.flight ≡ flight_of q.form.ends q.items.flight
-      → IfSome q.items.flight (λ f. m ≡ record { open_number = q.items.open_number; cil = q.items.cil; flight = None; ail = activated f.number f.items q.items.ail })
-      → IfSome p.items.flight (λ f. new_pages ≡ landed_in f p)
-  landed_pages p view flying price lists = subst (λ (x : AccountsState). IfSome x.items.flight (λ f. new_pages ≡ landed_in f x)) view (landed_by q.items.flight flying price lists)
+  pub landed_pages : (p : AccountsState) → old_pages ≡ p → flight_number l.lists.flight ≡ Some number → before.flight ≡ flight_of l.form.ends l.lists.flight
+      → IfSome l.lists.flight (λ f. m ≡ record l { lists = record l.lists { flight = None; ail = activated f.number f.items l.lists.ail } })
+      → IfSome p.items.flight (λ f. pages after.size ts after.landed m ≡ landed_in f p)
+  landed_pages p view flying price lists = subst (λ (x : AccountsState). IfSome x.items.flight (λ f. pages after.size ts after.landed m ≡ landed_in f x)) view (landed_by l.lists.flight flying price lists)
 
 -- ---- a flush
 -- blocks were written home
-module _ (form : Form) (ts : List (ℕ × Transaction)) (blocks : List ℕ) (l m : Lists) (before after : Ledger) (least : Option ℕ) where
-  pub cleaned_pages : (p : AccountsState) → record { log_bytes = before.size; form = form; transactions = ts; items = with_landed before.landed l } ≡ p → m ≡ without_blocks blocks l → after ≡ record before { landed = still_counted least before.landed }
-      → least ≡ least_number m.ail → record { log_bytes = after.size; form = form; transactions = ts; items = with_landed after.landed m } ≡ cleaned_in blocks p
+module _ (ts : List (ℕ × Transaction)) (blocks : List ℕ) (l m : JournalState) (before after : Ledger) (least : Option ℕ) where
+  pub cleaned_pages : (p : AccountsState) → pages before.size ts before.landed l ≡ p → m ≡ record l { lists = without_blocks blocks l.lists } → after ≡ record before { landed = still_counted least before.landed }
+      → least ≡ least_number m.lists.ail → pages after.size ts after.landed m ≡ cleaned_in blocks p
   cleaned_pages p view lists ledger first =
-      let given : ℕ → List (ℕ × ℕ) → Lists → AccountsState = λ b xs n. record { log_bytes = b; form = form; transactions = ts; items = with_landed xs n } in
-      ap (λ (x : Ledger). given x.size x.landed m) ledger
-      ∙ ap (λ o. given before.size (still_counted o before.landed) m) first
-      ∙ ap (λ xs. given before.size xs m) (sym (still_is m.ail before.landed))
-      ∙ ap (λ (n : Lists). given before.size (still_needed n.ail before.landed) n) lists
+      ap (λ (x : Ledger). pages x.size ts x.landed m) ledger
+      ∙ ap (λ o. pages before.size ts (still_counted o before.landed) m) first
+      ∙ ap (λ xs. pages before.size ts xs m) (sym (still_is m.lists.ail before.landed))
+      ∙ ap (λ (n : JournalState). pages before.size ts (still_needed n.lists.ail before.landed) n) lists
       ∙ ap (cleaned_in blocks) view

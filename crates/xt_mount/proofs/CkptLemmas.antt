@@ -69,18 +69,18 @@ pub same_count : (es : List (ℕ × List ℕ)) (items : List Item) → map entry
 same_count es items same = sym (length-map items (λ (i : Item). i.block)) ∙ sym (ap length same) ∙ length-map es entry_block
 
 landed_by : (s : State) (o : Option Flight) (number : ℕ) (owners : List (ℕ × Owner)) (accounts : AccountsState) (jobs : Jobs) (n : State) → flight_number o ≡ Some number
-    → owners ≡ filter (λ e. not (waits_on number e.1)) s.owners → IfSome o (λ f. accounts ≡ landed_in f (record { log_bytes = s.log_bytes; form = s.form; transactions = s.transactions; items = s.items })) → jobs ≡ record s.jobs { ckpt = None }
-    → n ≡ settled [] (record s { owners = owners; log_bytes = accounts.log_bytes; form = accounts.form; transactions = accounts.transactions; items = accounts.items; jobs = jobs }) → IfSome o (λ f. n ≡ landed [] f s)
+    → owners ≡ filter (λ e. not (waits_on number e.1)) s.owners → IfSome o (λ f. accounts ≡ landed_in f (record { log_bytes = s.log_bytes; form = s.form; transactions = s.transactions; items = s.items; frames = s.frames; shut = s.shut })) → jobs ≡ record s.jobs { ckpt = None }
+    → n ≡ settled [] (record s { owners = owners; log_bytes = accounts.log_bytes; form = accounts.form; transactions = accounts.transactions; items = accounts.items; frames = accounts.frames; shut = accounts.shut; jobs = jobs }) → IfSome o (λ f. n ≡ landed [] f s)
 landed_by s None number owners accounts jobs n flying freed listed done is = tt
 landed_by s (Some f) number owners accounts jobs n flying freed listed done is =
-    is ∙ ap (λ x. settled [] (record s { owners = x; log_bytes = accounts.log_bytes; form = accounts.form; transactions = accounts.transactions; items = accounts.items; jobs = jobs })) (freed ∙ ap (λ k. filter (λ e. not (waits_on k e.1)) s.owners) (sym (some_same f.number number flying)))
-    ∙ ap (λ (x : AccountsState). settled [] (record s { owners = filter (λ e. not (waits_on f.number e.1)) s.owners; log_bytes = x.log_bytes; form = x.form; transactions = x.transactions; items = x.items; jobs = jobs })) listed
+    is ∙ ap (λ x. settled [] (record s { owners = x; log_bytes = accounts.log_bytes; form = accounts.form; transactions = accounts.transactions; items = accounts.items; frames = accounts.frames; shut = accounts.shut; jobs = jobs })) (freed ∙ ap (λ k. filter (λ e. not (waits_on k e.1)) s.owners) (sym (some_same f.number number flying)))
+    ∙ ap (λ (x : AccountsState). settled [] (record s { owners = filter (λ e. not (waits_on f.number e.1)) s.owners; log_bytes = x.log_bytes; form = x.form; transactions = x.transactions; items = x.items; frames = x.frames; shut = x.shut; jobs = jobs })) listed
     ∙ ap (λ x. settled [] (record s { owners = filter (λ e. not (waits_on f.number e.1)) s.owners; items = landed_items s.form.ends f s.items; jobs = x })) done
 
 -- the flight of this number has landed
 pub landed_is : (s : State) (number : ℕ) (owners : List (ℕ × Owner)) (accounts : AccountsState) (jobs : Jobs) (n : State) → flight_number s.items.flight ≡ Some number
-    → owners ≡ filter (λ e. not (waits_on number e.1)) s.owners → IfSome s.items.flight (λ f. accounts ≡ landed_in f (record { log_bytes = s.log_bytes; form = s.form; transactions = s.transactions; items = s.items })) → jobs ≡ record s.jobs { ckpt = None }
-    → n ≡ settled [] (record s { owners = owners; log_bytes = accounts.log_bytes; form = accounts.form; transactions = accounts.transactions; items = accounts.items; jobs = jobs }) → IfSome s.items.flight (λ f. n ≡ landed [] f s)
+    → owners ≡ filter (λ e. not (waits_on number e.1)) s.owners → IfSome s.items.flight (λ f. accounts ≡ landed_in f (record { log_bytes = s.log_bytes; form = s.form; transactions = s.transactions; items = s.items; frames = s.frames; shut = s.shut })) → jobs ≡ record s.jobs { ckpt = None }
+    → n ≡ settled [] (record s { owners = owners; log_bytes = accounts.log_bytes; form = accounts.form; transactions = accounts.transactions; items = accounts.items; frames = accounts.frames; shut = accounts.shut; jobs = jobs }) → IfSome s.items.flight (λ f. n ≡ landed [] f s)
 landed_is s number owners accounts jobs n flying freed listed done is = landed_by s s.items.flight number owners accounts jobs n flying freed listed done is
 
 -- what a landing finds

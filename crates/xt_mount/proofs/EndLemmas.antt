@@ -1,10 +1,9 @@
 -- The end of a leg, and what its transaction answers.
-use Rattle.std.proofs.Common.{◌≡◌, ◌∙◌, ◌+◌, ◌≤◌, length, Bool, IfSome, List, MatchOption, None, Option, Some, [], ap, false, arith, if◌then◌else◌, not, refl, subst, sym, true, ◌∷◌, ℕ}
+use Rattle.std.proofs.Common.{◌≡◌, ◌∙◌, Bool, IfSome, List, Option, Some, None, [], ap, false, if◌then◌else◌, not, refl, subst, sym, true, ◌∷◌, ℕ}
 use Rattle.std.specs.List.{cons_option}
 use Rattle.std.specs.Prelude.{filter_map, option_map}
 use Rattle.xt_base.specs.Calls.{cancel, closed, gives, held_of, okay_of, shut_if, with_trans}
-use Rattle.xt_base.specs.Legs.{aborted, is_dirty, is_stale, owned_by, owner_aborted, owner_after, with_edit}
-use Rattle.xt_base.proofs.MapLemmas.{length_put_le, length_without_le}
+use Rattle.xt_base.specs.Legs.{aborted, is_dirty, is_stale, owned_by, owner_aborted, owner_after}
 use Rattle.xt_base.specs.Maps.{at, has}
 use Rattle.xt_base.specs.Settle.{settled}
 use Rattle.xt_base.specs.State.{Leg, State, Transaction}
@@ -14,10 +13,6 @@ use Rattle.xt_base.specs.declared.steps.Reason.TheVariants.{CorruptIncore}
 use Rattle.xt_base.specs.declared.steps.Reply.{Reply}
 use Rattle.xt_locks.specs.Locking.{passed}
 use Rattle.xt_mount.specs.Ending.{owner_kept, owner_left}
-
--- a fact of what was taken
-pub taken : {X : Type 0} (o : Option X) (P : Type 0) (Q : X → Type 0) (e : X) → o ≡ Some e → MatchOption o P Q → Q e
-taken o P Q e is h = subst (λ x. MatchOption x P Q) is h
 
 -- a fact of the value that is there
 pub if_some : {A : Type 0} (o : Option A) (P : A → Type 0) (x : A) → Some x ≡ o → P x → IfSome o P
@@ -65,11 +60,6 @@ module _ (s : State) (t : ℕ) (trans : Transaction) (there : Some trans ≡ at 
       ∙ ap (shut_if (is_dirty trans.leg) CorruptIncore) (some_if (at t s.transactions) (λ u. mid ≡ closed t (aborted t u.leg s)) trans there ends)))
       ∙ ap (λ r. gives r (settled [] (shut_if (is_dirty trans.leg) CorruptIncore (closed t (aborted t trans.leg s))))) (says ∙ ap okay_of named)
       ∙ ap (λ o. with_trans o s (cancel [] t s)) there
-
--- a content more or less
-pub length_with_edit : (b : ℕ) (edit : Option (List ℕ)) (m : List (ℕ × List ℕ)) → length (with_edit b edit m) ≤ length m + 1
-length_with_edit b None m = omega (arith, length_without_le b m)
-length_with_edit b (Some content) m = length_put_le b content m
 
 -- ---- a transaction by its number
 -- what is there under a number is there under the same one

@@ -1,24 +1,29 @@
--- A accounts: the size of the log, the form of the mount, the open transactions, and the item lists.
-use Rattle.std.specs.Prelude.{ℕ, List, [], None, Some, ◌+◌, sum_by}
+-- Accounts: the size of the log, the form of the mount, the open transactions, the item lists and the contents, and why the mount is shut, if it is.
+use Rattle.std.specs.Prelude.{ℕ, List, [], None, Option, Some, ◌+◌, sum_by}
 use Rattle.xt_base.specs.Form.{Form}
 use Rattle.xt_base.specs.Jobs.{cleaned, landed_items}
-use Rattle.xt_base.specs.Legs.{clean_leg, with_marks}
+use Rattle.xt_base.specs.Legs.{clean_leg, with_edits, with_marks}
 use Rattle.xt_base.specs.Maps.{put, set_at, without}
 use Rattle.xt_base.specs.Space.{cost, flight_items, granted}
-use Rattle.xt_base.specs.State.{Flight, Items, Leg, Transaction}
+use Rattle.xt_base.specs.State.{Flight, Frames, Items, Leg, Transaction}
+use Rattle.xt_base.specs.declared.steps.Reason.{Reason}
+use Rattle.xt_frames.specs.Contents.{no_frames}
 use Rattle.xt_items.specs.Lists.{Lists}
+use Rattle.xt_journal.specs.Keeping.{leg_lost}
 use Rattle.xt_resv.specs.Ledgers.{Grant}
 
--- the log bytes, the form, the open transactions by number, and the lists
+-- the log bytes, the form, the open transactions by number, the lists, the contents, and why the mount is shut
 pub record AccountsState : Type 0 where
   pub log_bytes : ℕ
   pub form : Form
   pub transactions : List (ℕ × Transaction)
   pub items : Items
+  pub frames : Frames
+  pub shut : Option Reason
 
--- a accounts of which nothing is in use
+-- accounts of which nothing is in use
 abbrev pub no_accounts : ℕ → Form → AccountsState
-no_accounts log_bytes form = record { log_bytes = log_bytes; form = form; transactions = []; items = record { open_number = 1; cil = []; flight = None; ail = []; landed = [] } }
+no_accounts log_bytes form = record { log_bytes = log_bytes; form = form; transactions = []; items = record { open_number = 1; cil = []; flight = None; ail = []; landed = [] }; frames = no_frames; shut = None }
 
 -- the log bytes in use
 abbrev pub used_in : AccountsState → ℕ
@@ -40,9 +45,16 @@ releg t trans leg j = record j { transactions = set_at t (record trans { leg = l
 abbrev pub closed_in : ℕ → AccountsState → AccountsState
 closed_in t j = record j { transactions = without t j.transactions }
 
--- the marks of its leg are joined to the commit list
-abbrev pub marked_in : Transaction → AccountsState → AccountsState
-marked_in trans j = record j { items = record j.items { cil = with_marks trans.leg.changes j.items.cil } }
+-- the edits of its leg are committed, and its marks are joined to the commit list
+abbrev pub kept_in : Transaction → AccountsState → AccountsState
+kept_in trans j = record j {
+  items = record j.items { cil = with_marks trans.leg.changes j.items.cil };
+  frames = record j.frames { committed = with_edits trans.leg.changes j.frames.committed };
+}
+
+-- its leg is given up
+abbrev pub lost_in : Transaction → AccountsState → AccountsState
+lost_in trans j = record j { frames = leg_lost trans.leg j.frames }
 
 -- a clean leg with so many legs left
 abbrev pub legs_in : ℕ → ℕ → Transaction → AccountsState → AccountsState

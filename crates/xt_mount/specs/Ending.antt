@@ -1,11 +1,10 @@
--- The end of a leg, part by part.
-use Rattle.std.specs.Prelude.{Bool, List, None, Option, Some, filter, if◌then◌else◌, not, ◌∷◌, ℕ}
-use Rattle.xt_base.specs.Legs.{is_lost, is_stale, with_edits, with_lost, with_marks}
-use Rattle.xt_base.specs.Maps.{has, with_member}
-use Rattle.xt_base.specs.State.{Change, Frames, Leg}
+-- Who has a block where a leg has ended.
+use Rattle.std.specs.Prelude.{None, Option, Some, if◌then◌else◌, ℕ}
+use Rattle.xt_base.specs.Legs.{is_stale}
+use Rattle.xt_base.specs.Maps.{has}
+use Rattle.xt_base.specs.State.{Leg}
 use Rattle.xt_base.specs.declared.steps.Owner.{Owner}
 use Rattle.xt_base.specs.declared.steps.Owner.TheVariants.{Held, Stale}
-use Rattle.xt_items.specs.Lists.{Lists}
 
 -- who has a block of a leg that was committed
 abbrev pub owner_left : Leg → ℕ → ℕ → Option Owner
@@ -14,35 +13,3 @@ owner_left leg number b = if is_stale b leg then Some (Stale number) else (if ha
 -- who has a block of a leg that was given up
 abbrev pub owner_kept : Leg → ℕ → Option Owner
 owner_kept leg b = if has leg.holds b then Some Held else None
-
--- the frames with the edits of a leg
-abbrev pub edits_kept : List (ℕ × Change) → Frames → Frames
-edits_kept cs f = record f { committed = with_edits cs f.committed }
-
--- the commit list with the marks of a leg
-abbrev pub marks_kept : List (ℕ × Change) → Lists → Lists
-marks_kept cs l = record l { cil = with_marks cs l.cil }
-
--- whether a block keeps its content where a leg is given up
-abbrev pub is_saved : Leg → ℕ → Bool
-is_saved leg b = not (is_lost leg b)
-
--- the frames without the contents that a leg lost
-abbrev pub contents_lost : Leg → Frames → Frames
-contents_lost leg f = record f { committed = filter (λ e. is_saved leg e.0) f.committed }
-
--- the fresh blocks with one more, where it is held
-abbrev pub lost_with : List ℕ → ℕ → List ℕ → List ℕ
-lost_with holds b fresh = if has holds b then with_member b fresh else fresh
-
--- the frames with the blocks fresh that a leg lost
-abbrev pub fresh_lost : List (ℕ × Change) → Leg → Frames → Frames
-fresh_lost cs leg f = record f { fresh = with_lost cs leg f.fresh }
-
--- the frames after a leg was given up
-abbrev pub leg_lost : Leg → Frames → Frames
-leg_lost leg f = fresh_lost leg.changes leg (contents_lost leg f)
-
--- a leg with one more change before the others
-abbrev pub with_first : ℕ × Change → Leg → Leg
-with_first e leg = record leg { changes = e ∷ leg.changes }

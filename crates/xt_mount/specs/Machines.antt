@@ -11,14 +11,14 @@ state_of m = record {
   log_bytes = m.accounts.log_bytes;
   blocks = m.blocks;
   form = m.accounts.form;
-  frames = m.frames;
+  frames = m.accounts.frames;
   owners = m.locks;
   transactions = m.accounts.transactions;
   last_trans = m.last_trans;
   items = m.accounts.items;
   jobs = m.jobs.jobs;
   frozen = m.frozen;
-  shut = m.shut;
+  shut = m.accounts.shut;
 }
 
 -- the mount is still of its slot, and of its life

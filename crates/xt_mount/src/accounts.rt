@@ -1,20 +1,22 @@
-//! The accounts of a mount: its open transactions with their tickets, its item lists, and the log space that both use.
+//! The accounts of a mount: its open transactions with their tickets, its journal, and the log space that both use.
 
-ghost use Rattle.std.specs.Prelude.{◌≡◌, ◌+◌, ◌*◌, ◌≤◌, ◌<◌, ◌||◌, ◌++◌, [], Some, None, false, true, is_none, is_some, length, nat_le, nat_lt, not, ◌==◌, IfOk, IfSome, OnOk, OnErr, option_copied};
-ghost use Rattle.xt_base.specs.Calls.{edited, invalidated, legs_after, new_trans, without_hold};
+ghost use Rattle.std.specs.Prelude.{◌≡◌, ◌+◌, ◌*◌, ◌≤◌, ◌<◌, ◌||◌, ◌++◌, [], Some, None, false, true, is_none, is_some, length, nat_le, nat_lt, not, ◌==◌, IfErr, IfOk, IfSome, OnOk, OnErr, option_copied};
+ghost use Rattle.xt_base.specs.Calls.{edited, invalidated, legs_after, new_trans, shut_for, without_hold};
 ghost use Rattle.xt_base.specs.Jobs.{fits_plan, flight_pieces, gone};
 ghost use Rattle.xt_base.specs.Legs.{clean_leg, with_marks};
-ghost use Rattle.xt_base.specs.Maps.{at, has, is_in, with_member};
+ghost use Rattle.xt_base.specs.Maps.{at, has, is_in, put, with_member, without, without_member};
 ghost use Rattle.xt_base.specs.Sound.{AllBelow, IsRising};
 ghost use Rattle.xt_base.specs.Space.{charge, cost, flight_items, granted, is_listed};
-ghost use Rattle.xt_mount.specs.Ending.{edits_kept, leg_lost};
-ghost use Rattle.xt_mount.specs.Accounts.{cleaned_in, closed_in, flown_in, landed_in, legs_in, lists_in, marked_in, no_accounts, opened_in, releg, used_in};
+ghost use Rattle.xt_frames.specs.Contents.{brought_in};
+ghost use Rattle.xt_frames.specs.Settling.{AreOthersBusy, settled_by};
+ghost use Rattle.xt_frames.specs.Shares.{no_contents};
+ghost use Rattle.xt_mount.specs.Accounts.{cleaned_in, closed_in, flown_in, kept_in, landed_in, legs_in, lists_in, lost_in, no_accounts, opened_in, releg, used_in};
+ghost use Rattle.xt_mount.specs.Settling.{is_busy_in};
 ghost use Rattle.xt_items.specs.Lists.{flight_number};
 ghost use Rattle.xt_items.specs.Plans.{due, planned};
 ghost use Rattle.xt_resv.specs.Ledgers.{is_invalid, is_no_room};
 ghost use Rattle.xt_resv.specs.Mounts.{grant_of, ledger};
 
-use crate::leg_end::{keep_changes, lose_leg};
 use crate::open_trans::OpenTrans;
 use bytes::Bytes;
 use std::alloc::{AllocError, Global};
@@ -23,24 +25,25 @@ use xt_base::chunks::Chunks;
 use xt_base::content::Content;
 use xt_base::form::Form;
 use xt_base::map::NumberMap;
-use xt_base::names::{Block, CkptNo};
+use xt_base::names::{Block, CkptNo, Slot};
 use xt_base::sizes::{MOST_LOG, ROOM};
-use xt_base::steps::HomeAnswers;
+use xt_base::steps::{HomeAnswers, Reason};
 use xt_frames::frames::Frames;
+use xt_frames::share::FrameShare;
 use xt_items::items::Items;
 use xt_items::plan::FlushPlan;
+use xt_journal::journal::Journal;
 use xt_locks::locks::Locks;
 use xt_resv::space::LogSpace;
 use xt_trans::trans::TransRec;
 
-/// The open transactions of a mount, its item lists, and its log space, which has what both use: what each ticket was
-/// granted, and what each list costs. Clauses see the transactions and the lists.
+/// The open transactions of a mount, its journal, and its log space, which has what both use: what each ticket was
+/// granted, and what each list costs. Clauses see the transactions, and the lists and contents of the journal.
 #[derive(Debug)]
 pub struct Accounts {
     transactions: NumberMap<OpenTrans>,
-    items: Items,
+    journal: Journal,
     space: LogSpace,
-    form: Form,
     /// The leg of a transaction that ended, for a later one.
     spare: Option<TransRec>,
 }
@@ -54,18 +57,24 @@ impl Model for Accounts {
 
     ghost Value = { AccountsState };
 
-    ghost view = { λ j. record { log_bytes = j.space.size; form = j.form; transactions = j.transactions; items = with_landed j.space.landed j.items } };
+    ghost view = { λ j. record {
+      log_bytes = j.space.size;
+      form = j.journal.form;
+      transactions = j.transactions;
+      items = with_landed j.space.landed j.journal.lists;
+      frames = j.journal.frames;
+      shut = j.journal.shut;
+    } };
 
-    ghost invariant = { λ j. (j.space.granted ≡ granted j.transactions) × (j.space.cil ≡ cost j.form.ends j.items.cil) × (j.space.flight ≡ flight_of j.form.ends j.items.flight) };
+    ghost invariant = { λ j. (j.space.granted ≡ granted j.transactions) × (j.space.cil ≡ cost j.journal.form.ends j.journal.lists.cil) × (j.space.flight ≡ flight_of j.journal.form.ends j.journal.lists.flight) };
 }
 
 impl Drop for Accounts {
     fn drop(self) {
         let Accounts {
             mut transactions,
-            items: _items,
+            journal: _journal,
             mut space,
-            form: _form,
             spare: _spare,
         } = self;
         give_all_back(&mut transactions, &mut space);
@@ -98,21 +107,49 @@ fn clean_leg_of(spare: &mut Option<TransRec>, alloc: Global) -> Result<TransRec,
 }
 
 impl Accounts {
-    /// A accounts of a log of so many bytes, at most 16,777,216, of which nothing is in use, in a mount of this form. The one
-    /// error is want of memory.
-    pub fn new(alloc: Global, form: Form, log_bytes: u32) -> Result<Self, AllocError>
-        requires { log_bytes ≤ MOST_LOG }
-        ensures { IfOk result (λ accounts. accounts ≡ no_accounts log_bytes form) }
+    /// The accounts of a log of so many bytes, at most 16,777,216, of which nothing is in use, in a mount of this form, with the frames
+    /// of a share that has no contents. Where memory is refused the share is handed back.
+    pub fn over(
+        alloc: Global,
+        form: Form,
+        log_bytes: u32,
+        share: FrameShare,
+    ) -> Result<Self, FrameShare>
+        requires log { log_bytes ≤ MOST_LOG }
+        requires empty { share ≡ no_contents share.slot }
+        ensures ok { IfOk result (λ accounts. accounts ≡ no_accounts log_bytes form) }
+        ensures back { IfErr result (λ back. back ≡ share) }
     {
-        let items = Items::new(alloc)?;
-        let transactions = NumberMap::new(alloc)?;
-        Ok(Accounts {
-            transactions,
-            items,
-            space: LogSpace::new(alloc, log_bytes),
-            form,
-            spare: None,
-        })
+        let Ok(transactions) = NumberMap::new(alloc) else {
+            return Err(share);
+        };
+        match Journal::over(alloc, form, share) {
+            Ok(journal) => Ok(Accounts {
+                transactions,
+                journal,
+                space: LogSpace::new(alloc, log_bytes),
+                spare: None,
+            }),
+            Err(share) => {
+                transactions.destroy_empty();
+                Err(share)
+            }
+        }
+    }
+
+    /// All open transactions end, and the frames go back into a share of their slot, without contents. It takes no memory.
+    pub fn into_share(self, slot: Slot) -> FrameShare
+        ensures { result ≡ no_contents slot }
+    {
+        let Accounts {
+            mut transactions,
+            journal,
+            mut space,
+            spare: _spare,
+        } = self;
+        give_all_back(&mut transactions, &mut space);
+        transactions.destroy_empty();
+        journal.into_share(slot)
     }
 
     // ---- what it has
@@ -127,7 +164,28 @@ impl Accounts {
     pub fn form(&self) -> Form
         ensures { result ≡ self.now.form }
     {
-        self.form
+        self.journal.form()
+    }
+
+    /// The contents.
+    pub fn frames(&self) -> &Frames
+        ensures { result.now ≡ self.now.frames }
+    {
+        self.journal.frames()
+    }
+
+    /// Why the mount is shut, if it is.
+    pub fn shut(&self) -> Option<Reason>
+        ensures { result ≡ self.now.shut }
+    {
+        self.journal.shut()
+    }
+
+    /// The item lists.
+    fn items(&self) -> &Items
+        ensures { result.now ≡ lists_in self.now }
+    {
+        self.journal.items()
     }
 
     /// The open transaction of a number.
@@ -162,7 +220,7 @@ impl Accounts {
     pub fn open_number(&self) -> CkptNo
         ensures { result ≡ self.now.items.open_number }
     {
-        CkptNo(self.items.open_number())
+        CkptNo(self.items().open_number())
     }
 
     /// The committed items, by rising block.
@@ -170,7 +228,7 @@ impl Accounts {
         ensures value { result.now ≡ self.now.items.cil }
         ensures small { length result.now ≤ ROOM }
     {
-        self.items.cil()
+        self.items().cil()
     }
 
     /// The active list: each block with the number of its checkpoint.
@@ -178,7 +236,7 @@ impl Accounts {
         ensures value { result.now ≡ self.now.items.ail }
         ensures small { length result.now ≤ ROOM }
     {
-        self.items.ail()
+        self.items().ail()
     }
 
     /// The items in flight, by rising block.
@@ -186,58 +244,49 @@ impl Accounts {
         ensures some { IfSome result (λ items. (items.now ≡ flight_items self.now.items.flight) × (length items.now ≤ ROOM)) }
         ensures none { is_some result ≡ is_some self.now.items.flight }
     {
-        self.items.flight_items()
+        self.items().flight_items()
     }
 
     /// Whether a block is on the commit list.
     pub fn is_committed(&self, block: u64) -> bool
         ensures { result ≡ is_in block self.now.items.cil }
     {
-        self.items.is_committed(block)
+        self.items().is_committed(block)
     }
 
     /// Whether a block is in flight.
     pub fn is_in_flight(&self, block: u64) -> bool
         ensures { result ≡ is_in block (flight_items self.now.items.flight) }
     {
-        self.items.is_in_flight(block)
+        self.items().is_in_flight(block)
     }
 
     /// Whether a block is on a list.
     pub fn is_listed(&self, block: u64) -> bool
         ensures { result ≡ is_listed self.now.items block }
     {
-        self.items.is_listed(block)
-    }
-
-    /// Whether a block is on a list, for blocks that are asked in rising order: `near` is where to look first on the active
-    /// list, and then where to look first for the next block.
-    #[inline(always)]
-    pub fn is_listed_near(&self, near: &mut usize, block: u64) -> bool
-        ensures { result ≡ is_listed self.now.items block }
-    {
-        self.items.is_listed_near(near, block)
+        self.items().is_listed(block)
     }
 
     /// Whether a checkpoint is in flight.
     pub fn is_flying(&self) -> bool
         ensures { result ≡ is_some self.now.items.flight }
     {
-        self.items.is_flying()
+        self.items().is_flying()
     }
 
     /// The number of the checkpoint in flight.
     pub fn flight_number(&self) -> Option<CkptNo>
         ensures { result ≡ flight_number self.now.items.flight }
     {
-        Some(CkptNo(self.items.flight_number()?))
+        Some(CkptNo(self.items().flight_number()?))
     }
 
     /// The pieces of the flight's text; none where nothing is in flight.
     pub fn pieces(&self) -> &[Bytes]
         ensures { result.now ≡ flight_pieces self.now.items.flight }
     {
-        self.items.pieces()
+        self.items().pieces()
     }
 
     /// What each landed checkpoint costs that still counts, by its number: the older ones, and then the younger ones.
@@ -278,7 +327,7 @@ impl Accounts {
         requires paid { cost self.now.form.ends (with_marks opened.now.leg.changes self.now.items.cil) ≤ cost self.now.form.ends self.now.items.cil + opened.now.unit }
         ensures { result ≡ is_no_room (grant_of opened.now) (cost self.now.form.ends (with_marks opened.now.leg.changes self.now.items.cil)) (ledger self.now.form.ends self.now.log_bytes self.now.transactions self.now.items) }
     {
-        let cost = opened.leg().cost_with(self.form, self.items.list());
+        let cost = opened.leg().cost_with(self.form(), self.items().list());
         self.space.is_no_room(opened.ticket(), cost)
     }
 
@@ -319,7 +368,7 @@ impl Accounts {
         requires fits { IfSome (at trans self.old.transactions) (λ t. charge self.old.form.ends (edited block [] marked t.leg).changes ≤ t.unit) }
         ensures { IfSome (at trans self.old.transactions) (λ t. self.new ≡ releg trans t (edited block edit marked t.leg) self.old) }
     {
-        let form = self.form;
+        let form = self.journal.form();
         let opened = self.transactions.value_mut(trans);
         opened.log(form, block, edit, marked);
     }
@@ -332,7 +381,7 @@ impl Accounts {
         requires fits { IfSome (at trans self.old.transactions) (λ t. charge self.old.form.ends (invalidated block t.leg).changes ≤ t.unit) }
         ensures { IfSome (at trans self.old.transactions) (λ t. self.new ≡ releg trans t (invalidated block t.leg) self.old) }
     {
-        let form = self.form;
+        let form = self.journal.form();
         let opened = self.transactions.value_mut(trans);
         opened.inval(form, block);
     }
@@ -358,69 +407,120 @@ impl Accounts {
         opened.unhold(block);
     }
 
+    // ---- contents
+    /// A block becomes busy: with its idle content, or fresh. It takes no memory.
+    pub fn bring(&mut self, block: u64)
+        requires committed { length self.old.frames.committed < ROOM }
+        requires fresh { length self.old.frames.fresh < ROOM }
+        ensures { self.new ≡ record self.old { frames = brought_in block (at block self.old.frames.idle) self.old.frames } }
+    {
+        self.journal.bring(block);
+    }
+
+    /// A block becomes busy, with this content. It takes no memory.
+    pub fn bring_content(&mut self, block: u64, content: Content)
+        requires { length self.old.frames.committed < ROOM }
+        ensures { self.new ≡ record self.old { frames = record self.old.frames { committed = put block content self.old.frames.committed; idle = without block self.old.frames.idle } } }
+    {
+        self.journal.bring_content(block, content);
+    }
+
+    /// A block is fresh no more.
+    pub fn leave_fresh(&mut self, block: u64)
+        ensures { self.new ≡ record self.old { frames = record self.old.frames { fresh = without_member block self.old.frames.fresh } } }
+    {
+        self.journal.leave_fresh(block);
+    }
+
+    /// A content that was replaced and that nobody needs any more, if there is one: a copy may take its place.
+    pub fn take_spare(&mut self) -> Option<Content>
+        ensures { self.new ≡ self.old }
+    {
+        self.journal.take_spare()
+    }
+
+    /// Contents of blocks that are no longer locked, held or on a list go, on a live mount to the front of the idle list,
+    /// ascending by block; their fresh marks go. It takes no memory.
+    pub fn settle(&mut self, locks: &Locks)
+        ensures { self.new ≡ record self.old { frames = settled_by (is_busy_in locks.now self.old.items) (is_none self.old.shut) self.old.frames } }
+    {
+        self.journal.settle(locks);
+    }
+
+    /// The same where only one block may not be busy any more: nothing is asked of the others.
+    pub fn settle_block(&mut self, locks: &Locks, block: u64)
+        requires rising { IsRising self.old.frames.committed }
+        requires others { AreOthersBusy (is_busy_in locks.now self.old.items) block self.old.frames }
+        ensures { self.new ≡ record self.old { frames = settled_by (is_busy_in locks.now self.old.items) (is_none self.old.shut) self.old.frames } }
+    {
+        self.journal.settle_block(locks, block);
+    }
+
+    /// Shuts the mount, for this reason if it was live.
+    pub fn shut_down(&mut self, reason: Reason)
+        ensures { self.new ≡ record self.old { shut = shut_for reason self.old.shut } }
+    {
+        self.journal.shut_down(reason);
+    }
+
     // ---- ends of legs
     /// A transaction ends, and its leg is committed: its edits are the committed contents, and its marks are joined to the
     /// commit list. It takes no memory.
-    pub fn commit(&mut self, trans: u64, frames: &mut Frames)
+    pub fn commit(&mut self, trans: u64)
         requires there { is_in trans self.old.transactions ≡ true }
-        requires contents { IfSome (at trans self.old.transactions) (λ t. length frames.old.committed + length t.leg.changes ≤ ROOM) }
+        requires contents { IfSome (at trans self.old.transactions) (λ t. length self.old.frames.committed + length t.leg.changes ≤ ROOM) }
         requires list { IfSome (at trans self.old.transactions) (λ t. length self.old.items.cil + length t.leg.changes ≤ ROOM) }
         requires paid { IfSome (at trans self.old.transactions) (λ t. cost self.old.form.ends (with_marks t.leg.changes self.old.items.cil) ≤ cost self.old.form.ends self.old.items.cil + t.unit * t.legs) }
-        ensures accounts { IfSome (at trans self.old.transactions) (λ t. self.new ≡ closed_in trans (marked_in t self.old)) }
-        ensures frames { IfSome (at trans self.old.transactions) (λ t. frames.new ≡ edits_kept t.leg.changes frames.old) }
+        ensures { IfSome (at trans self.old.transactions) (λ t. self.new ≡ closed_in trans (kept_in t self.old)) }
     {
         let Some(opened) = self.transactions.remove(trans) else {
             unreachable!();
         };
         let (ticket, mut leg) = opened.into_parts();
-        keep_changes(frames, &mut self.items, &mut leg);
+        self.journal.keep_changes(&mut leg);
         self.spare = Some(leg);
-        self.space.commit(ticket, self.items.cil_cost(self.form));
+        self.space.commit(ticket, self.journal.cil_cost());
     }
 
     /// A leg is committed, and the next one of its transaction begins. It takes no memory.
-    pub fn roll(&mut self, trans: u64, frames: &mut Frames)
+    pub fn roll(&mut self, trans: u64)
         requires there { is_in trans self.old.transactions ≡ true }
         requires rising { IsRising self.old.transactions }
-        requires contents { IfSome (at trans self.old.transactions) (λ t. length frames.old.committed + length t.leg.changes ≤ ROOM) }
+        requires contents { IfSome (at trans self.old.transactions) (λ t. length self.old.frames.committed + length t.leg.changes ≤ ROOM) }
         requires list { IfSome (at trans self.old.transactions) (λ t. length self.old.items.cil + length t.leg.changes ≤ ROOM) }
         requires legs { IfSome (at trans self.old.transactions) (λ t. 1 ≤ t.legs) }
         requires paid { IfSome (at trans self.old.transactions) (λ t. cost self.old.form.ends (with_marks t.leg.changes self.old.items.cil) ≤ cost self.old.form.ends self.old.items.cil + t.unit) }
         requires room { IfSome (at trans self.old.transactions) (λ t. is_no_room (grant_of t) (cost self.old.form.ends (with_marks t.leg.changes self.old.items.cil)) (ledger self.old.form.ends self.old.log_bytes self.old.transactions self.old.items) ≡ false) }
-        ensures accounts { IfSome (at trans self.old.transactions) (λ t. self.new ≡ legs_in trans (legs_after t.legs) t (marked_in t self.old)) }
-        ensures frames { IfSome (at trans self.old.transactions) (λ t. frames.new ≡ edits_kept t.leg.changes frames.old) }
+        ensures { IfSome (at trans self.old.transactions) (λ t. self.new ≡ legs_in trans (legs_after t.legs) t (kept_in t self.old)) }
     {
-        let form = self.form;
         let opened = self.transactions.value_mut(trans);
-        opened.roll(form, frames, &mut self.items, &mut self.space);
+        opened.roll(&mut self.journal, &mut self.space);
     }
 
     /// A transaction ends, and its leg is given up. It takes no memory.
-    pub fn cancel(&mut self, trans: u64, frames: &mut Frames)
+    pub fn cancel(&mut self, trans: u64)
         requires there { is_in trans self.old.transactions ≡ true }
-        requires fresh { IfSome (at trans self.old.transactions) (λ t. length frames.old.fresh + length t.leg.changes ≤ ROOM) }
-        ensures accounts { IfSome (at trans self.old.transactions) (λ t. self.new ≡ closed_in trans self.old) }
-        ensures frames { IfSome (at trans self.old.transactions) (λ t. frames.new ≡ leg_lost t.leg frames.old) }
+        requires fresh { IfSome (at trans self.old.transactions) (λ t. length self.old.frames.fresh + length t.leg.changes ≤ ROOM) }
+        ensures { IfSome (at trans self.old.transactions) (λ t. self.new ≡ closed_in trans (lost_in t self.old)) }
     {
         let Some(opened) = self.transactions.remove(trans) else {
             unreachable!();
         };
         let (ticket, mut leg) = opened.into_parts();
-        lose_leg(frames, &mut leg);
+        self.journal.lose_leg(&mut leg);
         self.spare = Some(leg);
         self.space.give_back(ticket);
     }
 
     /// A leg is given up, and its transaction stays with no leg left. It takes no memory.
-    pub fn give_up(&mut self, trans: u64, frames: &mut Frames)
+    pub fn give_up(&mut self, trans: u64)
         requires there { is_in trans self.old.transactions ≡ true }
         requires rising { IsRising self.old.transactions }
-        requires fresh { IfSome (at trans self.old.transactions) (λ t. length frames.old.fresh + length t.leg.changes ≤ ROOM) }
-        ensures accounts { IfSome (at trans self.old.transactions) (λ t. self.new ≡ legs_in trans 0 t self.old) }
-        ensures frames { IfSome (at trans self.old.transactions) (λ t. frames.new ≡ leg_lost t.leg frames.old) }
+        requires fresh { IfSome (at trans self.old.transactions) (λ t. length self.old.frames.fresh + length t.leg.changes ≤ ROOM) }
+        ensures { IfSome (at trans self.old.transactions) (λ t. self.new ≡ legs_in trans 0 t (lost_in t self.old)) }
     {
         let opened = self.transactions.value_mut(trans);
-        opened.give_up(frames, &mut self.space);
+        opened.give_up(&mut self.journal, &mut self.space);
     }
 
     // ---- checkpoints
@@ -432,9 +532,9 @@ impl Accounts {
         ensures ok { OnOk result (self.new ≡ flown_in pieces.items self.old) }
         ensures err { OnErr result (self.new ≡ self.old) }
     {
-        let next = self.items.next_list(alloc)?;
+        let next = self.journal.next_list(alloc)?;
         self.space.fly()?;
-        self.items.fly(next, pieces);
+        self.journal.fly(next, pieces);
         Ok(())
     }
 
@@ -444,9 +544,9 @@ impl Accounts {
         requires room { length self.old.items.ail + length (flight_items self.old.items.flight) ≤ ROOM }
         ensures { IfSome self.old.items.flight (λ f. self.new ≡ landed_in f self.old) }
     {
-        if let Some(number) = self.items.flight_number() {
-            self.items.land();
-            self.space.land(number, self.items.least());
+        if let Some(number) = self.journal.items().flight_number() {
+            self.journal.land();
+            self.space.land(number, self.journal.items().least());
         }
     }
 
@@ -454,7 +554,7 @@ impl Accounts {
     pub fn fail(&mut self)
         ensures { self.new ≡ record self.old { items = record self.old.items { flight = None } } }
     {
-        self.items.fail();
+        self.journal.fail();
         self.space.fail();
     }
 
@@ -464,14 +564,14 @@ impl Accounts {
     pub fn flush_plan(&self, locks: &Locks) -> FlushPlan
         ensures { result ≡ planned (λ b. is_in b locks.now) (lists_in self.now) }
     {
-        self.items.flush_plan(&|block| is_owned(locks, block))
+        self.items().flush_plan(&|block| is_owned(locks, block))
     }
 
     /// Whether a flush has something to write.
     pub fn has_due(&self, locks: &Locks) -> bool
         ensures { result ≡ not (length (due (λ b. is_in b locks.now) (lists_in self.now)) == 0) }
     {
-        self.items.has_due(&|block| is_owned(locks, block))
+        self.items().has_due(&|block| is_owned(locks, block))
     }
 
     /// A flush of this plan was answered so: where the sync was Ok, the blocks whose write was Ok leave the active list, and landed
@@ -481,8 +581,8 @@ impl Accounts {
         ensures count { result ≡ length (gone plan.now answers.now) }
         ensures accounts { self.new ≡ cleaned_in (gone plan.now answers.now) self.old }
     {
-        let count = self.items.flush_done(plan, answers);
-        self.space.tail(self.items.least());
+        let count = self.journal.flush_done(plan, answers);
+        self.space.tail(self.journal.items().least());
         count
     }
 }

@@ -27,11 +27,11 @@ use xt_ckpt::writing::write_checkpoint;
 impl Machine {
     /// The bytes of some chunks of a block, one after another, as they are committed.
     fn chunk_bytes_at(&self, block: u64, chunks: Chunks) -> Result<Vec<u8>, AllocError>
-        requires { HasContent self.now.frames.committed (block, chunks) }
-        ensures bytes { IfOk result (λ bytes. bytes.items ≡ chunk_bytes (content_at self.now.accounts.form.size block self.now.frames.committed) chunks) }
+        requires { HasContent self.now.accounts.frames.committed (block, chunks) }
+        ensures bytes { IfOk result (λ bytes. bytes.items ≡ chunk_bytes (content_at self.now.accounts.form.size block self.now.accounts.frames.committed) chunks) }
         ensures form { IfOk result (λ bytes. length bytes.items ≡ CHUNK_BYTES * length chunks) }
     {
-        match self.frames.content(block) {
+        match self.accounts.frames().content(block) {
             Some(content) => chunk_bytes_of(self.alloc, content, chunks),
             None => Ok(Vec::new(self.alloc)),
         }
@@ -39,8 +39,8 @@ impl Machine {
 
     /// The committed items with the bytes of their chunks, as they are now.
     fn items_now(&self) -> Result<Vec<Item>, AllocError>
-        requires { HaveContents self.now.frames.committed self.now.accounts.items.cil }
-        ensures text { IfOk result (λ items. flat_map item_bytes items.items ≡ flat_map (entry_bytes self.now.accounts.form.size self.now.frames.committed) self.now.accounts.items.cil) }
+        requires { HaveContents self.now.accounts.frames.committed self.now.accounts.items.cil }
+        ensures text { IfOk result (λ items. flat_map item_bytes items.items ≡ flat_map (entry_bytes self.now.accounts.form.size self.now.accounts.frames.committed) self.now.accounts.items.cil) }
         ensures blocks { IfOk result (λ items. map entry_block self.now.accounts.items.cil ≡ map (λ (i : AnItem). i.block) items.items) }
         ensures form { IfOk result (λ items. All HasForm items.items) }
     {
@@ -59,7 +59,7 @@ impl Machine {
     /// The pieces of a checkpoint of the committed items, as they are now, on a live mount.
     fn pieces_now(&self) -> Result<Vec<Bytes>, AllocError>
         requires sound { IsSound (state_of self.now) }
-        requires live { is_none self.now.shut ≡ true }
+        requires live { is_none self.now.accounts.shut ≡ true }
         requires worth { 0 < length self.now.accounts.items.cil }
         ensures pieces { IfOk result (λ pieces. pieces.items ≡ next_pieces (state_of self.now)) }
         ensures few { IfOk result (λ pieces. length pieces.items ≤ TEXT_PIECES) }

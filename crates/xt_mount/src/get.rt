@@ -54,7 +54,7 @@ impl Machine {
         ensures { state_of self.new ≡ locked trans block None (state_of self.old) }
     {
         if !self.is_busy(block) {
-            self.frames.bring(block.0);
+            self.accounts.bring(block.0);
         }
         let _locked = self.locks.try_lock(trans, block);
     }

@@ -23,7 +23,7 @@ impl Machine {
         ensures { IfSome (at trans self.old.accounts.transactions) (λ t. state_of self.new ≡ not_fresh block (with_leg trans t (invalidated block t.leg) (state_of self.old))) }
     {
         self.accounts.inval(trans.0, block.0);
-        self.frames.leave_fresh(block.0);
+        self.accounts.leave_fresh(block.0);
     }
 
     /// What refuses an invalidation.

@@ -25,7 +25,7 @@ impl Machine {
     fn is_unread(&self, leg: &TransRec, block: Block) -> bool
         ensures { result ≡ (is_fresh (state_of self.now) block || is_stale block leg.now) }
     {
-        self.frames.is_fresh(block.0) || leg.is_stale(block.0)
+        self.accounts.frames().is_fresh(block.0) || leg.is_stale(block.0)
     }
 
     /// What refuses a log request.
@@ -69,7 +69,7 @@ impl Machine {
         ensures { IfSome (at trans self.old.accounts.transactions) (λ t. state_of self.new ≡ not_fresh block (with_leg trans t (edited block content marked t.leg) (state_of self.old))) }
     {
         self.accounts.log(trans.0, block.0, content, marked);
-        self.frames.leave_fresh(block.0);
+        self.accounts.leave_fresh(block.0);
     }
 
     /// Writes bytes in the leg of a transaction, from `first` on, and marks their chunks.
@@ -85,7 +85,7 @@ impl Machine {
         ensures err { OnErr result (state_of self.new ≡ state_of self.old) }
         ensures want { OnErr result (is_refusal (with_trans (at trans self.old.accounts.transactions) (state_of self.old) (log_step trans block first bytes.now (state_of self.old))).reply ≡ false) }
     {
-        let spare = self.frames.take_spare();
+        let spare = self.accounts.take_spare();
         let Some(opened) = self.accounts.get(trans.0) else {
             return Ok(Reply::Refused(Errno::Invalid));
         };

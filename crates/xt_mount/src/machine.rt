@@ -1,23 +1,21 @@
 //! The parts of a mount, and what several requests ask of them.
 
-ghost use Rattle.std.specs.Prelude.{◌≡◌, ◌≤◌, [], is_some, IfErr, IfOk};
+ghost use Rattle.std.specs.Prelude.{◌≡◌, ◌≤◌, is_some, IfErr, IfOk};
 ghost use Rattle.xt_base.specs.Calls.{asks_ckpt, asks_flush, is_elsewhere, is_own, shut_down};
 ghost use Rattle.xt_base.specs.Legs.{own_count};
 ghost use Rattle.xt_base.specs.Maps.{at};
 ghost use Rattle.xt_base.specs.Space.{busy_count, is_busy};
 ghost use Rattle.xt_base.specs.State.{mount_of};
 ghost use Rattle.xt_frames.specs.Shares.{no_contents};
-ghost use Rattle.xt_mount.specs.Accounts.{no_accounts};
 ghost use Rattle.xt_mount.specs.Machines.{state_of};
 
 use crate::accounts::Accounts;
 use crate::busy::{beside_ail, beside_cil, beside_flight};
-use std::alloc::{AllocError, Global};
+use std::alloc::Global;
 use xt_base::form::Form;
 use xt_base::names::{Block, JobKind, Life, TransNo};
 use xt_base::sizes::MOST_LOG;
 use xt_base::steps::Reason;
-use xt_frames::frames::Frames;
 use xt_frames::share::FrameShare;
 use xt_jobs::table::JobTable;
 use xt_locks::locks::Locks;
@@ -27,14 +25,12 @@ use xt_locks::locks::Locks;
 pub struct Machine {
     pub alloc: Global,
     pub blocks: u64,
-    pub frames: Frames,
     pub locks: Locks,
     pub accounts: Accounts,
     pub last_trans: u64,
     pub jobs: JobTable,
     /// Whether new transactions are refused.
     pub frozen: bool,
-    pub shut: Option<Reason>,
 }
 
 impl Machine {
@@ -53,20 +49,18 @@ impl Machine {
         ensures back { IfErr result (λ back. back ≡ share) }
     {
         let slot = share.slot();
-        let Ok((locks, accounts)) = layers(alloc, form, log_bytes) else {
+        let Ok(locks) = Locks::new(alloc) else {
             return Err(share);
         };
-        match Frames::over(alloc, share) {
-            Ok(frames) => Ok(Machine {
+        match Accounts::over(alloc, form, log_bytes, share) {
+            Ok(accounts) => Ok(Machine {
                 alloc,
                 blocks,
-                frames,
                 locks,
                 accounts,
                 last_trans: 0,
                 jobs: JobTable::new(slot, life),
                 frozen: false,
-                shut: None,
             }),
             Err(share) => Err(share),
         }
@@ -76,15 +70,15 @@ impl Machine {
     pub fn into_share(self) -> FrameShare
         ensures { result ≡ no_contents (state_of self).slot }
     {
-        let Machine { frames, jobs, .. } = self;
-        frames.into_share(jobs.slot())
+        let Machine { accounts, jobs, .. } = self;
+        accounts.into_share(jobs.slot())
     }
 
     /// Whether the mount is shut.
     pub fn is_shut(&self) -> bool
         ensures { result ≡ is_some (state_of self.now).shut }
     {
-        self.shut.is_some()
+        self.accounts.shut().is_some()
     }
 
     /// Whether a block is locked, held or on a list.
@@ -136,9 +130,7 @@ impl Machine {
     pub fn shut_down(&mut self, reason: Reason)
         ensures { state_of self.new ≡ shut_down reason (state_of self.old) }
     {
-        if self.shut.is_none() {
-            self.shut = Some(reason);
-        }
+        self.accounts.shut_down(reason);
     }
 
     /// A checkpoint is asked, if there is something to write.
@@ -157,15 +149,4 @@ impl Machine {
         self.ask_ckpt();
         self.ask_flush();
     }
-}
-
-/// The locks and the accounts of a new mount. The one error is want of memory.
-fn layers(alloc: Global, form: Form, log_bytes: u32) -> Result<(Locks, Accounts), AllocError>
-    requires { log_bytes ≤ MOST_LOG }
-    ensures locks { IfOk result (λ made. made.0 ≡ []) }
-    ensures accounts { IfOk result (λ made. made.1 ≡ no_accounts log_bytes form) }
-{
-    let locks = Locks::new(alloc)?;
-    let accounts = Accounts::new(alloc, form, log_bytes)?;
-    Ok((locks, accounts))
 }

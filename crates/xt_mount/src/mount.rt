@@ -134,7 +134,7 @@ impl Mount {
     pub fn shut(&self) -> Option<Reason>
         ensures { result ≡ self.now.shut }
     {
-        self.machine.shut
+        self.machine.accounts.shut()
     }
 
     /// The pieces of the checkpoint in flight, from its begin to its end, at most 65 of 1 to 4,096 bytes each; none where
@@ -277,7 +277,7 @@ impl Mount {
         ensures value { option_copied result ≡ at block self.now.frames.committed }
         ensures whole { IfSome result (λ bytes. length bytes.now ≡ BLOCK_BYTES) }
     {
-        match self.machine.frames.content(block.0) {
+        match self.machine.accounts.frames().content(block.0) {
             Some(content) => Some(content.bytes()),
             None => None,
         }

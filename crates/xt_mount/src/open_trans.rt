@@ -5,12 +5,11 @@ ghost use Rattle.xt_base.specs.Calls.{edited, invalidated, legs_after, without_h
 ghost use Rattle.xt_base.specs.Legs.{clean_leg, with_marks};
 ghost use Rattle.xt_base.specs.Maps.{has, is_in, with_member};
 ghost use Rattle.xt_base.specs.Space.{change_cost, charge, cost};
-ghost use Rattle.xt_mount.specs.Ending.{edits_kept, leg_lost, marks_kept};
+ghost use Rattle.xt_journal.specs.Keeping.{changes_kept, leg_lost};
 ghost use Rattle.xt_mount.specs.Accounts.{opened_with};
 ghost use Rattle.xt_resv.specs.Ledgers.{charged_with, is_fitting, is_no_room, regranted, ungranted};
 ghost use Rattle.xt_resv.specs.Mounts.{grant_of};
 
-use crate::leg_end::{keep_changes, lose_leg};
 use std::marker::Model;
 use xt_base::chunks::Chunks;
 use xt_base::content::Content;
@@ -18,8 +17,7 @@ use xt_base::form::Form;
 use xt_base::names::Block;
 use xt_base::newly::Newly;
 use xt_base::sizes::{CHUNKS, ROOM};
-use xt_frames::frames::Frames;
-use xt_items::items::Items;
+use xt_journal::journal::Journal;
 use xt_resv::space::{LogSpace, Ticket};
 use xt_trans::trans::TransRec;
 
@@ -140,35 +138,34 @@ impl OpenTrans {
     }
 
     /// The leg is committed, and the next one begins. It takes no memory.
-    pub fn roll(&mut self, form: Form, frames: &mut Frames, items: &mut Items, space: &mut LogSpace)
-        requires contents { length frames.old.committed + length self.old.leg.changes ≤ ROOM }
-        requires cil { length items.old.cil + length self.old.leg.changes ≤ ROOM }
+    pub fn roll(&mut self, journal: &mut Journal, space: &mut LogSpace)
+        requires contents { length journal.old.frames.committed + length self.old.leg.changes ≤ ROOM }
+        requires cil { length journal.old.lists.cil + length self.old.leg.changes ≤ ROOM }
         requires granted { self.old.unit * self.old.legs ≤ space.old.granted }
         requires legs { 1 ≤ self.old.legs }
-        requires paid { cost form.ends (with_marks self.old.leg.changes items.old.cil) ≤ space.old.cil + self.old.unit }
-        requires room { is_no_room (grant_of self.old) (cost form.ends (with_marks self.old.leg.changes items.old.cil)) space.old ≡ false }
+        requires paid { cost journal.old.form.ends (with_marks self.old.leg.changes journal.old.lists.cil) ≤ space.old.cil + self.old.unit }
+        requires room { is_no_room (grant_of self.old) (cost journal.old.form.ends (with_marks self.old.leg.changes journal.old.lists.cil)) space.old ≡ false }
         ensures trans { self.new ≡ record self.old { legs = legs_after self.old.legs; leg = clean_leg } }
-        ensures frames { frames.new ≡ edits_kept self.old.leg.changes frames.old }
-        ensures items { items.new ≡ marks_kept self.old.leg.changes items.old }
-        ensures space { space.new ≡ regranted (grant_of self.old) (cost form.ends (with_marks self.old.leg.changes items.old.cil)) space.old }
+        ensures journal { journal.new ≡ changes_kept self.old.leg.changes journal.old }
+        ensures space { space.new ≡ regranted (grant_of self.old) (cost journal.old.form.ends (with_marks self.old.leg.changes journal.old.lists.cil)) space.old }
     {
-        keep_changes(frames, items, &mut self.leg);
+        journal.keep_changes(&mut self.leg);
         self.leg.next_leg();
-        match space.next_leg(&mut self.ticket, items.cil_cost(form)) {
+        match space.next_leg(&mut self.ticket, journal.cil_cost()) {
             Ok(()) => {}
             Err(_) => unreachable!(),
         }
     }
 
     /// The leg is given up, and no leg is left. It takes no memory.
-    pub fn give_up(&mut self, frames: &mut Frames, space: &mut LogSpace)
-        requires fresh { length frames.old.fresh + length self.old.leg.changes ≤ ROOM }
+    pub fn give_up(&mut self, journal: &mut Journal, space: &mut LogSpace)
+        requires fresh { length journal.old.frames.fresh + length self.old.leg.changes ≤ ROOM }
         requires granted { self.old.unit * self.old.legs ≤ space.old.granted }
         ensures trans { self.new ≡ record self.old { legs = 0; leg = clean_leg } }
-        ensures frames { frames.new ≡ leg_lost self.old.leg frames.old }
+        ensures journal { journal.new ≡ record journal.old { frames = leg_lost self.old.leg journal.old.frames } }
         ensures space { space.new ≡ ungranted (grant_of self.old) space.old.cil space.old }
     {
-        lose_leg(frames, &mut self.leg);
+        journal.lose_leg(&mut self.leg);
         self.leg.next_leg();
         space.give_up(&mut self.ticket);
     }

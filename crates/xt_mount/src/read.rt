@@ -25,7 +25,7 @@ impl Machine {
     fn is_unreadable(&self, leg: &TransRec, trans: TransNo, block: Block) -> bool
         ensures { result ≡ (is_own (state_of self.now) trans block && (is_fresh (state_of self.now) block || is_stale block leg.now)) }
     {
-        self.is_own(trans, block) && (self.frames.is_fresh(block.0) || leg.is_stale(block.0))
+        self.is_own(trans, block) && (self.accounts.frames().is_fresh(block.0) || leg.is_stale(block.0))
     }
 
     /// What refuses a read before its device is asked.
@@ -50,7 +50,7 @@ impl Machine {
     fn is_resident(&self, block: Block) -> bool
         ensures { result ≡ is_resident (state_of self.now) block }
     {
-        (self.is_busy(block) && !self.frames.is_fresh(block.0)) || self.frames.is_idle(block.0)
+        (self.is_busy(block) && !self.accounts.frames().is_fresh(block.0)) || self.accounts.frames().is_idle(block.0)
     }
 
     /// Whether a block is neither the transaction's own nor resident.
@@ -91,7 +91,7 @@ impl Machine {
         requires free { is_in block self.old.locks ≡ false }
         ensures { state_of self.new ≡ with_owner block (OwnedBy trans 0) (busied block content (state_of self.old)) }
     {
-        self.frames.bring_content(block.0, content);
+        self.accounts.bring_content(block.0, content);
         let _locked = self.locks.try_lock(trans, block);
     }
 

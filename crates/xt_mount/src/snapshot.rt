@@ -16,7 +16,7 @@ impl Machine {
     pub fn snapshot(&self) -> Result<State, AllocError>
         ensures { IfOk result (λ state. state ≡ state_of self.now) }
     {
-        let frames = frames_copy(self.alloc, &self.frames)?;
+        let frames = frames_copy(self.alloc, self.accounts.frames())?;
         let owners = copies_of(self.alloc, self.locks.owners())?;
         let transactions = transactions_copy(self.alloc, &self.accounts)?;
         let items = items_copy(self.alloc, &self.accounts)?;
@@ -31,7 +31,7 @@ impl Machine {
             items,
             jobs: self.jobs.copy(),
             frozen: self.frozen,
-            shut: self.shut,
+            shut: self.accounts.shut(),
         })
     }
 }

@@ -21,15 +21,15 @@ impl Machine {
         block: Block,
         spare: Option<Content>,
     ) -> Result<Content, AllocError>
-        ensures { IfOk result (λ content. content ≡ seen self.now.accounts.form.size block leg.now self.now.frames) }
+        ensures { IfOk result (λ content. content ≡ seen self.now.accounts.form.size block leg.now self.now.accounts.frames) }
     {
         leg.seen(
             self.alloc,
             self.accounts.form(),
             spare,
             block.0,
-            self.frames.is_fresh(block.0),
-            self.frames.content(block.0),
+            self.accounts.frames().is_fresh(block.0),
+            self.accounts.frames().content(block.0),
         )
     }
 

@@ -1,5 +1,5 @@
 use Rattle.std.proofs.Common.{◌∙◌, ◌*◌, ap, arith, sym}
-use Rattle.xt_items.specs.Lists.{Lists}
+use Rattle.xt_journal.specs.Journals.{JournalState}
 use Rattle.xt_resv.specs.Ledgers.{Grant, Ledger}
 use Rattle.xt_resv.specs.Mounts.{flight_of}
 use Rattle.xt_mount.proofs.AccountsLemmas.{covered, granted_out}
@@ -14,5 +14,5 @@ invariant_of-self c =
     let left = granted_out c.args.trans c.in-Some.opened c.self.inside.transactions _ (sym c.remove.ensures.value ∙ c.in-Some.is) c.remove.ensures.rest in (
       omega (arith, left, c.self.invariant.0, ap (λ (l : Ledger). l.granted) c.commit.ensures, ap (λ (g : Grant). g.unit * g.legs) c.into_parts-ticket.ensures.ticket),
       ap (λ (l : Ledger). l.cil) c.commit.ensures ∙ c.cil_cost.ensures.value,
-      ap (λ (l : Ledger). l.flight) c.commit.ensures ∙ c.self.invariant.2 ∙ ap (λ (l : Lists). flight_of c.self.inside.form.ends l.flight) (sym c.keep_changes.ensures.cil),
+      ap (λ (l : Ledger). l.flight) c.commit.ensures ∙ c.self.invariant.2 ∙ ap (λ (l : JournalState). flight_of l.form.ends l.lists.flight) (sym c.keep_changes.ensures),
     )

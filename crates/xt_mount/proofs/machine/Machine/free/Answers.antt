@@ -3,4 +3,4 @@ use Rattle.xt_mount.proofs.machine.Machine.free.Goals as goal
 
 pub settle_block-requires-clause-others : goal.settle_block-requires-clause-others
 settle_block-requires-clause-others c =
-    others_busy c.args.self.now.locks c.unlock.new.self c.args.self.now.accounts.items c.args.block c.unlock.ensures c.args.self.now.frames c.requires
+    others_busy c.args.self.now.locks c.unlock.new.self c.args.self.now.accounts.items c.args.block c.unlock.ensures c.args.self.now.accounts.frames c.requires

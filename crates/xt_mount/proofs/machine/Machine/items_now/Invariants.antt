@@ -3,4 +3,4 @@ use Rattle.xt_mount.proofs.CkptLemmas.{HasItems}
 use Rattle.xt_mount.proofs.machine.Machine.items_now.Given as goal
 
 abbrev pub invariant-loop-e : goal.invariant-loop-e
-invariant-loop-e l = HasItems l.self.accounts.form.size l.self.frames.committed (take l.e-index l.e-items) l.items.items
+invariant-loop-e l = HasItems l.self.accounts.form.size l.self.accounts.frames.committed (take l.e-index l.e-items) l.items.items

@@ -1,8 +1,8 @@
 use Rattle.std.proofs.Common.{◌∙◌, ◌≡◌, List, ap, arith, length, sym, ℕ}
 use Rattle.xt_base.specs.State.{Frames, Leg}
-use Rattle.xt_mount.proofs.EndLemmas.{taken}
-use Rattle.xt_mount.proofs.leg_end.lose_changes.Goals as goal
-use Rattle.xt_mount.specs.Ending.{fresh_lost, lost_with, with_first}
+use Rattle.xt_journal.proofs.KeepLemmas.{taken}
+use Rattle.xt_journal.proofs.losing.lose_changes.Goals as goal
+use Rattle.xt_journal.specs.Keeping.{fresh_lost, lost_with, with_first}
 
 pub loop-block-preserved : goal.loop-block-preserved
 loop-block-preserved c =

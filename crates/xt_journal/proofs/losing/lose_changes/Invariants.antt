@@ -1,6 +1,6 @@
 use Rattle.std.proofs.Common.{◌≡◌, ◌≤◌, ◌+◌, length}
-use Rattle.xt_mount.specs.Ending.{fresh_lost}
-use Rattle.xt_mount.proofs.leg_end.lose_changes.Given as goal
+use Rattle.xt_journal.specs.Keeping.{fresh_lost}
+use Rattle.xt_journal.proofs.losing.lose_changes.Given as goal
 
 abbrev pub invariant-loop-block : goal.invariant-loop-block
 invariant-loop-block l = record {

@@ -1,7 +1,7 @@
 use Rattle.std.proofs.Common.{ap, arith, length}
 use Rattle.xt_base.proofs.KeyLemmas.{length_member}
 use Rattle.xt_base.specs.State.{Frames}
-use Rattle.xt_mount.proofs.leg_end.lose_change.Goals as goal
+use Rattle.xt_journal.proofs.losing.lose_change.Goals as goal
 
 pub returns-then-is_held-clause-count : goal.returns-then-is_held-clause-count
 returns-then-is_held-clause-count c = omega (arith, ap (λ (f : Frames). length f.fresh) c.make_fresh.ensures, length_member c.args.block c.args.frames.now.fresh)

@@ -1,0 +1,38 @@
+-- The chunks of a word of bits, one by one.
+use Rattle.std.proofs.Common.{◌≡◌, ◌∙◌, ◌+◌, ◌*◌, ◌≤◌, ℕ, List, [], ◌∷◌, ◌++◌, Bool, true, false, ap, refl, length, arith, filter, if◌then◌else◌, add-one, append-nil, length-append}
+use Rattle.std.specs.Prelude.{◌==◌, flat_map}
+use Rattle.std.specs.Int.{bit_at}
+use Rattle.std.proofs.lemmas.List.Concat.{flat_map-append}
+use Rattle.std.proofs.lemmas.List.Elements.{filter-append}
+use Rattle.xt_base.specs.Chunks.{below, chunks_where, places_of}
+
+-- one number more below
+marked_one : (p : ℕ → Bool) (k : ℕ) → filter p (below (k + 1)) ≡ filter p (below k) ++ filter p (k ∷ [])
+marked_one p k = ap (λ n. filter p (below n)) (add-one k) ∙ filter-append p (below k) (k ∷ [])
+
+one_chunk : (f : ℕ → List ℕ) (b : Bool) (k : ℕ) → flat_map f (filter (λ _. b) (k ∷ [])) ≡ (if b then f k else [])
+one_chunk f true k = append-nil (f k)
+one_chunk f false k = refl
+
+pub marked_step : (f : ℕ → List ℕ) (p : ℕ → Bool) (k : ℕ) → flat_map f (filter p (below (k + 1))) ≡ flat_map f (filter p (below k)) ++ (if p k then f k else [])
+marked_step f p k = ap (flat_map f) (marked_one p k) ∙ flat_map-append f (filter p (below k)) (filter p (k ∷ [])) ∙ ap (λ xs. flat_map f (filter p (below k)) ++ xs) (one_chunk f (p k) k)
+
+one_count : (b : Bool) (k : ℕ) → 128 * length (filter (λ _. b) (k ∷ [])) ≡ (if b then 128 else 0)
+one_count true k = refl
+one_count false k = refl
+
+pub marked_count : (p : ℕ → Bool) (k : ℕ) → 128 * length (filter p (below (k + 1))) ≡ 128 * length (filter p (below k)) + (if p k then 128 else 0)
+marked_count p k = omega (arith, ap length (marked_one p k), length-append (filter p (below k)) (filter p (k ∷ [])), one_count (p k) k)
+
+same : (k : ℕ) → 32 ≤ k → k ≤ 32 → k ≡ 32
+same k low high = omega arith
+
+-- all numbers of a word
+pub marked_all : (word k : ℕ) (set : List ℕ) → 32 ≤ k → k ≤ 32 → places_of word ≡ set → filter (λ i. bit_at word i == 1) (below k) ≡ set
+unfolding chunks_where
+marked_all word k set low high is = ap (λ n. filter (λ i. bit_at word i == 1) (below n)) (same k low high) ∙ is
+
+-- a chunk is appended, or none
+pub one_more : (b : Bool) → (if b then 128 else 0) ≤ 128
+one_more true = omega arith
+one_more false = omega arith

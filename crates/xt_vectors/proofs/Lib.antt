@@ -1,0 +1,2 @@
+mod ChunkLemmas
+pub mod VectorLemmas

@@ -1,0 +1,34 @@
+-- Log vectors: the chunks of a block that were logged, and their bytes.
+use Rattle.std.specs.Prelude.{List, None, Option, Some, Vec, [], map, ℕ}
+use Rattle.std.specs.declared.alloc.Global.{Global}
+use Rattle.xt_base.specs.Text.{chunk_bytes, content_at}
+
+-- chunks, and their bytes, one after another
+pub record Vector : Type 0 where
+  pub chunks : List ℕ
+  pub bytes : List ℕ
+
+-- the bytes that are there
+abbrev pub bytes_in : Option (Vec ℕ Global) → List ℕ
+bytes_in None = []
+bytes_in (Some v) = v.items
+
+-- some chunks of a content
+abbrev pub vector : List ℕ → List ℕ → Vector
+vector content set = record { chunks = set; bytes = chunk_bytes content set }
+
+-- no chunk
+abbrev pub no_vector : Vector
+no_vector = record { chunks = []; bytes = [] }
+
+-- the chunks of each block
+abbrev pub chunks_of : List (ℕ × Vector) → List (ℕ × List ℕ)
+chunks_of vs = map (λ v. (v.0, v.1.chunks)) vs
+
+-- the log vector of an item of a commit list, with these contents of a size
+abbrev pub vector_of : ℕ → List (ℕ × List ℕ) → ℕ × List ℕ → ℕ × Vector
+vector_of size contents e = (e.0, vector (content_at size e.0 contents) e.1)
+
+-- those of a commit list
+abbrev pub vectors_of : ℕ → List (ℕ × List ℕ) → List (ℕ × List ℕ) → List (ℕ × Vector)
+vectors_of size contents cil = map (vector_of size contents) cil

@@ -1,0 +1,146 @@
+//! The log vector of a block, and the room that is made for one.
+
+ghost use Rattle.std.specs.Int.{bit_at};
+ghost use Rattle.std.specs.Prelude.{◌≡◌, ◌+◌, ◌*◌, ◌≤◌, ◌<◌, ◌++◌, ◌==◌, [], IfOk, if◌then◌else◌, length, vec_capacity};
+ghost use Rattle.xt_base.specs.Text.{chunk, chunk_bytes};
+ghost use Rattle.xt_vectors.specs.Vectors.{no_vector, vector};
+
+use std::alloc::{AllocError, Global};
+use std::marker::Model;
+use xt_base::chunks::Chunks;
+use xt_base::content::Content;
+use xt_base::sizes::{BLOCK_BYTES, CHUNK_BYTES, CHUNKS};
+
+/// Chunks of a block and their bytes, by rising chunk, one after another (`xfs_log_vec`). Clauses see both.
+#[derive(Debug, Drop)]
+pub struct LogVector {
+    chunks: Chunks,
+    bytes: Option<Vec<u8>>,
+}
+
+impl Model for LogVector {
+    ghost use Rattle.std.specs.Prelude.{◌≡◌, ◌*◌, length};
+    ghost use Rattle.xt_base.specs.declared.sizes.TheConstants.{CHUNK_BYTES};
+    ghost use Rattle.xt_vectors.specs.Vectors.{Vector, bytes_in};
+
+    ghost Value = { Vector };
+
+    ghost view = { λ v. record { chunks = v.chunks; bytes = bytes_in v.bytes } };
+
+    ghost invariant = { λ v. length (bytes_in v.bytes) ≡ CHUNK_BYTES * length v.chunks };
+}
+
+impl LogVector {
+    /// That of no chunk, as a cancelled block has. It takes no memory.
+    pub fn none() -> Self
+        ensures { result ≡ no_vector }
+    {
+        LogVector {
+            chunks: Chunks::none(),
+            bytes: None,
+        }
+    }
+
+    /// Its chunks.
+    pub fn chunks(&self) -> Chunks
+        ensures { result ≡ self.now.chunks }
+    {
+        self.chunks
+    }
+
+    /// The bytes of its chunks.
+    pub fn bytes(&self) -> &[u8]
+        ensures value { result.now ≡ self.now.bytes }
+        ensures form { length result.now ≡ CHUNK_BYTES * length self.now.chunks }
+    {
+        match &self.bytes {
+            Some(bytes) => bytes,
+            None => &[],
+        }
+    }
+}
+
+/// Room for a log vector, made before it is known which chunks it has: as many bytes as a block has. Clauses see nothing of it
+/// but that it is there.
+#[derive(Debug, Drop)]
+pub struct VectorRoom {
+    bytes: Vec<u8>,
+}
+
+impl Model for VectorRoom {
+    ghost use Rattle.std.specs.Prelude.{◌≡◌, ◌≤◌, [], vec_capacity, ⊤};
+    ghost use Rattle.xt_base.specs.declared.sizes.TheConstants.{BLOCK_BYTES};
+
+    ghost Value = { ⊤ };
+
+    ghost view = { λ r. tt };
+
+    ghost invariant = { λ r. (r.bytes.items ≡ []) × (BLOCK_BYTES ≤ vec_capacity r.bytes) };
+}
+
+impl VectorRoom {
+    /// Room for all chunks of a block. The one error is want of memory.
+    pub fn new(alloc: Global) -> Result<Self, AllocError> {
+        let bytes = Vec::with_capacity(alloc, BLOCK_BYTES)?;
+        Ok(VectorRoom { bytes })
+    }
+
+    /// The log vector of some chunks of a content, in this room. It takes no memory.
+    pub fn filled(self, content: &Content, chunks: Chunks) -> LogVector
+        ensures { result ≡ vector content.now chunks }
+    {
+        let VectorRoom { mut bytes } = self;
+        push_chunks(&mut bytes, content, chunks);
+        LogVector {
+            chunks,
+            bytes: Some(bytes),
+        }
+    }
+}
+
+/// Appends the bytes of some chunks of a content, one after another, to none.
+fn push_chunks(out: &mut Vec<u8>, content: &Content, chunks: Chunks)
+    requires none { out.old.items ≡ [] }
+    requires room { BLOCK_BYTES ≤ vec_capacity out.old }
+    ensures bytes { out.new.items ≡ chunk_bytes content.now chunks }
+    ensures form { length out.new.items ≡ CHUNK_BYTES * length chunks }
+{
+    let word = chunks.word();
+    for k in 0..CHUNKS {
+        push_if_marked(out, content, word, k);
+    }
+}
+
+/// Whether a word of bits has chunk `k`.
+fn is_marked(word: u32, k: u32) -> bool
+    requires { k < CHUNKS }
+    ensures { result ≡ (bit_at word k == 1) }
+{
+    word >> k & 1 == 1
+}
+
+/// Appends the bytes of chunk `k`, if the word has it.
+fn push_if_marked(out: &mut Vec<u8>, content: &Content, word: u32, k: u32)
+    requires chunk { k < CHUNKS }
+    requires room { length out.old.items + CHUNK_BYTES ≤ vec_capacity out.old }
+    ensures bytes { out.new.items ≡ out.old.items ++ (if bit_at word k == 1 then chunk content.now k else []) }
+    ensures count { length out.new.items ≡ length out.old.items + (if bit_at word k == 1 then CHUNK_BYTES else 0) }
+    ensures capacity { vec_capacity out.old ≤ vec_capacity out.new }
+{
+    if is_marked(word, k) {
+        push_chunk(out, content, k);
+    }
+}
+
+/// Appends the bytes of one chunk.
+fn push_chunk(out: &mut Vec<u8>, content: &Content, k: u32)
+    requires chunk { k < CHUNKS }
+    requires room { length out.old.items + CHUNK_BYTES ≤ vec_capacity out.old }
+    ensures bytes { out.new.items ≡ out.old.items ++ chunk content.now k }
+    ensures count { length out.new.items ≡ length out.old.items + CHUNK_BYTES }
+    ensures capacity { vec_capacity out.old ≤ vec_capacity out.new }
+{
+    let first = CHUNK_BYTES * k as usize;
+    out.extend_from_slice(&content.bytes()[first..first + CHUNK_BYTES])
+        .unwrap();
+}
