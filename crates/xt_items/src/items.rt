@@ -5,8 +5,10 @@ ghost use Rattle.xt_base.specs.Chunks.{union};
 ghost use Rattle.xt_base.specs.Maps.{at, has, is_in, put, without};
 ghost use Rattle.xt_base.specs.Space.{cost, flight_items, is_listed, least_number, lesser};
 ghost use Rattle.xt_base.specs.Jobs.{activated, fits_plan, flight_pieces, gone};
-ghost use Rattle.xt_items.specs.Lists.{no_items, flight_number, with_landed};
+ghost use Rattle.xt_base.specs.Sound.{IsRising};
+ghost use Rattle.xt_items.specs.Lists.{no_items, flight_number, marked, with_landed};
 ghost use Rattle.xt_items.specs.Plans.{due, is_unpinned, planned};
+ghost use Rattle.xt_vectors.specs.Vectors.{no_vector};
 
 use crate::clean::remove_written;
 use crate::plan::{Earliest, FlushPlan};
@@ -15,10 +17,12 @@ use std::alloc::{AllocError, Global};
 use std::marker::Model;
 use std::mem;
 use xt_base::chunks::Chunks;
+use xt_base::content::Content;
 use xt_base::form::Form;
 use xt_base::map::NumberMap;
 use xt_base::sizes::{CHUNK_COST, CHUNKS, ITEM_COST, MOST_ENDS, ROOM};
 use xt_base::steps::HomeAnswers;
+use xt_vectors::vector::{LogVector, VectorRoom};
 
 /// A checkpoint that is being written: its number, its items, and the pieces of its text.
 #[derive(Debug, Drop)]
@@ -36,13 +40,14 @@ impl Model for Flight {
     ghost view = { λ f. record { number = f.number; items = f.items; pieces = f.pieces.items } };
 }
 
-/// The item lists of a mount: the commit list (`xfs_cil`: committed blocks with their marked chunks), the checkpoint in flight
-/// (`xfs_cil_ctx`), and the active list (`xfs_ail`: landed blocks that are not home yet, with the number of their checkpoint).
-/// A block with no chunks is cancelled. Each list has room for 128 blocks. Only `new` and `next_list` take memory.
+/// The item lists of a mount: the commit list (`xfs_cil`: committed blocks with their marked chunks, and beside them the log vector of
+/// each), the checkpoint in flight (`xfs_cil_ctx`), and the active list (`xfs_ail`: landed blocks that are not home yet, with the number
+/// of their checkpoint). A block with no chunks is cancelled. Each list has room for 128 blocks. Only `new` and `next_list` take memory.
 #[derive(Debug, Drop)]
 pub struct Items {
     open_number: u64,
     cil: NumberMap<Chunks>,
+    vectors: NumberMap<LogVector>,
     flight: Option<Flight>,
     ail: NumberMap<u64>,
     /// The list of a flight that has landed, for a later one.
@@ -50,11 +55,15 @@ pub struct Items {
 }
 
 impl Model for Items {
+    ghost use Rattle.std.specs.Prelude.{◌≡◌};
     ghost use Rattle.xt_items.specs.Lists.{Lists};
+    ghost use Rattle.xt_vectors.specs.Vectors.{chunks_of};
 
     ghost Value = { Lists };
 
-    ghost view = { λ l. record { open_number = l.open_number; cil = l.cil; flight = l.flight; ail = l.ail } };
+    ghost view = { λ l. record { open_number = l.open_number; cil = l.cil; vectors = l.vectors; flight = l.flight; ail = l.ail } };
+
+    ghost invariant = { λ l. chunks_of l.vectors ≡ l.cil };
 }
 
 impl Items {
@@ -63,10 +72,12 @@ impl Items {
         ensures { IfOk result (λ items. items ≡ no_items) }
     {
         let cil = NumberMap::new(alloc)?;
+        let vectors = NumberMap::new(alloc)?;
         let ail = NumberMap::new(alloc)?;
         Ok(Items {
             open_number: 1,
             cil,
+            vectors,
             flight: None,
             ail,
             spare: None,
@@ -84,8 +95,16 @@ impl Items {
     pub fn cil(&self) -> &[(u64, Chunks)]
         ensures value { result.now ≡ self.now.cil }
         ensures small { length result.now ≤ ROOM }
+        ensures rising { IsRising result.now }
     {
         self.cil.entries()
+    }
+
+    /// The log vectors of the committed items, by rising block.
+    pub fn vectors(&self) -> &[(u64, LogVector)]
+        ensures { result.now ≡ self.now.vectors }
+    {
+        self.vectors.entries()
     }
 
     /// What the commit list has of a block: its marked chunks, none of a cancelled block; None where it is not there.
@@ -189,21 +208,32 @@ impl Items {
         }
     }
 
-    /// Marks of a commit are joined to those of the block's item. It takes no memory.
-    pub fn mark(&mut self, block: u64, marks: Chunks)
+    /// Marks of a commit are joined to those of the block's item, and its log vector has the committed bytes of them all, in this
+    /// room. It takes no memory.
+    pub fn mark(&mut self, block: u64, marks: Chunks, content: &Content, room: VectorRoom)
         requires { length self.old.cil < ROOM }
-        ensures { self.new ≡ record self.old { cil = put block (union (unwrap_or (at block self.old.cil) []) marks) self.old.cil } }
+        ensures { self.new ≡ marked block (union (unwrap_or (at block self.old.cil) []) marks) content.now self.old }
     {
         let before = self.marks(block).unwrap_or(Chunks::none());
-        self.cil.put(block, before.union(marks));
+        let chunks = before.union(marks);
+        self.put_vector(block, room.filled(content, chunks));
     }
 
     /// The block's item cancels it: it has no chunks. It takes no memory.
     pub fn cancel(&mut self, block: u64)
         requires { length self.old.cil < ROOM }
-        ensures { self.new ≡ record self.old { cil = put block [] self.old.cil } }
+        ensures { self.new ≡ record self.old { cil = put block [] self.old.cil; vectors = put block no_vector self.old.vectors } }
     {
-        self.cil.put(block, Chunks::none());
+        self.put_vector(block, LogVector::none());
+    }
+
+    /// The block's item has this log vector, and its chunks.
+    fn put_vector(&mut self, block: u64, vector: LogVector)
+        requires { length self.old.cil < ROOM }
+        ensures { self.new ≡ record self.old { cil = put block vector.chunks self.old.cil; vectors = put block vector self.old.vectors } }
+    {
+        self.cil.put(block, vector.chunks());
+        self.vectors.put(block, vector);
     }
 
     /// The cost of the commit list in bytes: the length of its checkpoint text of this form, 0 where it is empty.
@@ -228,18 +258,20 @@ impl Items {
         }
     }
 
-    /// The committed items become the flight, with these pieces; `next`, an empty list, takes their place under the next number.
-    /// It takes no memory.
+    /// The committed items become the flight, with these pieces; `next`, an empty list, takes their place under the next number, and
+    /// there are no log vectors any more. It takes no memory.
     pub fn fly(&mut self, next: NumberMap<Chunks>, pieces: Vec<Bytes>)
         requires next { next ≡ [] }
         requires number { self.old.open_number < 18446744073709551615 }
         ensures { self.new ≡ record self.old {
           open_number = self.old.open_number + 1;
           cil = [];
+          vectors = [];
           flight = Some (record { number = self.old.open_number; items = self.old.cil; pieces = pieces.items });
         } }
     {
         let items = mem::replace(&mut self.cil, next);
+        self.vectors.clear();
         self.flight = Some(Flight {
             number: self.open_number,
             items,

@@ -12,18 +12,23 @@ use crate::plan::{FlushPlan, all_ok};
 use bytes::Bytes;
 use std::alloc::{AllocError, Global};
 use xt_base::chunks::Chunks;
+use xt_base::content::Content;
 use xt_base::form::Form;
 use xt_base::map::NumberMap;
 use xt_base::steps::HomeAnswers;
+use xt_vectors::vector::VectorRoom;
 
-/// Marks twelve bytes of a block; false where the commit list has no room.
-fn mark(items: &mut Items, block: u64, first: u32) -> bool
+/// Marks twelve bytes of a block of zeros; false where the commit list has no room, or a growth is refused.
+fn mark(alloc: Global, items: &mut Items, block: u64, first: u32) -> bool
     requires within { first ≤ 4000 }
 {
     if items.cil().len() == 128 {
         return false;
     }
-    items.mark(block, Chunks::mark(first, 12));
+    let (Ok(content), Ok(room)) = (Content::zeros(alloc, Form::one()), VectorRoom::new(alloc)) else {
+        return false;
+    };
+    items.mark(block, Chunks::mark(first, 12), &content, room);
     true
 }
 
@@ -37,9 +42,9 @@ fn cancel(items: &mut Items, block: u64) -> bool {
 }
 
 /// Marks one chunk of each block.
-fn commit(items: &mut Items, blocks: &[u64]) -> bool {
+fn commit(alloc: Global, items: &mut Items, blocks: &[u64]) -> bool {
     for block in blocks {
-        if !mark(items, *block, 0) {
+        if !mark(alloc, items, *block, 0) {
             return false;
         }
     }
@@ -84,7 +89,7 @@ fn end(items: &mut Items) -> bool {
 
 /// Blocks are committed, fly and land.
 fn write(alloc: Global, items: &mut Items, blocks: &[u64]) -> bool {
-    commit(items, blocks) && begin(alloc, items) && end(items)
+    commit(alloc, items, blocks) && begin(alloc, items) && end(items)
 }
 
 /// What a flush writes beside the blocks that are owned: a caller knows it from the clause of `flush_plan`.
@@ -116,6 +121,16 @@ fn has_both(items: &Items) -> bool {
         && !items.is_committed(8)
 }
 
+/// Whether block 7 has a log vector of three chunks, and block 9 one of none.
+fn has_vectors(items: &Items) -> bool {
+    match items.vectors() {
+        [(7, marked), (9, cancelled)] => {
+            marked.bytes().len() == 384 && cancelled.bytes().is_empty()
+        }
+        _ => false,
+    }
+}
+
 /// Whether both fly in checkpoint 1 and checkpoint 2 is open.
 fn both_fly(items: &Items) -> bool {
     open_list(items) == (2, 0)
@@ -137,8 +152,11 @@ fn a_checkpoint_lands(rt: HostRuntime) {
     let Ok(mut items) = Items::new(rt.alloc()) else {
         return;
     };
-    assert!(rt; mark(&mut items, 7, 0) && mark(&mut items, 7, 250) && cancel(&mut items, 9));
-    assert!(rt; has_both(&items));
+    let alloc = rt.alloc();
+    if !(mark(alloc, &mut items, 7, 0) && mark(alloc, &mut items, 7, 250) && cancel(&mut items, 9)) {
+        return;
+    }
+    assert!(rt; has_both(&items) && has_vectors(&items));
     if !begin(rt.alloc(), &mut items) {
         return assert!(rt; !items.is_flying() && open_list(&items) == (1, 448));
     }
@@ -164,7 +182,7 @@ fn a_failed_flight_leaves_its_blocks(rt: HostRuntime) {
     let Ok(mut items) = Items::new(rt.alloc()) else {
         return;
     };
-    if commit(&mut items, &[6]) && begin(rt.alloc(), &mut items) {
+    if commit(rt.alloc(), &mut items, &[6]) && begin(rt.alloc(), &mut items) {
         items.fail();
         assert!(rt; rests(&items, &[]) && !items.is_listed(6) && items.open_number() == 2);
     }
@@ -209,7 +227,11 @@ fn a_flush_leaves_out_blocks_in_use(rt: HostRuntime) {
     let Some(mut items) = nine_blocks(rt.alloc()) else {
         return;
     };
-    if commit(&mut items, &[7]) && begin(rt.alloc(), &mut items) && commit(&mut items, &[5, 20]) {
+    let alloc = rt.alloc();
+    if commit(alloc, &mut items, &[7])
+        && begin(alloc, &mut items)
+        && commit(alloc, &mut items, &[5, 20])
+    {
         assert!(rt; plans(&items.flush_plan(&|block| block == 30), OTHERS));
         assert!(rt; items.has_due(&|block| block < 9));
         assert!(rt; !items.has_due(&|block| block < 26 || block == 30));

@@ -1,5 +1,5 @@
 -- A journal: the form of the mount, its item lists, its contents, and why it is shut, if it is.
-use Rattle.std.specs.Prelude.{Bool, List, None, Option, [], ℕ, ◌||◌}
+use Rattle.std.specs.Prelude.{Bool, List, None, Option, [], is_none, true, ℕ, ◌||◌, ◌≡◌}
 use Rattle.xt_base.specs.Form.{Form}
 use Rattle.xt_base.specs.Maps.{is_in}
 use Rattle.xt_base.specs.Space.{is_listed}
@@ -8,6 +8,7 @@ use Rattle.xt_base.specs.declared.steps.Owner.{Owner}
 use Rattle.xt_base.specs.declared.steps.Reason.{Reason}
 use Rattle.xt_frames.specs.Contents.{no_frames}
 use Rattle.xt_items.specs.Lists.{Lists, no_items, with_landed}
+use Rattle.xt_vectors.specs.Vectors.{vectors_of}
 
 -- what clauses see of it
 pub record JournalState : Type 0 where
@@ -15,6 +16,10 @@ pub record JournalState : Type 0 where
   pub lists : Lists
   pub frames : Frames
   pub shut : Option Reason
+
+-- the log vectors of the commit list are the committed bytes of its chunks, on a live mount; on a shut one nothing is written any more
+abbrev pub AreVectors : ℕ → Lists → Frames → Option Reason → Type 0
+AreVectors size l f shut = is_none shut ≡ true → l.vectors ≡ vectors_of size f.committed l.cil
 
 -- the journal of a new mount
 abbrev pub no_journal : Form → JournalState

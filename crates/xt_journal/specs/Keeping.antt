@@ -1,23 +1,36 @@
 -- The end of a leg, as far as it touches the contents and the commit list.
-use Rattle.std.specs.Prelude.{Bool, List, filter, if◌then◌else◌, not, ℕ, ◌∷◌}
+use Rattle.std.specs.Prelude.{Bool, List, [], filter, if◌then◌else◌, not, unwrap_or, ℕ, ◌∷◌}
 use Rattle.xt_base.specs.Legs.{is_lost, joined_marks, with_edit, with_edits, with_lost, with_marks}
 use Rattle.xt_base.specs.Maps.{at, has, put, with_member}
 use Rattle.xt_base.specs.State.{Change, Frames, Leg}
 use Rattle.xt_items.specs.Lists.{Lists}
 use Rattle.xt_journal.specs.Journals.{JournalState}
+use Rattle.xt_vectors.specs.Vectors.{Vector, vector}
 
 -- the frames with the edits of a leg
 abbrev pub edits_kept : List (ℕ × Change) → Frames → Frames
 edits_kept cs f = record f { committed = with_edits cs f.committed }
 
--- the commit list with the marks of a leg
+-- the log vector of a change with the marks that its block's item has then; that of a cancelled block has none
+abbrev pub change_vector : Change → List ℕ → Vector
+change_vector change marks = vector (unwrap_or change.edit []) marks
+
+-- the log vectors of a commit list, with those of the changes of a leg
+abbrev pub with_vectors : List (ℕ × Change) → List (ℕ × List ℕ) → List (ℕ × Vector) → List (ℕ × Vector)
+with_vectors [] cil vs = vs
+with_vectors (e ∷ es) cil vs = with_vectors es (put e.0 (joined_marks (at e.0 cil) e.1) cil) (put e.0 (change_vector e.1 (joined_marks (at e.0 cil) e.1)) vs)
+
+-- the commit list with the marks of a leg, and its log vectors
 abbrev pub marks_kept : List (ℕ × Change) → Lists → Lists
-marks_kept cs l = record l { cil = with_marks cs l.cil }
+marks_kept cs l = record l { cil = with_marks cs l.cil; vectors = with_vectors cs l.cil l.vectors }
 
 -- one change is committed
 abbrev pub change_kept : ℕ → Change → JournalState → JournalState
 change_kept b change j = record j {
-  lists = record j.lists { cil = put b (joined_marks (at b j.lists.cil) change) j.lists.cil };
+  lists = record j.lists {
+    cil = put b (joined_marks (at b j.lists.cil) change) j.lists.cil;
+    vectors = put b (change_vector change (joined_marks (at b j.lists.cil) change)) j.lists.vectors;
+  };
   frames = record j.frames { committed = with_edit b change.edit j.frames.committed };
 }
 

@@ -1,13 +1,14 @@
 //! The journal of a mount: item lists and contents in one hand, since what is written to the log is of both.
 
-ghost use Rattle.std.specs.Prelude.{◌≡◌, ◌+◌, ◌*◌, ◌<◌, ◌≤◌, [], Some, None, filter, is_none, is_some, length, not, true, IfErr, IfOk, IfSome};
+ghost use Rattle.std.specs.Prelude.{◌≡◌, ◌+◌, ◌*◌, ◌<◌, ◌≤◌, [], Some, None, filter, is_none, is_some, length, not, true, IfErr, IfOk, IfSome, false};
 ghost use Rattle.xt_base.specs.Calls.{shut_for};
 ghost use Rattle.xt_base.specs.Jobs.{activated, fits_plan, gone};
-ghost use Rattle.xt_base.specs.Maps.{at, has, put, without, without_member};
+ghost use Rattle.xt_base.specs.Maps.{at, has, is_in, put, without, without_member};
 ghost use Rattle.xt_base.specs.Space.{cost, flight_items};
 ghost use Rattle.xt_frames.specs.Contents.{brought_in};
 ghost use Rattle.xt_frames.specs.Shares.{no_contents};
 ghost use Rattle.xt_journal.specs.Journals.{no_journal};
+ghost use Rattle.xt_vectors.specs.Vectors.{vectors_of};
 
 use bytes::Bytes;
 use std::alloc::{AllocError, Global};
@@ -23,8 +24,10 @@ use xt_frames::frames::Frames;
 use xt_frames::share::FrameShare;
 use xt_items::items::Items;
 use xt_items::plan::FlushPlan;
+use xt_vectors::vector::LogVector;
 
 /// The item lists of a mount beside the contents that they are of, and why the mount is shut, if it is. Clauses see all four parts.
+/// On a live mount each log vector of the commit list has the committed bytes of its item's chunks.
 #[derive(Debug, Drop)]
 pub struct Journal {
     pub(crate) items: Items,
@@ -38,7 +41,11 @@ impl Model for Journal {
 
     ghost Value = { JournalState };
 
+    ghost use Rattle.xt_journal.specs.Journals.{AreVectors};
+
     ghost view = { λ j. record { form = j.form; lists = j.items; frames = j.frames; shut = j.shut } };
+
+    ghost invariant = { λ j. AreVectors j.form.size j.items j.frames j.shut };
 }
 
 impl Journal {
@@ -94,6 +101,14 @@ impl Journal {
         self.items.cil_cost(self.form)
     }
 
+    /// The log vectors of the commit list of a live mount: what a checkpoint of it is written from.
+    pub fn vectors(&self) -> &[(u64, LogVector)]
+        requires { is_none self.now.shut ≡ true }
+        ensures { result.now ≡ vectors_of self.now.form.size self.now.frames.committed self.now.lists.cil }
+    {
+        self.items.vectors()
+    }
+
     /// The contents.
     pub fn frames(&self) -> &Frames
         ensures { result.now ≡ self.now.frames }
@@ -118,8 +133,9 @@ impl Journal {
     }
 
     // ---- contents
-    /// A block becomes busy: with its idle content, or fresh. It takes no memory.
+    /// A block that is not listed becomes busy: with its idle content, or fresh. It takes no memory.
     pub fn bring(&mut self, block: u64)
+        requires unlisted { is_in block self.old.lists.cil ≡ false }
         requires committed { length self.old.frames.committed < ROOM }
         requires fresh { length self.old.frames.fresh < ROOM }
         ensures { self.new ≡ record self.old { frames = brought_in block (at block self.old.frames.idle) self.old.frames } }
@@ -127,9 +143,10 @@ impl Journal {
         self.frames.bring(block);
     }
 
-    /// A block becomes busy, with this content. It takes no memory.
+    /// A block that is not listed becomes busy, with this content. It takes no memory.
     pub fn bring_content(&mut self, block: u64, content: Content)
-        requires { length self.old.frames.committed < ROOM }
+        requires unlisted { is_in block self.old.lists.cil ≡ false }
+        requires room { length self.old.frames.committed < ROOM }
         ensures { self.new ≡ record self.old { frames = record self.old.frames { committed = put block content self.old.frames.committed; idle = without block self.old.frames.idle } } }
     {
         self.frames.bring_content(block, content);
@@ -166,6 +183,7 @@ impl Journal {
         ensures { self.new ≡ record self.old { lists = record self.old.lists {
           open_number = self.old.lists.open_number + 1;
           cil = [];
+          vectors = [];
           flight = Some (record { number = self.old.lists.open_number; items = self.old.lists.cil; pieces = pieces.items });
         } } }
     {

@@ -1,4 +1,4 @@
-//! A leg is committed: its edits are the committed contents, and its marks stand on the commit list.
+//! A leg is committed: its edits are the committed contents, and its marks stand on the commit list, with the log vectors that they make.
 
 ghost use Rattle.std.specs.Prelude.{◌≡◌, ◌+◌, ◌≤◌, ◌<◌, length};
 ghost use Rattle.xt_journal.specs.Keeping.{change_kept, changes_kept};
@@ -8,7 +8,8 @@ use xt_base::sizes::ROOM;
 use xt_trans::trans::{Change, TransRec};
 
 impl Journal {
-    /// The edits of a leg are committed, and its marks joined to the commit list. It takes no memory.
+    /// The edits of a leg are committed, and its marks joined to the commit list; the log vector of each changed block has the committed
+    /// bytes of all chunks of its item. It takes no memory.
     pub fn keep_changes(&mut self, leg: &mut TransRec)
         requires contents { length self.old.frames.committed + length leg.old.changes ≤ ROOM }
         requires cil { length self.old.lists.cil + length leg.old.changes ≤ ROOM }
@@ -30,10 +31,12 @@ impl Journal {
             marks,
             charged: _,
         } = change;
+        let _cil = self.items.cil();
         match edit {
-            Some(content) => {
+            Some(edit) => {
+                let (content, room) = edit.into_parts();
+                self.items.mark(block, marks, &content, room);
                 self.frames.commit(block, content);
-                self.items.mark(block, marks);
             }
             None => {
                 self.frames.uncommit(block);

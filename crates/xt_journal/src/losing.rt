@@ -1,6 +1,7 @@
 //! A leg is given up: what it changed and holds is held as fresh.
 
-ghost use Rattle.std.specs.Prelude.{◌≡◌, ◌+◌, ◌≤◌, ◌<◌, length};
+ghost use Rattle.std.specs.Prelude.{◌≡◌, ◌+◌, ◌≤◌, ◌<◌, ◌&&◌, false, is_none, length};
+ghost use Rattle.xt_base.specs.Legs.{is_dirty};
 ghost use Rattle.xt_journal.specs.Keeping.{contents_lost, fresh_lost, is_saved, leg_lost, lost_with};
 
 use crate::journal::Journal;
@@ -9,9 +10,11 @@ use xt_frames::frames::Frames;
 use xt_trans::trans::{Change, TransRec};
 
 impl Journal {
-    /// A leg is given up: what it changed and holds is held as fresh, with no content. It takes no memory.
+    /// A leg is given up, on a live mount only a clean one: what it changed and holds is held as fresh, with no content. It takes no
+    /// memory.
     pub fn lose_leg(&mut self, leg: &mut TransRec)
-        requires { length self.old.frames.fresh + length leg.old.changes ≤ ROOM }
+        requires kept { (is_dirty leg.old && is_none self.old.shut) ≡ false }
+        requires room { length self.old.frames.fresh + length leg.old.changes ≤ ROOM }
         ensures { self.new ≡ record self.old { frames = leg_lost leg.old self.old.frames } }
     {
         lose_contents(&mut self.frames, leg);

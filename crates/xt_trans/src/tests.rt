@@ -5,6 +5,7 @@ use std::test::*;
 use xt_base::chunks::Chunks;
 use xt_base::content::Content;
 use xt_base::form::Form;
+use xt_vectors::{Edit, VectorRoom};
 
 /// Where memory is refused, the call that took it says so, and the leg answers as before. Run it with each allocation
 /// failing in turn.
@@ -14,11 +15,11 @@ fn memory_refused(rt: HostRuntime) {
     let Ok(mut leg) = TransRec::new(alloc) else {
         return;
     };
-    let Ok(edit) = Content::zeros(alloc, Form::one()) else {
+    let (Ok(content), Ok(room)) = (Content::zeros(alloc, Form::one()), VectorRoom::new(alloc)) else {
         return;
     };
     leg.hold(7);
-    leg.log(7, edit, Chunks::mark(0, 1));
+    leg.log(7, Edit::new(content, room), Chunks::mark(0, 1));
     let is_seen = leg.seen(alloc, Form::one(), None, 7, false, None).is_ok();
     let is_told = leg.held(alloc).is_ok();
     assert!(rt; is_seen || is_told);

@@ -22,13 +22,14 @@ use xt_base::marks::ItemMarks;
 use xt_base::names::Block;
 use xt_base::newly::Newly;
 use xt_base::sizes::{BUSY_BLOCKS, CHUNK_COST, CHUNKS, ITEM_COST, MOST_ENDS, ROOM};
+use xt_vectors::edit::Edit;
 
 /// What a leg did to one block, after `xfs_buf_log_item`: its marks, the bytes, if it was changed, the chunks marked, and
 /// the chunks charged.
 #[derive(Debug, Drop)]
 struct BufItem {
     marks: ItemMarks,
-    edit: Option<Content>,
+    edit: Option<Edit>,
     chunks: Chunks,
     charged: Chunks,
 }
@@ -37,12 +38,28 @@ struct BufItem {
 /// the chunks charged.
 #[derive(Debug, Drop)]
 pub struct Change {
-    pub edit: Option<Content>,
+    pub edit: Option<Edit>,
     pub marks: Chunks,
     pub charged: Chunks,
 }
 
 impl Model for Change {
+    ghost use Rattle.xt_base.specs.State.{Change as ChangeValue};
+
+    ghost Value = { ChangeValue };
+
+    ghost view = { λ c. record { edit = c.edit; marks = c.marks; charged = c.charged } };
+}
+
+/// The same as a plain value, with no room for what its commit makes.
+#[derive(Debug, Drop)]
+pub struct ChangeState {
+    pub edit: Option<Content>,
+    pub marks: Chunks,
+    pub charged: Chunks,
+}
+
+impl Model for ChangeState {
     ghost use Rattle.xt_base.specs.State.{Change as ChangeValue};
 
     ghost Value = { ChangeValue };
@@ -118,7 +135,7 @@ impl TransRec {
         ensures { option_copied result ≡ (change_of block self.now).edit }
     {
         match self.changed(block) {
-            Some(item) => item.edit.as_ref(),
+            Some(item) => content_of(&item.edit),
             None => None,
         }
     }
@@ -219,7 +236,7 @@ impl TransRec {
     }
 
     /// Copies of what the leg did to the blocks that it changed or invalidated, by rising block. The one error is want of memory.
-    pub fn changes(&self, alloc: Global) -> Result<Vec<(u64, Change)>, AllocError>
+    pub fn changes(&self, alloc: Global) -> Result<Vec<(u64, ChangeState)>, AllocError>
         ensures { IfOk result (λ changes. changes.items ≡ self.now.changes) }
     {
         changes_of(alloc, self.items.entries())
@@ -233,7 +250,7 @@ impl TransRec {
     }
 
     /// A block has these bytes in the leg, and these chunks are marked and charged too. One that was invalidated is so no more.
-    pub fn log(&mut self, block: u64, edit: Content, marked: Chunks)
+    pub fn log(&mut self, block: u64, edit: Edit, marked: Chunks)
         requires { is_in block self.old.changes ≡ false → length self.old.changes + length self.old.holds < ROOM }
         ensures { self.new ≡ edited block edit marked self.old }
     {
@@ -311,6 +328,16 @@ impl TransRec {
         ensures { MatchOption result (self.now.changes ≡ []) (λ block. self.now.changes ≡ (block, change_of block self.now) ∷ without block self.now.changes) }
     {
         first_dirty(self.items.entries())
+    }
+}
+
+/// The bytes of an edit.
+fn content_of(edit: &Option<Edit>) -> Option<&Content>
+    ensures { option_copied result ≡ edit.now }
+{
+    match edit {
+        Some(edit) => Some(edit.content()),
+        None => None,
     }
 }
 
@@ -400,7 +427,10 @@ fn held_blocks(alloc: Global, items: &[(u64, BufItem)]) -> Result<Vec<Block>, Al
 }
 
 /// Copies of the changes of the dirty entries.
-fn changes_of(alloc: Global, items: &[(u64, BufItem)]) -> Result<Vec<(u64, Change)>, AllocError>
+fn changes_of(
+    alloc: Global,
+    items: &[(u64, BufItem)],
+) -> Result<Vec<(u64, ChangeState)>, AllocError>
     ensures { IfOk result (λ changes. changes.items ≡ (leg_of items.now).changes) }
 {
     let mut changes = Vec::new(alloc);
@@ -414,14 +444,14 @@ fn changes_of(alloc: Global, items: &[(u64, BufItem)]) -> Result<Vec<(u64, Chang
 }
 
 /// A copy of an entry's change. The one error is want of memory.
-fn change_copy(alloc: Global, item: &BufItem) -> Result<Change, AllocError>
+fn change_copy(alloc: Global, item: &BufItem) -> Result<ChangeState, AllocError>
     ensures { IfOk result (λ change. change ≡ change_in item.now) }
 {
     let edit = match &item.edit {
-        Some(content) => Some(content.copy(alloc)?),
+        Some(edit) => Some(edit.content().copy(alloc)?),
         None => None,
     };
-    Ok(Change {
+    Ok(ChangeState {
         edit,
         marks: item.chunks,
         charged: item.charged,
@@ -523,7 +553,7 @@ fn released(mut item: BufItem) -> BufItem
 }
 
 /// An entry whose block has these bytes, and these chunks are marked and charged too.
-fn logged(item: BufItem, edit: Content, marked: Chunks) -> BufItem
+fn logged(item: BufItem, edit: Edit, marked: Chunks) -> BufItem
     ensures marks { marks_of result.marks ≡ record (marks_of item.marks) { stale = false; dirty = true } }
     ensures change { change_in result ≡ record { edit = Some edit; marks = either item.chunks marked; charged = either item.charged marked } }
 {
