@@ -21,16 +21,16 @@ use Rattle.xt_vectors.specs.Vectors.{Vector, no_vector, vector, vectors_of}
 
 module _ (size : ℕ) (l : Lists) (f : Frames) (shut : Option Reason) (tied : AreVectors size l f shut) where
   -- ---- a block that is not listed comes
-  pub tied_put : (b : ℕ) (content : List ℕ) (g : Frames) → is_in b l.cil ≡ false → g.committed ≡ put b content f.committed → AreVectors size l g shut
+  pub tied_put : (b : ℕ) (content : List ℕ) (g : Frames) → (is_none shut ≡ true → is_in b l.cil ≡ false) → g.committed ≡ put b content f.committed → AreVectors size l g shut
   tied_put b content g out is =
-      λ live. tied live ∙ sym (vectors_other size b f.committed (put b content f.committed) (λ k other. at_put_other b k content f.committed other) l.cil out)
+      λ live. tied live ∙ sym (vectors_other size b f.committed (put b content f.committed) (λ k other. at_put_other b k content f.committed other) l.cil (out live))
       ∙ ap (λ contents. vectors_of size contents l.cil) (sym is)
 
-  tied_by : (b : ℕ) (o : Option (List ℕ)) (g : Frames) → is_in b l.cil ≡ false → g ≡ brought_in b o f → AreVectors size l g shut
+  tied_by : (b : ℕ) (o : Option (List ℕ)) (g : Frames) → (is_none shut ≡ true → is_in b l.cil ≡ false) → g ≡ brought_in b o f → AreVectors size l g shut
   tied_by b None g out is = λ live. tied live ∙ ap (λ (x : Frames). vectors_of size x.committed l.cil) (sym is)
   tied_by b (Some content) g out is = tied_put b content g out (ap (λ (x : Frames). x.committed) is)
 
-  pub tied_brought : (b : ℕ) (g : Frames) → is_in b l.cil ≡ false → g ≡ brought_in b (at b f.idle) f → AreVectors size l g shut
+  pub tied_brought : (b : ℕ) (g : Frames) → (is_none shut ≡ true → is_in b l.cil ≡ false) → g ≡ brought_in b (at b f.idle) f → AreVectors size l g shut
   tied_brought b g out is = tied_by b (at b f.idle) g out is
 
   -- ---- contents go, and those of listed blocks stay

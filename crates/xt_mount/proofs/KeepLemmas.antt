@@ -1,11 +1,14 @@
 -- A transaction that is taken out, changed and put back.
-use Rattle.std.proofs.Common.{◌≡◌, ◌≢◌, ◌∙◌, ◌+◌, ◌<◌, ◌≤◌, false, true, ℕ, suc, List, Option, None, [], ◌∷◌, Some, sym, ap, subst, refl, inl, inr, arith, IfSome, length}
-use Rattle.std.proofs.lemmas.Bool.{cases_order}
+use Rattle.std.proofs.Common.{◌≡◌, ◌≢◌, ◌∙◌, ◌+◌, ◌<◌, ◌≤◌, Bool, false, true, ℕ, suc, List, Option, None, [], ◌∷◌, Some, sym, ap, subst, refl, inl, inr, arith, IfSome, length, not}
+use Rattle.std.proofs.lemmas.Bool.{cases_Bool, cases_order, false≢true}
+use Rattle.std.specs.Prelude.{is_none, ◌&&◌, ◌||◌}
 use Rattle.xt_base.specs.Maps.{at, has, is_in, put, set_at, without}
-use Rattle.xt_base.specs.Calls.{is_own, with_leg}
-use Rattle.xt_base.specs.Sound.{IsRising, IsSound, RisesFrom}
+use Rattle.xt_base.specs.Calls.{is_absent, is_fresh, is_own, with_leg}
+use Rattle.xt_base.specs.Sound.{IsRising, IsSound, IsUnwritten, RisesFrom}
+use Rattle.xt_base.specs.Space.{flight_items, is_busy}
 use Rattle.xt_base.specs.State.{Leg, State, Transaction}
 use Rattle.xt_base.proofs.MapLemmas.{some_none, at_later, put_less, put_more, set_first, set_later, without_first, without_later}
+use Rattle.xt_base.proofs.KeyLemmas.{each_has}
 use Rattle.xt_base.proofs.RisingLemmas.{none_below}
 use Rattle.xt_base.proofs.SoundBounds.{few_changes, few_holds, fewer_changes, fewer_holds}
 
@@ -61,3 +64,31 @@ room_held s t b u sound there own =
 pub if_then : {X : Type 0} (o : Option X) (P Q : X → Type 0) → ((x : X) → P x → Q x) → IfSome o P → IfSome o Q
 if_then None P Q f h = tt
 if_then (Some x) P Q f h = f x h
+
+-- ---- a block that is not on the commit list
+-- a listed block is busy
+listed_by : (a b c d : Bool) → (a || (b || c || d)) ≡ false → b ≡ false
+listed_by true b c d is = absurd (false≢true (sym is))
+listed_by false true c d is = absurd (false≢true (sym is))
+listed_by false false c d is = refl
+
+pub unlisted_free : (s : State) (b : ℕ) → is_busy s b ≡ false → is_in b s.items.cil ≡ false
+unlisted_free s b free = listed_by (is_in b s.owners) (is_in b s.items.cil) (is_in b (flight_items s.items.flight)) (is_in b s.items.ail) free
+
+-- one that a transaction does not have, and that is not resident, is fresh where it is busy
+fresh_by : (own busy fresh idle : Bool) → (not own && not ((busy && not fresh) || idle)) ≡ true → busy ≡ true → fresh ≡ true
+fresh_by true busy fresh idle absent is = absurd (false≢true absent)
+fresh_by false true true idle absent is = refl
+fresh_by false true false idle absent is = absurd (false≢true absent)
+fresh_by false false fresh idle absent is = absurd (false≢true is)
+
+-- and fresh blocks are on no list, where the mount is live
+pub unlisted_absent : (s : State) (t b : ℕ) → IsSound s → is_absent t b s ≡ true → is_none s.shut ≡ true → is_in b s.items.cil ≡ false
+unlisted_absent s t b sound absent live =
+    elim (cases_Bool (is_busy s b)) [
+      | inl busy ↦
+          let fresh : is_fresh s b ≡ true = fresh_by (is_own s t b) (is_busy s b) (is_fresh s b) (is_in b s.frames.idle) absent busy in
+          let unwritten : IsUnwritten s.owners s.transactions s.items b = each_has (IsUnwritten s.owners s.transactions s.items) b s.frames.fresh fresh (sound.fresh_owned live) in
+          listed_by false (is_in b s.items.cil) (is_in b (flight_items s.items.flight)) (is_in b s.items.ail) unwritten.unlisted
+      | inr free ↦ unlisted_free s b free
+    ]

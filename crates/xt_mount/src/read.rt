@@ -25,7 +25,8 @@ impl Machine {
     fn is_unreadable(&self, leg: &TransRec, trans: TransNo, block: Block) -> bool
         ensures { result ≡ (is_own (state_of self.now) trans block && (is_fresh (state_of self.now) block || is_stale block leg.now)) }
     {
-        self.is_own(trans, block) && (self.accounts.frames().is_fresh(block.0) || leg.is_stale(block.0))
+        self.is_own(trans, block)
+            && (self.accounts.frames().is_fresh(block.0) || leg.is_stale(block.0))
     }
 
     /// What refuses a read before its device is asked.
@@ -50,7 +51,8 @@ impl Machine {
     fn is_resident(&self, block: Block) -> bool
         ensures { result ≡ is_resident (state_of self.now) block }
     {
-        (self.is_busy(block) && !self.accounts.frames().is_fresh(block.0)) || self.accounts.frames().is_idle(block.0)
+        (self.is_busy(block) && !self.accounts.frames().is_fresh(block.0))
+            || self.accounts.frames().is_idle(block.0)
     }
 
     /// Whether a block is neither the transaction's own nor resident.

@@ -26,7 +26,10 @@ fn chunks_are_copied(rt: HostRuntime) {
     };
     assert_eq!(rt; vector.chunks().count(), 2);
     assert_eq!(rt; vector.bytes().len(), 256);
-    assert_eq!(rt; (vector.bytes().get(2), vector.bytes().get(130)), (Some(&7), Some(&0)));
+    assert_eq!(rt;
+        (vector.bytes().get(2), vector.bytes().get(130)),
+        (Some(&7), Some(&0))
+    );
 }
 
 /// A cancelled block has no chunk.

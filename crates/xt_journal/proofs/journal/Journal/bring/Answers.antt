@@ -1,4 +1,5 @@
-use Rattle.std.proofs.Common.{◌∙◌, ap}
+use Rattle.std.proofs.Common.{◌≡◌, false, subst, sym, true}
+use Rattle.std.specs.Prelude.{is_none}
 use Rattle.xt_base.specs.Maps.{is_in}
 use Rattle.xt_journal.specs.Journals.{JournalState}
 use Rattle.xt_journal.proofs.TieLemmas.{tied_brought}
@@ -7,4 +8,5 @@ use Rattle.xt_journal.proofs.journal.Journal.bring.Goals as goal
 pub invariant_of-self : goal.invariant_of-self
 invariant_of-self c =
     let now = c.self.inside in
-    tied_brought now.form.size now.items now.frames now.shut c.self.invariant c.args.block c.bring.new.self (ap (λ (j : JournalState). is_in c.args.block j.lists.cil) c.self.view_is ∙ c.requires.unlisted) c.bring.ensures
+    let out = subst (λ (j : JournalState). is_none j.shut ≡ true → is_in c.args.block j.lists.cil ≡ false) (sym c.self.view_is) c.requires.unlisted in
+    tied_brought now.form.size now.items now.frames now.shut c.self.invariant c.args.block c.bring.new.self out c.bring.ensures

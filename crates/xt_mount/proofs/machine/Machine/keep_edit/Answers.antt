@@ -24,8 +24,8 @@ returns c =
     let fresh : AccountsState → AccountsState = λ a. record a { frames = record a.frames { fresh = without_member c.args.block a.frames.fresh } } in
     let is_left = c.leave_fresh.ensures ∙ ap (λ b. record c.log.new.self { frames = record c.log.new.self.frames { fresh = without_member b c.log.new.self.frames.fresh } }) c.block.view_is in
     let logged =
-    subst (λ b. IfSome (at c.args.trans s.transactions) (λ t. c.log.new.self ≡ releg c.args.trans t (edited b c.args.content c.args.marked t.leg) old)) c.block.view_is
-    (subst (λ n. IfSome (at n s.transactions) (λ t. c.log.new.self ≡ releg n t (edited c.block.inside.0 c.args.content c.args.marked t.leg) old)) c.trans.view_is c.log.ensures) in
+    subst (λ b. IfSome (at c.args.trans s.transactions) (λ t. c.log.new.self ≡ releg c.args.trans t (edited b c.args.edit c.args.marked t.leg) old)) c.block.view_is
+    (subst (λ n. IfSome (at n s.transactions) (λ t. c.log.new.self ≡ releg n t (edited c.block.inside.0 c.args.edit c.args.marked t.leg) old)) c.trans.view_is c.log.ensures) in
     if_then (at c.args.trans s.transactions) _ _
     (λ t h. ap (λ (a : AccountsState). state_of (record machine { accounts = a })) (is_left ∙ ap fresh h))
     logged

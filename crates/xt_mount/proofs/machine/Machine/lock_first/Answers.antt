@@ -1,6 +1,7 @@
-use Rattle.std.proofs.Common.{arith}
+use Rattle.std.proofs.Common.{◌∙◌, arith, sym}
 use Rattle.xt_base.proofs.SoundBounds.{few_contents, few_fresh}
 use Rattle.xt_mount.specs.Machines.{state_of}
+use Rattle.xt_mount.proofs.KeepLemmas.{unlisted_free}
 use Rattle.xt_mount.proofs.machine.Machine.lock_first.Goals as goal
 
 pub bring-requires-clause-committed : goal.bring-requires-clause-committed
@@ -8,3 +9,6 @@ bring-requires-clause-committed c = omega (arith, few_contents (state_of c.args.
 
 pub bring-requires-clause-fresh : goal.bring-requires-clause-fresh
 bring-requires-clause-fresh c = omega (arith, few_fresh (state_of c.args.self.now) c.requires.sound)
+
+pub bring-requires-clause-unlisted : goal.bring-requires-clause-unlisted
+bring-requires-clause-unlisted c = ?

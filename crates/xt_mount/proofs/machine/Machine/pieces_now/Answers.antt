@@ -1,6 +1,5 @@
 use Rattle.std.proofs.Common.{◌∙◌, ap, sym, length, arith, subst}
 use Rattle.xt_base.proofs.BusyLemmas.{few_committed}
-use Rattle.xt_base.proofs.DeviceLemmas.{text_committed}
 use Rattle.xt_base.specs.State.{State}
 use Rattle.xt_ckpt.specs.Items.{BlocksRise}
 use Rattle.xt_mount.specs.Machines.{state_of}
@@ -17,6 +16,3 @@ write_checkpoint-requires-clause-count c =
 pub write_checkpoint-requires-clause-rising : goal.write_checkpoint-requires-clause-rising
 write_checkpoint-requires-clause-rising c =
     subst BlocksRise (sym c.deref.ensures.value) (blocks_rise c.args.self.now.accounts.items.cil c.in_ok-items.items.items c.requires.sound.parts.cil_rises c.in_ok-items.ensures.blocks)
-
-pub items_now-requires : goal.items_now-requires
-items_now-requires c = text_committed (state_of c.args.self.now) c.requires.sound c.requires.live

@@ -1,7 +1,11 @@
 use Rattle.std.proofs.Common.{arith}
 use Rattle.xt_base.proofs.SoundBounds.{few_contents}
 use Rattle.xt_mount.specs.Machines.{state_of}
+use Rattle.xt_mount.proofs.KeepLemmas.{unlisted_absent}
 use Rattle.xt_mount.proofs.machine.Machine.take_content.Goals as goal
 
-pub bring_content-requires : goal.bring_content-requires
-bring_content-requires c = omega (arith, few_contents (state_of c.args.self.now) c.requires.sound)
+pub bring_content-requires-clause-room : goal.bring_content-requires-clause-room
+bring_content-requires-clause-room c = omega (arith, few_contents (state_of c.args.self.now) c.requires.sound)
+
+pub bring_content-requires-clause-unlisted : goal.bring_content-requires-clause-unlisted
+bring_content-requires-clause-unlisted c = ?
