@@ -133,9 +133,9 @@ impl Journal {
     }
 
     // ---- contents
-    /// A block that is not listed becomes busy: with its idle content, or fresh. It takes no memory.
+    /// A block becomes busy, on a live mount one that is not listed: with its idle content, or fresh. It takes no memory.
     pub fn bring(&mut self, block: u64)
-        requires unlisted { is_in block self.old.lists.cil ≡ false }
+        requires unlisted { is_none self.old.shut ≡ true → is_in block self.old.lists.cil ≡ false }
         requires committed { length self.old.frames.committed < ROOM }
         requires fresh { length self.old.frames.fresh < ROOM }
         ensures { self.new ≡ record self.old { frames = brought_in block (at block self.old.frames.idle) self.old.frames } }
@@ -143,9 +143,9 @@ impl Journal {
         self.frames.bring(block);
     }
 
-    /// A block that is not listed becomes busy, with this content. It takes no memory.
+    /// A block becomes busy, on a live mount one that is not listed, with this content. It takes no memory.
     pub fn bring_content(&mut self, block: u64, content: Content)
-        requires unlisted { is_in block self.old.lists.cil ≡ false }
+        requires unlisted { is_none self.old.shut ≡ true → is_in block self.old.lists.cil ≡ false }
         requires room { length self.old.frames.committed < ROOM }
         ensures { self.new ≡ record self.old { frames = record self.old.frames { committed = put block content self.old.frames.committed; idle = without block self.old.frames.idle } } }
     {

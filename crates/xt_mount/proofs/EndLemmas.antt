@@ -1,14 +1,18 @@
 -- The end of a leg, and what its transaction answers.
 use Rattle.std.proofs.Common.{◌≡◌, ◌∙◌, Bool, IfSome, List, Option, Some, None, [], ap, false, if◌then◌else◌, not, refl, subst, sym, true, ◌∷◌, ℕ}
+use Rattle.std.proofs.lemmas.Bool.{false≢true}
 use Rattle.std.specs.List.{cons_option}
-use Rattle.std.specs.Prelude.{filter_map, option_map}
-use Rattle.xt_base.specs.Calls.{cancel, closed, gives, held_of, okay_of, shut_if, with_trans}
+use Rattle.std.specs.Prelude.{filter_map, is_none, is_some, option_map, ◌&&◌}
+use Rattle.xt_base.proofs.SoundBuffers.{sound_shut_if}
+use Rattle.xt_base.specs.Calls.{cancel, closed, gives, held_of, okay_of, shut_for, shut_if, with_trans}
 use Rattle.xt_base.specs.Legs.{aborted, is_dirty, is_stale, owned_by, owner_aborted, owner_after}
-use Rattle.xt_base.specs.Maps.{at, has}
+use Rattle.xt_base.specs.Maps.{at, has, is_in}
 use Rattle.xt_base.specs.Settle.{settled}
+use Rattle.xt_base.specs.Sound.{IsSound}
 use Rattle.xt_base.specs.State.{Leg, State, Transaction}
 use Rattle.xt_base.specs.declared.steps.Owner.{Owner}
 use Rattle.xt_base.specs.declared.steps.Owner.TheVariants.{Held, Stale}
+use Rattle.xt_base.specs.declared.steps.Reason.{Reason}
 use Rattle.xt_base.specs.declared.steps.Reason.TheVariants.{CorruptIncore}
 use Rattle.xt_base.specs.declared.steps.Reply.{Reply}
 use Rattle.xt_locks.specs.Locking.{passed}
@@ -49,15 +53,55 @@ owners_left t number leg os = passed_alike (passed t (owner_left leg number)) (o
 pub owners_kept : (t : ℕ) (leg : Leg) (os : List (ℕ × Owner)) → filter_map (passed t (owner_kept leg)) os ≡ filter_map (owner_aborted t leg) os
 owners_kept t leg os = passed_alike (passed t (owner_kept leg)) (owner_aborted t leg) (λ e. kept_is (owned_by t e.1) (has leg.holds e.0) e) os
 
--- ---- the end of an open transaction
-module _ (s : State) (t : ℕ) (trans : Transaction) (there : Some trans ≡ at t s.transactions) where
-  -- it is cancelled
-  pub cancelled : (held : Option (List ℕ)) (dirty : Bool) (mid shut new : State) (reply : Reply) → held ≡ held_of trans.leg.holds → dirty ≡ is_dirty trans.leg
-      → IfSome (at t s.transactions) (λ u. mid ≡ closed t (aborted t u.leg s)) → shut ≡ shut_if dirty CorruptIncore mid → new ≡ settled [] shut → reply ≡ okay_of held
-      → gives reply new ≡ with_trans (at t s.transactions) s (cancel [] t s)
-  cancelled held dirty mid shut new reply named clean ends shuts settles says =
-      ap (gives reply) (settles ∙ ap (settled []) (shuts ∙ ap (λ b. shut_if b CorruptIncore mid) clean
-      ∙ ap (shut_if (is_dirty trans.leg) CorruptIncore) (some_if (at t s.transactions) (λ u. mid ≡ closed t (aborted t u.leg s)) trans there ends)))
+-- ---- a leg that is given up
+-- where a mount is shut, its leg may be dirty
+pub shut_kept : {A : Type 0} (dirty : Bool) (o : Option A) → is_some o ≡ true → (dirty && is_none o) ≡ false
+shut_kept true None is = absurd (false≢true is)
+shut_kept true (Some a) is = refl
+shut_kept false o is = refl
+
+pub and_right : (a b : Bool) → (a && b) ≡ true → b ≡ true
+and_right true b is = is
+and_right false b is = absurd (false≢true is)
+
+-- its transaction is cancelled: a dirty one shuts the mount first
+module _ (s : State) (t : ℕ) (trans : Transaction) (there : Some trans ≡ at t s.transactions) (dirty : Bool) (clean : dirty ≡ is_dirty trans.leg) (mid : State) (shuts : mid ≡ shut_if dirty CorruptIncore s) where
+  shut_transactions : (d : Bool) → (shut_if d CorruptIncore s).transactions ≡ s.transactions
+  shut_transactions true = refl
+  shut_transactions false = refl
+
+  -- it is still there
+  there_shut : Some trans ≡ at t mid.transactions
+  there_shut = there ∙ sym (ap (at t) (shut_transactions dirty)) ∙ sym (ap (λ (x : State). at t x.transactions) shuts)
+
+  pub open_shut : is_in t mid.transactions ≡ true
+  open_shut = sym (ap is_some there_shut)
+
+  shut_some : (o : Option Reason) → is_none (shut_for CorruptIncore o) ≡ false
+  shut_some None = refl
+  shut_some (Some r) = refl
+
+  shut_none : (d : Bool) → (d && is_none (shut_if d CorruptIncore s).shut) ≡ false
+  shut_none true = shut_some s.shut
+  shut_none false = refl
+
+  pub kept_shut : IfSome (at t mid.transactions) (λ u. (is_dirty u.leg && is_none mid.shut) ≡ false)
+  kept_shut =
+      if_some (at t mid.transactions) (λ u. (is_dirty u.leg && is_none mid.shut) ≡ false) trans there_shut
+      (ap (λ (x : State). is_dirty trans.leg && is_none x.shut) shuts ∙ ap (λ d. d && is_none (shut_if dirty CorruptIncore s).shut) (sym clean) ∙ shut_none dirty)
+
+  pub sound_shut : IsSound s → IsSound mid
+  sound_shut sound = subst IsSound (sym shuts) (sound_shut_if dirty CorruptIncore s sound)
+
+  swapped : (d : Bool) → closed t (aborted t trans.leg (shut_if d CorruptIncore s)) ≡ shut_if d CorruptIncore (closed t (aborted t trans.leg s))
+  swapped true = refl
+  swapped false = refl
+
+  pub cancelled : (held : Option (List ℕ)) (end new : State) (reply : Reply) → held ≡ held_of trans.leg.holds → IfSome (at t mid.transactions) (λ u. end ≡ closed t (aborted t u.leg mid)) → new ≡ settled [] end
+      → reply ≡ okay_of held → gives reply new ≡ with_trans (at t s.transactions) s (cancel [] t s)
+  cancelled held end new reply named ends settles says =
+      ap (gives reply) (settles ∙ ap (settled []) (some_if (at t mid.transactions) (λ u. end ≡ closed t (aborted t u.leg mid)) trans there_shut ends
+      ∙ ap (λ x. closed t (aborted t trans.leg x)) shuts ∙ swapped dirty ∙ ap (λ d. shut_if d CorruptIncore (closed t (aborted t trans.leg s))) clean))
       ∙ ap (λ r. gives r (settled [] (shut_if (is_dirty trans.leg) CorruptIncore (closed t (aborted t trans.leg s))))) (says ∙ ap okay_of named)
       ∙ ap (λ o. with_trans o s (cancel [] t s)) there
 

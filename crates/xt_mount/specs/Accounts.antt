@@ -68,9 +68,9 @@ flown_in ps j = record j { items = record j.items { open_number = j.items.open_n
 abbrev pub landed_in : Flight → AccountsState → AccountsState
 landed_in f j = record j { items = landed_items j.form.ends f j.items }
 
--- the lists without what landed checkpoints cost
+-- the lists without what landed checkpoints cost, and without log vectors
 abbrev pub lists_in : AccountsState → Lists
-lists_in j = record { open_number = j.items.open_number; cil = j.items.cil; flight = j.items.flight; ail = j.items.ail }
+lists_in j = record { open_number = j.items.open_number; cil = j.items.cil; vectors = []; flight = j.items.flight; ail = j.items.ail }
 
 -- these blocks were written home
 abbrev pub cleaned_in : List ℕ → AccountsState → AccountsState

@@ -1,9 +1,9 @@
 //! The accounts of a mount: its open transactions with their tickets, its journal, and the log space that both use.
 
-ghost use Rattle.std.specs.Prelude.{◌≡◌, ◌+◌, ◌*◌, ◌≤◌, ◌<◌, ◌||◌, ◌++◌, [], Some, None, false, true, is_none, is_some, length, nat_le, nat_lt, not, ◌==◌, IfErr, IfOk, IfSome, OnOk, OnErr, option_copied};
+ghost use Rattle.std.specs.Prelude.{◌≡◌, ◌+◌, ◌*◌, ◌≤◌, ◌<◌, ◌&&◌, ◌++◌, [], Some, None, false, true, is_none, is_some, length, nat_le, nat_lt, not, ◌==◌, IfErr, IfOk, IfSome, OnOk, OnErr, option_copied};
 ghost use Rattle.xt_base.specs.Calls.{edited, invalidated, legs_after, new_trans, shut_for, without_hold};
 ghost use Rattle.xt_base.specs.Jobs.{fits_plan, flight_pieces, gone};
-ghost use Rattle.xt_base.specs.Legs.{clean_leg, with_marks};
+ghost use Rattle.xt_base.specs.Legs.{clean_leg, is_dirty, with_marks};
 ghost use Rattle.xt_base.specs.Maps.{at, has, is_in, put, with_member, without, without_member};
 ghost use Rattle.xt_base.specs.Sound.{AllBelow, IsRising};
 ghost use Rattle.xt_base.specs.Space.{charge, cost, flight_items, granted, is_listed};
@@ -16,6 +16,7 @@ ghost use Rattle.xt_items.specs.Lists.{flight_number};
 ghost use Rattle.xt_items.specs.Plans.{due, planned};
 ghost use Rattle.xt_resv.specs.Ledgers.{is_invalid, is_no_room};
 ghost use Rattle.xt_resv.specs.Mounts.{grant_of, ledger};
+ghost use Rattle.xt_vectors.specs.Vectors.{vectors_of};
 
 use crate::open_trans::OpenTrans;
 use bytes::Bytes;
@@ -36,6 +37,8 @@ use xt_journal::journal::Journal;
 use xt_locks::locks::Locks;
 use xt_resv::space::LogSpace;
 use xt_trans::trans::TransRec;
+use xt_vectors::edit::Edit;
+use xt_vectors::vector::LogVector;
 
 /// The open transactions of a mount, its journal, and its log space, which has what both use: what each ticket was
 /// granted, and what each list costs. Clauses see the transactions, and the lists and contents of the journal.
@@ -183,7 +186,10 @@ impl Accounts {
 
     /// The item lists.
     fn items(&self) -> &Items
-        ensures { result.now ≡ lists_in self.now }
+        ensures number { result.now.open_number ≡ self.now.items.open_number }
+        ensures cil { result.now.cil ≡ self.now.items.cil }
+        ensures flight { result.now.flight ≡ self.now.items.flight }
+        ensures ail { result.now.ail ≡ self.now.items.ail }
     {
         self.journal.items()
     }
@@ -229,6 +235,14 @@ impl Accounts {
         ensures small { length result.now ≤ ROOM }
     {
         self.items().cil()
+    }
+
+    /// The log vectors of the commit list of a live mount, by rising block: what a checkpoint of it is written from.
+    pub fn vectors(&self) -> &[(u64, LogVector)]
+        requires { is_none self.now.shut ≡ true }
+        ensures { result.now ≡ vectors_of self.now.form.size self.now.frames.committed self.now.items.cil }
+    {
+        self.journal.vectors()
     }
 
     /// The active list: each block with the number of its checkpoint.
@@ -361,7 +375,7 @@ impl Accounts {
     }
 
     /// The leg of a transaction has these bytes of a block, and these chunks are marked and charged. It takes no memory.
-    pub fn log(&mut self, trans: u64, block: u64, edit: Content, marked: Chunks)
+    pub fn log(&mut self, trans: u64, block: u64, edit: Edit, marked: Chunks)
         requires there { is_in trans self.old.transactions ≡ true }
         requires rising { IsRising self.old.transactions }
         requires few { IfSome (at trans self.old.transactions) (λ t. is_in block t.leg.changes ≡ false → length t.leg.changes + length t.leg.holds < ROOM) }
@@ -408,8 +422,9 @@ impl Accounts {
     }
 
     // ---- contents
-    /// A block becomes busy: with its idle content, or fresh. It takes no memory.
+    /// A block becomes busy, on a live mount one that is not listed: with its idle content, or fresh. It takes no memory.
     pub fn bring(&mut self, block: u64)
+        requires unlisted { is_none self.old.shut ≡ true → is_in block self.old.items.cil ≡ false }
         requires committed { length self.old.frames.committed < ROOM }
         requires fresh { length self.old.frames.fresh < ROOM }
         ensures { self.new ≡ record self.old { frames = brought_in block (at block self.old.frames.idle) self.old.frames } }
@@ -417,9 +432,10 @@ impl Accounts {
         self.journal.bring(block);
     }
 
-    /// A block becomes busy, with this content. It takes no memory.
+    /// A block becomes busy, on a live mount one that is not listed, with this content. It takes no memory.
     pub fn bring_content(&mut self, block: u64, content: Content)
-        requires { length self.old.frames.committed < ROOM }
+        requires unlisted { is_none self.old.shut ≡ true → is_in block self.old.items.cil ≡ false }
+        requires room { length self.old.frames.committed < ROOM }
         ensures { self.new ≡ record self.old { frames = record self.old.frames { committed = put block content self.old.frames.committed; idle = without block self.old.frames.idle } } }
     {
         self.journal.bring_content(block, content);
@@ -497,9 +513,10 @@ impl Accounts {
         opened.roll(&mut self.journal, &mut self.space);
     }
 
-    /// A transaction ends, and its leg is given up. It takes no memory.
+    /// A transaction ends, and its leg is given up, on a live mount only a clean one. It takes no memory.
     pub fn cancel(&mut self, trans: u64)
         requires there { is_in trans self.old.transactions ≡ true }
+        requires kept { IfSome (at trans self.old.transactions) (λ t. (is_dirty t.leg && is_none self.old.shut) ≡ false) }
         requires fresh { IfSome (at trans self.old.transactions) (λ t. length self.old.frames.fresh + length t.leg.changes ≤ ROOM) }
         ensures { IfSome (at trans self.old.transactions) (λ t. self.new ≡ closed_in trans (lost_in t self.old)) }
     {
@@ -512,9 +529,10 @@ impl Accounts {
         self.space.give_back(ticket);
     }
 
-    /// A leg is given up, and its transaction stays with no leg left. It takes no memory.
+    /// A leg is given up, on a live mount only a clean one, and its transaction stays with no leg left. It takes no memory.
     pub fn give_up(&mut self, trans: u64)
         requires there { is_in trans self.old.transactions ≡ true }
+        requires kept { IfSome (at trans self.old.transactions) (λ t. (is_dirty t.leg && is_none self.old.shut) ≡ false) }
         requires rising { IsRising self.old.transactions }
         requires fresh { IfSome (at trans self.old.transactions) (λ t. length self.old.frames.fresh + length t.leg.changes ≤ ROOM) }
         ensures { IfSome (at trans self.old.transactions) (λ t. self.new ≡ legs_in trans 0 t (lost_in t self.old)) }

@@ -36,8 +36,8 @@ impl Machine {
         };
         let held = opened.leg().held(self.alloc)?;
         let is_dirty = opened.leg().is_dirty();
-        self.close_aborted(trans);
         self.shut_if(is_dirty, Reason::CorruptIncore);
+        self.close_aborted(trans);
         self.settle();
         Ok(okay_of(held))
     }

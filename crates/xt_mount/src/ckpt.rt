@@ -1,56 +1,39 @@
 //! The begin and the end of a checkpoint job.
 
-ghost use Rattle.std.specs.Prelude.{◌≡◌, ◌+◌, ◌*◌, ◌≤◌, ◌<◌, ◌++◌, true, All, length, map, flat_map, is_some, is_none, IfOk, OnOk, OnErr, Some, [], IfSome, ◌==◌, if◌then◌else◌, false};
-ghost use Rattle.std.specs.Int.{bit_at};
+ghost use Rattle.std.specs.Prelude.{◌≡◌, ◌≤◌, ◌<◌, true, All, length, map, flat_map, is_some, is_none, IfOk, OnOk, OnErr, Some, [], IfSome, false};
 ghost use Rattle.xt_base.specs.Alone.{has_begun};
 ghost use Rattle.xt_base.specs.Calls.{gives};
 ghost use Rattle.xt_base.specs.Jobs.{begin as begin_step, begun as begun_step, end as end_step, failed as failed_step, flight_pieces, is_ok, landed as landed_step, next_pieces};
 ghost use Rattle.xt_base.specs.Sound.{IsSound};
-ghost use Rattle.xt_base.specs.Text.{chunk, chunk_bytes, content_at};
 ghost use Rattle.xt_ckpt.specs.Items.{item_bytes, HasForm};
 ghost use Rattle.xt_ckpt.specs.declared.item.Item.{Item as AnItem};
 ghost use Rattle.xt_items.specs.Lists.{flight_number};
 ghost use Rattle.xt_mount.specs.Machines.{state_of};
-ghost use Rattle.xt_mount.specs.Texts.{HasContent, HaveContents, entry_bytes, entry_block};
+ghost use Rattle.xt_mount.specs.Texts.{entry_bytes, entry_block};
 
 use crate::machine::Machine;
 use bytes::Bytes;
 use std::alloc::{AllocError, Global};
-use xt_base::chunks::Chunks;
-use xt_base::content::Content;
 use xt_base::names::{Block, CkptNo, JobKind};
-use xt_base::sizes::{CHUNK_BYTES, CHUNKS, TEXT_PIECES};
+use xt_base::sizes::TEXT_PIECES;
 use xt_base::steps::{LogAnswers, Reason, Reply};
 use xt_ckpt::item::Item;
 use xt_ckpt::writing::write_checkpoint;
 
 impl Machine {
-    /// The bytes of some chunks of a block, one after another, as they are committed.
-    fn chunk_bytes_at(&self, block: u64, chunks: Chunks) -> Result<Vec<u8>, AllocError>
-        requires { HasContent self.now.accounts.frames.committed (block, chunks) }
-        ensures bytes { IfOk result (λ bytes. bytes.items ≡ chunk_bytes (content_at self.now.accounts.form.size block self.now.accounts.frames.committed) chunks) }
-        ensures form { IfOk result (λ bytes. length bytes.items ≡ CHUNK_BYTES * length chunks) }
-    {
-        match self.accounts.frames().content(block) {
-            Some(content) => chunk_bytes_of(self.alloc, content, chunks),
-            None => Ok(Vec::new(self.alloc)),
-        }
-    }
-
-    /// The committed items with the bytes of their chunks, as they are now.
+    /// The committed items with their log vectors, on a live mount.
     fn items_now(&self) -> Result<Vec<Item>, AllocError>
-        requires { HaveContents self.now.accounts.frames.committed self.now.accounts.items.cil }
+        requires { is_none self.now.accounts.shut ≡ true }
         ensures text { IfOk result (λ items. flat_map item_bytes items.items ≡ flat_map (entry_bytes self.now.accounts.form.size self.now.accounts.frames.committed) self.now.accounts.items.cil) }
         ensures blocks { IfOk result (λ items. map entry_block self.now.accounts.items.cil ≡ map (λ (i : AnItem). i.block) items.items) }
         ensures form { IfOk result (λ items. All HasForm items.items) }
     {
         let mut items = Vec::new(self.alloc);
-        for e in self.accounts.cil() {
-            let content = self.chunk_bytes_at(e.0, e.1)?;
+        for v in self.accounts.vectors() {
             items.push(Item {
-                block: Block(e.0),
-                chunks: e.1,
-                content,
+                block: Block(v.0),
+                chunks: v.1.chunks(),
+                content: v.1.bytes().to_vec(self.alloc)?,
             })?;
         }
         Ok(items)
@@ -195,47 +178,4 @@ fn is_synced(answers: LogAnswers) -> bool
         Some(ok) => ok,
         None => false,
     }
-}
-
-/// The bytes of some chunks of a content, one after another.
-fn chunk_bytes_of(alloc: Global, content: &Content, chunks: Chunks) -> Result<Vec<u8>, AllocError>
-    ensures bytes { IfOk result (λ bytes. bytes.items ≡ chunk_bytes content.now chunks) }
-    ensures form { IfOk result (λ bytes. length bytes.items ≡ CHUNK_BYTES * length chunks) }
-{
-    let mut bytes = Vec::with_capacity(alloc, CHUNK_BYTES * chunks.count() as usize)?;
-    let word = chunks.word();
-    for k in 0..CHUNKS {
-        push_if_marked(&mut bytes, content, word, k)?;
-    }
-    Ok(bytes)
-}
-
-/// Whether a word of bits has chunk `k`.
-fn is_marked(word: u32, k: u32) -> bool
-    requires { k < CHUNKS }
-    ensures { result ≡ (bit_at word k == 1) }
-{
-    word >> k & 1 == 1
-}
-
-/// Appends the bytes of chunk `k`, if the word has it.
-fn push_if_marked(out: &mut Vec<u8>, content: &Content, word: u32, k: u32) -> Result<(), AllocError>
-    requires { k < CHUNKS }
-    ensures bytes { OnOk result (out.new.items ≡ out.old.items ++ (if bit_at word k == 1 then chunk content.now k else [])) }
-    ensures count { OnOk result (length out.new.items ≡ length out.old.items + (if bit_at word k == 1 then CHUNK_BYTES else 0)) }
-{
-    if is_marked(word, k) {
-        push_chunk(out, content, k)?;
-    }
-    Ok(())
-}
-
-/// Appends the bytes of one chunk.
-fn push_chunk(out: &mut Vec<u8>, content: &Content, k: u32) -> Result<(), AllocError>
-    requires { k < CHUNKS }
-    ensures bytes { OnOk result (out.new.items ≡ out.old.items ++ chunk content.now k) }
-    ensures count { OnOk result (length out.new.items ≡ length out.old.items + CHUNK_BYTES) }
-{
-    let first = CHUNK_BYTES * k as usize;
-    out.extend_from_slice(&content.bytes()[first..first + CHUNK_BYTES])
 }

@@ -54,10 +54,11 @@ impl Machine {
         self.accounts.roll(trans.0);
     }
 
-    /// A transaction ends, and its leg is given up. It takes no memory.
+    /// A transaction ends, and its leg is given up, on a live mount only a clean one. It takes no memory.
     pub fn close_aborted(&mut self, trans: TransNo)
         requires sound { IsSound (state_of self.old) }
         requires there { is_in trans self.old.accounts.transactions ≡ true }
+        requires kept { IfSome (at trans self.old.accounts.transactions) (λ t. (is_dirty t.leg && is_none self.old.accounts.shut) ≡ false) }
         ensures { IfSome (at trans self.old.accounts.transactions) (λ t. state_of self.new ≡ closed trans (aborted trans t.leg (state_of self.old))) }
     {
         let Some(opened) = self.accounts.get(trans.0) else {
@@ -67,10 +68,11 @@ impl Machine {
         self.accounts.cancel(trans.0);
     }
 
-    /// A leg is given up, and its transaction stays with no leg left. It takes no memory.
+    /// A leg of a shut mount is given up, and its transaction stays with no leg left. It takes no memory.
     pub fn give_up_leg(&mut self, trans: TransNo)
         requires sound { IsSound (state_of self.old) }
         requires there { is_in trans self.old.accounts.transactions ≡ true }
+        requires shut { is_some self.old.accounts.shut ≡ true }
         ensures { IfSome (at trans self.old.accounts.transactions) (λ t. state_of self.new ≡ with_legs trans 0 t (aborted trans t.leg (state_of self.old))) }
     {
         let Some(opened) = self.accounts.get(trans.0) else {

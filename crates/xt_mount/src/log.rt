@@ -14,11 +14,13 @@ use crate::machine::Machine;
 use crate::open_trans::OpenTrans;
 use std::alloc::AllocError;
 use xt_base::chunks::Chunks;
-use xt_base::content::{Content, Data};
+use xt_base::content::Data;
 use xt_base::names::{Block, TransNo};
 use xt_base::sizes::{BLOCK_BYTES, ROOM};
 use xt_base::steps::{Errno, Reply};
 use xt_trans::trans::TransRec;
+use xt_vectors::edit::Edit;
+use xt_vectors::vector::VectorRoom;
 
 impl Machine {
     /// Whether a block shows zeros until it is written whole.
@@ -61,18 +63,19 @@ impl Machine {
     }
 
     /// A transaction's leg has these bytes of a block, which is fresh no more. It takes no memory.
-    fn keep_edit(&mut self, trans: TransNo, block: Block, content: Content, marked: Chunks)
+    fn keep_edit(&mut self, trans: TransNo, block: Block, edit: Edit, marked: Chunks)
         requires there { is_in trans self.old.accounts.transactions ≡ true }
         requires rising { IsRising self.old.accounts.transactions }
         requires few { IfSome (at trans self.old.accounts.transactions) (λ t. is_in block t.leg.changes ≡ false → length t.leg.changes + length t.leg.holds < ROOM) }
         requires fits { IfSome (at trans self.old.accounts.transactions) (λ t. charge self.old.accounts.form.ends (edited block [] marked t.leg).changes ≤ t.unit) }
-        ensures { IfSome (at trans self.old.accounts.transactions) (λ t. state_of self.new ≡ not_fresh block (with_leg trans t (edited block content marked t.leg) (state_of self.old))) }
+        ensures { IfSome (at trans self.old.accounts.transactions) (λ t. state_of self.new ≡ not_fresh block (with_leg trans t (edited block edit marked t.leg) (state_of self.old))) }
     {
-        self.accounts.log(trans.0, block.0, content, marked);
+        self.accounts.log(trans.0, block.0, edit, marked);
         self.accounts.leave_fresh(block.0);
     }
 
-    /// Writes bytes in the leg of a transaction, from `first` on, and marks their chunks.
+    /// Writes bytes in the leg of a transaction, from `first` on, and marks their chunks. The room for the log vector that a commit makes of
+    /// them is taken here, so that a commit takes none.
     pub fn log(
         &mut self,
         trans: TransNo,
@@ -93,9 +96,10 @@ impl Machine {
             return Ok(Reply::Refused(errno));
         }
         let mut content = self.seen(opened.leg(), block, spare)?;
+        let room = VectorRoom::new(self.alloc)?;
         content.write_data(first as usize, bytes);
         let marked = Chunks::mark(first, bytes.len() as u32);
-        self.keep_edit(trans, block, content, marked);
+        self.keep_edit(trans, block, Edit::new(content, room), marked);
         Ok(Reply::Okay)
     }
 }

@@ -1,8 +1,8 @@
 //! An open transaction: its ticket, and what its present leg did.
 
-ghost use Rattle.std.specs.Prelude.{◌≡◌, ◌+◌, ◌*◌, ◌<◌, ◌≤◌, [], false, length, nat_le, sum_by, true};
+ghost use Rattle.std.specs.Prelude.{◌≡◌, ◌+◌, ◌*◌, ◌<◌, ◌≤◌, ◌&&◌, [], false, is_none, length, nat_le, sum_by, true};
 ghost use Rattle.xt_base.specs.Calls.{edited, invalidated, legs_after, without_hold};
-ghost use Rattle.xt_base.specs.Legs.{clean_leg, with_marks};
+ghost use Rattle.xt_base.specs.Legs.{clean_leg, is_dirty, with_marks};
 ghost use Rattle.xt_base.specs.Maps.{has, is_in, with_member};
 ghost use Rattle.xt_base.specs.Space.{change_cost, charge, cost};
 ghost use Rattle.xt_journal.specs.Keeping.{changes_kept, leg_lost};
@@ -12,7 +12,6 @@ ghost use Rattle.xt_resv.specs.Mounts.{grant_of};
 
 use std::marker::Model;
 use xt_base::chunks::Chunks;
-use xt_base::content::Content;
 use xt_base::form::Form;
 use xt_base::names::Block;
 use xt_base::newly::Newly;
@@ -20,6 +19,7 @@ use xt_base::sizes::{CHUNKS, ROOM};
 use xt_journal::journal::Journal;
 use xt_resv::space::{LogSpace, Ticket};
 use xt_trans::trans::TransRec;
+use xt_vectors::edit::Edit;
 
 /// An open transaction: its ticket, which is charged what the leg's blocks and chunks are, and the leg. Like its ticket it can't be let go.
 #[derive(Debug)]
@@ -101,7 +101,7 @@ impl OpenTrans {
     }
 
     /// A block has these bytes in the leg, and these chunks are marked and charged too.
-    pub fn log(&mut self, form: Form, block: u64, edit: Content, marked: Chunks)
+    pub fn log(&mut self, form: Form, block: u64, edit: Edit, marked: Chunks)
         requires few { is_in block self.old.leg.changes ≡ false → length self.old.leg.changes + length self.old.leg.holds < ROOM }
         requires fits { charge form.ends (edited block [] marked self.old.leg).changes ≤ self.old.unit }
         ensures { self.new ≡ record self.old { leg = edited block edit marked self.old.leg } }
@@ -157,8 +157,9 @@ impl OpenTrans {
         }
     }
 
-    /// The leg is given up, and no leg is left. It takes no memory.
+    /// The leg is given up, on a live mount only a clean one, and no leg is left. It takes no memory.
     pub fn give_up(&mut self, journal: &mut Journal, space: &mut LogSpace)
+        requires kept { (is_dirty self.old.leg && is_none journal.old.shut) ≡ false }
         requires fresh { length journal.old.frames.fresh + length self.old.leg.changes ≤ ROOM }
         requires granted { self.old.unit * self.old.legs ≤ space.old.granted }
         ensures trans { self.new ≡ record self.old { legs = 0; leg = clean_leg } }

@@ -90,6 +90,7 @@ impl Machine {
     /// A block that nobody has is the transaction's, with the content that the device gave.
     fn take_content(&mut self, trans: TransNo, block: Block, content: Content)
         requires sound { IsSound (state_of self.old) }
+        requires absent { is_absent trans block (state_of self.old) ≡ true }
         requires free { is_in block self.old.locks ≡ false }
         ensures { state_of self.new ≡ with_owner block (OwnedBy trans 0) (busied block content (state_of self.old)) }
     {

@@ -1,6 +1,6 @@
 //! Committing a leg and going on with the next one.
 
-ghost use Rattle.std.specs.Prelude.{◌≡◌, ◌<◌, [], length, true, IfOk, IfSome, OnErr};
+ghost use Rattle.std.specs.Prelude.{◌≡◌, ◌<◌, [], is_some, length, true, IfOk, IfSome, OnErr};
 ghost use Rattle.xt_base.specs.Alone.{names_held};
 ghost use Rattle.xt_base.specs.Calls.{gives, held_of, io_of as io_reply, roll as roll_step, with_legs, with_trans};
 ghost use Rattle.xt_base.specs.Legs.{aborted};
@@ -49,6 +49,7 @@ impl Machine {
     fn roll_shut(&mut self, trans: TransNo) -> Result<Reply, AllocError>
         requires there { is_in trans self.old.accounts.transactions ≡ true }
         requires sound { IsSound (state_of self.old) }
+        requires shut { is_some self.old.accounts.shut ≡ true }
         ensures ok { IfOk result (λ reply. IfSome (at trans self.old.accounts.transactions) (λ t. gives reply (state_of self.new) ≡ gives (io_reply (held_of t.leg.holds)) (settled [] (with_legs trans 0 t (aborted trans t.leg (state_of self.old)))))) }
         ensures err { OnErr result (state_of self.new ≡ state_of self.old) }
         ensures want { OnErr result (IfSome (at trans self.old.accounts.transactions) (λ t. 0 < length t.leg.holds)) }

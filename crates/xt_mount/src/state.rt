@@ -11,7 +11,7 @@ use xt_base::form::Form;
 use xt_base::names::{Block, Life, Slot};
 use xt_base::steps::{Owner, Reason};
 use xt_jobs::table::JobTable;
-use xt_trans::trans::Change;
+use xt_trans::trans::ChangeState;
 
 /// The contents that a mount keeps: the committed ones of busy blocks, by rising block; the blocks with the fresh mark; and
 /// the contents of idle blocks, the most recent first.
@@ -37,7 +37,7 @@ pub struct TransState {
     pub unit: u32,
     pub legs: u32,
     pub perm: bool,
-    pub changes: Vec<(u64, Change)>,
+    pub changes: Vec<(u64, ChangeState)>,
     pub holds: Vec<Block>,
 }
 

@@ -4,6 +4,9 @@ use Rattle.xt_mount.proofs.EndLemmas.{as_named, named}
 use Rattle.std.proofs.Common.{sym}
 use Rattle.xt_mount.proofs.machine.Machine.close_aborted.Goals as goal
 
+pub cancel-requires-clause-kept : goal.cancel-requires-clause-kept
+cancel-requires-clause-kept c = as_named (state_of c.args.self.now).transactions _ (sym c.trans-2.view_is) c.requires.kept
+
 pub cancel-requires-clause-fresh : goal.cancel-requires-clause-fresh
 cancel-requires-clause-fresh c =
     as_named (state_of c.args.self.now).transactions _ (sym c.trans-2.view_is)

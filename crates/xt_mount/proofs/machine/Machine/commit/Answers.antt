@@ -1,9 +1,19 @@
-use Rattle.std.proofs.Common.{ap, arith, length, sym}
+use Rattle.std.proofs.Common.{◌∙◌, ◌≡◌, ap, arith, false, length, sym}
+use Rattle.std.specs.Prelude.{is_none, is_some, ◌&&◌}
+use Rattle.xt_base.specs.Legs.{is_dirty}
+use Rattle.xt_base.specs.Maps.{at}
 use Rattle.xt_base.proofs.SoundBounds.{few_holds}
-use Rattle.xt_base.specs.State.{Leg}
+use Rattle.xt_base.specs.State.{Leg, State}
 use Rattle.xt_mount.specs.Machines.{state_of}
-use Rattle.xt_mount.proofs.EndLemmas.{named}
+use Rattle.xt_mount.proofs.EndLemmas.{and_right, if_some, named, shut_kept}
 use Rattle.xt_mount.proofs.machine.Machine.commit.Goals as goal
 
 pub held-requires : goal.held-requires
 held-requires c = omega (arith, few_holds (state_of c.args.self.now) c.requires c.args.trans c.in-Some.opened.now (sym (named (state_of c.args.self.now).transactions c.in-Some.ensures c.trans.view_is)), ap (λ (l : Leg). length l.holds) c.leg.ensures)
+
+pub close_aborted-requires-clause-kept : goal.close_aborted-requires-clause-kept
+close_aborted-requires-clause-kept c =
+    let s : State = state_of c.args.self.now in
+    let leg = c.in-Some.opened.now.leg in
+    if_some (at c.args.trans s.transactions) (λ t. (is_dirty t.leg && is_none s.shut) ≡ false) c.in-Some.opened.now (named s.transactions c.in-Some.ensures c.trans.view_is)
+    (shut_kept (is_dirty leg) s.shut (and_right _ (is_some s.shut) (sym c.gives_up.ensures ∙ c.if-gives_up.true)))
