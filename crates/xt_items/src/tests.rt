@@ -25,7 +25,8 @@ fn mark(alloc: Global, items: &mut Items, block: u64, first: u32) -> bool
     if items.cil().len() == 128 {
         return false;
     }
-    let (Ok(content), Ok(room)) = (Content::zeros(alloc, Form::one()), VectorRoom::new(alloc)) else {
+    let (Ok(content), Ok(room)) = (Content::zeros(alloc, Form::one()), VectorRoom::new(alloc))
+    else {
         return false;
     };
     items.mark(block, Chunks::mark(first, 12), &content, room);
@@ -153,7 +154,10 @@ fn a_checkpoint_lands(rt: HostRuntime) {
         return;
     };
     let alloc = rt.alloc();
-    if !(mark(alloc, &mut items, 7, 0) && mark(alloc, &mut items, 7, 250) && cancel(&mut items, 9)) {
+    if !(mark(alloc, &mut items, 7, 0)
+        && mark(alloc, &mut items, 7, 250)
+        && cancel(&mut items, 9))
+    {
         return;
     }
     assert!(rt; has_both(&items) && has_vectors(&items));

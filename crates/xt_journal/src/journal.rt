@@ -180,12 +180,14 @@ impl Journal {
     pub fn fly(&mut self, next: NumberMap<Chunks>, pieces: Vec<Bytes>)
         requires next { next ≡ [] }
         requires number { self.old.lists.open_number < 18446744073709551615 }
-        ensures { self.new ≡ record self.old { lists = record self.old.lists {
-          open_number = self.old.lists.open_number + 1;
-          cil = [];
-          vectors = [];
-          flight = Some (record { number = self.old.lists.open_number; items = self.old.lists.cil; pieces = pieces.items });
-        } } }
+        ensures { self.new ≡ record self.old {
+          lists = record self.old.lists {
+            open_number = self.old.lists.open_number + 1;
+            cil = [];
+            vectors = [];
+            flight = Some (record { number = self.old.lists.open_number; items = self.old.lists.cil; pieces = pieces.items });
+          };
+        } }
     {
         self.items.fly(next, pieces);
     }

@@ -1,5 +1,5 @@
 -- Plans by the parts of the lists.
-use Rattle.std.proofs.Common.{◌≡◌, ◌∙◌, Bool, List, Option, ap, ℕ}
+use Rattle.std.proofs.Common.{◌≡◌, ◌∙◌, Bool, Option, ap, ℕ}
 use Rattle.xt_base.specs.State.{Flight}
 use Rattle.xt_items.specs.Lists.{Lists}
 use Rattle.xt_items.specs.Plans.{due}

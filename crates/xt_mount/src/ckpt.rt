@@ -5,6 +5,7 @@ ghost use Rattle.xt_base.specs.Alone.{has_begun};
 ghost use Rattle.xt_base.specs.Calls.{gives};
 ghost use Rattle.xt_base.specs.Jobs.{begin as begin_step, begun as begun_step, end as end_step, failed as failed_step, flight_pieces, is_ok, landed as landed_step, next_pieces};
 ghost use Rattle.xt_base.specs.Sound.{IsSound};
+ghost use Rattle.xt_base.specs.Text.{item_text};
 ghost use Rattle.xt_ckpt.specs.Items.{item_bytes, HasForm};
 ghost use Rattle.xt_ckpt.specs.declared.item.Item.{Item as AnItem};
 ghost use Rattle.xt_items.specs.Lists.{flight_number};
@@ -12,6 +13,7 @@ ghost use Rattle.xt_mount.specs.Machines.{state_of};
 ghost use Rattle.xt_mount.specs.Texts.{entry_bytes, entry_block};
 
 use crate::machine::Machine;
+use crate::snapshot::copies_of;
 use bytes::Bytes;
 use std::alloc::{AllocError, Global};
 use xt_base::names::{Block, CkptNo, JobKind};
@@ -19,6 +21,7 @@ use xt_base::sizes::TEXT_PIECES;
 use xt_base::steps::{LogAnswers, Reason, Reply};
 use xt_ckpt::item::Item;
 use xt_ckpt::writing::write_checkpoint;
+use xt_vectors::vector::LogVector;
 
 impl Machine {
     /// The committed items with their log vectors, on a live mount.
@@ -30,11 +33,7 @@ impl Machine {
     {
         let mut items = Vec::new(self.alloc);
         for v in self.accounts.vectors() {
-            items.push(Item {
-                block: Block(v.0),
-                chunks: v.1.chunks(),
-                content: v.1.bytes().to_vec(self.alloc)?,
-            })?;
+            items.push(item_of(self.alloc, v.0, &v.1)?)?;
         }
         Ok(items)
     }
@@ -157,6 +156,20 @@ impl Machine {
             Reply::Failed(number)
         }
     }
+}
+
+/// What a checkpoint says of a block by its log vector.
+fn item_of(alloc: Global, block: u64, vector: &LogVector) -> Result<Item, AllocError>
+    ensures text { IfOk result (λ item. item_bytes item ≡ item_text block vector.now.chunks vector.now.bytes) }
+    ensures block { IfOk result (λ item. item.block ≡ block) }
+    ensures form { IfOk result HasForm }
+{
+    let content = copies_of(alloc, vector.bytes())?;
+    Ok(Item {
+        block: Block(block),
+        chunks: vector.chunks(),
+        content,
+    })
 }
 
 /// Other owners of these pieces.

@@ -15,7 +15,8 @@ fn memory_refused(rt: HostRuntime) {
     let Ok(mut leg) = TransRec::new(alloc) else {
         return;
     };
-    let (Ok(content), Ok(room)) = (Content::zeros(alloc, Form::one()), VectorRoom::new(alloc)) else {
+    let (Ok(content), Ok(room)) = (Content::zeros(alloc, Form::one()), VectorRoom::new(alloc))
+    else {
         return;
     };
     leg.hold(7);

@@ -1,4 +1,4 @@
-use Rattle.std.proofs.Common.{◌*◌, ◌+◌, ◌≤◌, ◌∙◌, ◌++◌, [], ℕ, List, ap, sym, length, arith, if◌then◌else◌}
+use Rattle.std.proofs.Common.{◌*◌, ◌∙◌, ◌++◌, [], ℕ, List, ap, sym, length, arith, if◌then◌else◌}
 use Rattle.std.specs.Prelude.{◌==◌, flat_map, Bool}
 use Rattle.std.specs.Int.{bit_at}
 use Rattle.xt_base.specs.Text.{chunk}

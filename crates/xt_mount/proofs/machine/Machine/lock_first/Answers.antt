@@ -1,4 +1,5 @@
-use Rattle.std.proofs.Common.{◌∙◌, arith, sym}
+use Rattle.std.proofs.Common.{◌∙◌, ap, arith, sym}
+use Rattle.xt_base.specs.Maps.{is_in}
 use Rattle.xt_base.proofs.SoundBounds.{few_contents, few_fresh}
 use Rattle.xt_mount.specs.Machines.{state_of}
 use Rattle.xt_mount.proofs.KeepLemmas.{unlisted_free}
@@ -11,4 +12,5 @@ pub bring-requires-clause-fresh : goal.bring-requires-clause-fresh
 bring-requires-clause-fresh c = omega (arith, few_fresh (state_of c.args.self.now) c.requires.sound)
 
 pub bring-requires-clause-unlisted : goal.bring-requires-clause-unlisted
-bring-requires-clause-unlisted c = ?
+bring-requires-clause-unlisted c =
+    λ live. ap (λ b. is_in b c.args.self.now.accounts.items.cil) c.block.view_is ∙ unlisted_free (state_of c.args.self.now) c.args.block (sym c.is_busy.ensures ∙ c.if-not-is_busy.true)

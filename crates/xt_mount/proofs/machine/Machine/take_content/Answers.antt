@@ -1,4 +1,5 @@
-use Rattle.std.proofs.Common.{arith}
+use Rattle.std.proofs.Common.{◌∙◌, ap, arith}
+use Rattle.xt_base.specs.Maps.{is_in}
 use Rattle.xt_base.proofs.SoundBounds.{few_contents}
 use Rattle.xt_mount.specs.Machines.{state_of}
 use Rattle.xt_mount.proofs.KeepLemmas.{unlisted_absent}
@@ -8,4 +9,5 @@ pub bring_content-requires-clause-room : goal.bring_content-requires-clause-room
 bring_content-requires-clause-room c = omega (arith, few_contents (state_of c.args.self.now) c.requires.sound)
 
 pub bring_content-requires-clause-unlisted : goal.bring_content-requires-clause-unlisted
-bring_content-requires-clause-unlisted c = ?
+bring_content-requires-clause-unlisted c =
+    λ live. ap (λ b. is_in b c.args.self.now.accounts.items.cil) c.block.view_is ∙ unlisted_absent (state_of c.args.self.now) c.args.trans c.args.block c.requires.sound c.requires.absent live
