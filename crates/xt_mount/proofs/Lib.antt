@@ -9,3 +9,4 @@ pub mod RollLemmas
 pub mod FlushLemmas
 pub mod SlotLemmas
 pub mod WantLemmas
+pub mod StayLemmas

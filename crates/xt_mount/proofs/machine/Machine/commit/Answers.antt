@@ -1,9 +1,21 @@
-use Rattle.std.proofs.Common.{ap, arith, length, sym}
+use Rattle.std.proofs.Common.{ap, arith, length, refl, sym}
 use Rattle.xt_base.proofs.SoundBounds.{few_holds}
 use Rattle.xt_base.specs.State.{Leg}
 use Rattle.xt_mount.specs.Machines.{state_of}
 use Rattle.xt_mount.proofs.EndLemmas.{named}
+use Rattle.xt_mount.proofs.StayLemmas.{others_committed, rising_committed}
+use Rattle.xt_base.specs.Calls.{closed}
 use Rattle.xt_mount.proofs.machine.Machine.commit.Goals as goal
 
 pub held-requires : goal.held-requires
 held-requires c = omega (arith, few_holds (state_of c.args.self.now) c.requires c.args.trans c.in-Some.opened.now (sym (named (state_of c.args.self.now).transactions c.in-Some.ensures c.trans.view_is)), ap (λ (l : Leg). length l.holds) c.leg.ensures)
+
+pub settle_unless-requires-clause-rising : goal.settle_unless-requires-clause-rising
+settle_unless-requires-clause-rising c =
+    rising_committed (state_of c.args.self.now) (state_of c.close.new.self) c.args.trans c.in-Some.opened.now (λ u x. closed c.args.trans x) c.changes_all-stays.result c.requires
+    (named (state_of c.args.self.now).transactions c.in-Some.ensures c.trans.view_is) c.close.ensures (λ u x. refl)
+
+pub settle_unless-requires-clause-others : goal.settle_unless-requires-clause-others
+settle_unless-requires-clause-others c stays =
+    others_committed (state_of c.args.self.now) (state_of c.close.new.self) c.args.trans c.in-Some.opened.now (λ u x. closed c.args.trans x) c.changes_all-stays.result c.requires
+    (named (state_of c.args.self.now).transactions c.in-Some.ensures c.trans.view_is) c.close.ensures (λ u x others. others) c.changes_all-stays.ensures stays
