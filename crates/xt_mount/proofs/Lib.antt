@@ -10,3 +10,4 @@ pub mod FlushLemmas
 pub mod SlotLemmas
 pub mod WantLemmas
 pub mod PlanLemmas
+pub mod StayLemmas

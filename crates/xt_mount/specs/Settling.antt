@@ -1,10 +1,20 @@
--- Settling, as far as it touches the frames.
-use Rattle.std.specs.Prelude.{ℕ, List, Bool, ◌||◌}
+-- Settling, as far as it touches the frames, and where nothing settles.
+use Rattle.std.specs.List.{list_any}
+use Rattle.std.specs.Prelude.{ℕ, List, Bool, length, not, ◌&&◌, ◌==◌, ◌||◌}
+use Rattle.xt_base.specs.Legs.{owned_by}
 use Rattle.xt_base.specs.Maps.{is_in}
 use Rattle.xt_base.specs.Space.{is_listed}
-use Rattle.xt_base.specs.State.{Items}
+use Rattle.xt_base.specs.State.{Items, Leg}
 use Rattle.xt_base.specs.declared.steps.Owner.{Owner}
 
 -- whether a block has an owner or is on a list
 abbrev pub is_busy_in : List (ℕ × Owner) → Items → ℕ → Bool
 is_busy_in owners l b = is_in b owners || is_listed l b
+
+-- whether a transaction has a block that its leg did not change
+abbrev pub has_unchanged : ℕ → Leg → List (ℕ × Owner) → Bool
+has_unchanged t leg owners = list_any (λ e. owned_by t e.1 && not (is_in e.0 leg.changes)) owners
+
+-- whether an item cancels its block
+abbrev pub has_cancel : List (ℕ × List ℕ) → Bool
+has_cancel items = list_any (λ e. length e.1 == 0) items

@@ -123,10 +123,11 @@ impl Machine {
         requires flying { flight_number self.old.accounts.items.flight ≡ Some number }
         ensures { IfSome self.old.accounts.items.flight (λ f. state_of self.new ≡ landed_step [] f (state_of self.old)) }
     {
+        let stays = self.lands_plainly();
         self.locks.free_stale(number);
         self.accounts.land();
         self.jobs.finish(JobKind::Ckpt);
-        self.settle();
+        self.settle_unless(stays);
     }
 
     /// The flight is given up, and a live mount is shut. It takes no memory.

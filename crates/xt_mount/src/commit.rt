@@ -51,8 +51,9 @@ impl Machine {
             return Ok(io_of(held));
         }
         let number = self.commit_number(is_dirty);
+        let stays = self.changes_all(trans);
         self.close(trans);
-        self.settle();
+        self.settle_unless(stays);
         Ok(committed_of(number, held))
     }
 }

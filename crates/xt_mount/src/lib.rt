@@ -27,6 +27,7 @@ mod settle;
 pub mod slot;
 mod snapshot;
 pub mod state;
+mod staying;
 mod unmount;
 mod view;
 

@@ -40,8 +40,9 @@ impl Machine {
         }
         let held = opened.leg().held(self.alloc)?;
         let number = self.commit_number(opened.leg().is_dirty());
+        let stays = self.changes_all(trans);
         self.next_leg(trans);
-        self.settle();
+        self.settle_unless(stays);
         Ok(committed_of(number, held))
     }
 

@@ -1,8 +1,9 @@
 //! Blocks that are no longer busy leave the frames.
 
-ghost use Rattle.std.specs.Prelude.{◌≡◌, []};
+ghost use Rattle.std.specs.Prelude.{◌≡◌, [], true};
 ghost use Rattle.xt_base.specs.Settle.{settled};
 ghost use Rattle.xt_base.specs.Sound.{IsRising};
+ghost use Rattle.xt_base.specs.Space.{is_busy};
 ghost use Rattle.xt_frames.specs.Settling.{AreOthersBusy};
 ghost use Rattle.xt_mount.specs.Machines.{state_of};
 ghost use Rattle.xt_mount.specs.Settling.{is_busy_in};
@@ -26,5 +27,18 @@ impl Machine {
         ensures { state_of self.new ≡ settled [] (state_of self.old) }
     {
         self.accounts.settle_block(&self.locks, block.0);
+    }
+
+    /// The same where it may be known that each block stays busy: then nothing is asked of any.
+    pub fn settle_unless(&mut self, stays: bool)
+        requires rising { IsRising (state_of self.old).frames.committed }
+        requires others { stays ≡ true → AreOthersBusy (is_busy (state_of self.old)) 0 (state_of self.old).frames }
+        ensures { state_of self.new ≡ settled [] (state_of self.old) }
+    {
+        if stays {
+            self.settle_block(Block(0));
+            return;
+        }
+        self.settle();
     }
 }

@@ -1,4 +1,4 @@
-use Rattle.std.proofs.Common.{◌∙◌, ◌≡◌, ap, arith, false, length, sym}
+use Rattle.std.proofs.Common.{◌∙◌, ◌≡◌, ap, arith, false, length, refl, sym}
 use Rattle.std.specs.Prelude.{is_none, is_some, ◌&&◌}
 use Rattle.xt_base.specs.Legs.{is_dirty}
 use Rattle.xt_base.specs.Maps.{at}
@@ -6,6 +6,8 @@ use Rattle.xt_base.proofs.SoundBounds.{few_holds}
 use Rattle.xt_base.specs.State.{Leg, State}
 use Rattle.xt_mount.specs.Machines.{state_of}
 use Rattle.xt_mount.proofs.EndLemmas.{and_right, if_some, named, shut_kept}
+use Rattle.xt_mount.proofs.StayLemmas.{others_committed, rising_committed}
+use Rattle.xt_base.specs.Calls.{closed}
 use Rattle.xt_mount.proofs.machine.Machine.commit.Goals as goal
 
 pub held-requires : goal.held-requires
@@ -17,3 +19,13 @@ close_aborted-requires-clause-kept c =
     let leg = c.in-Some.opened.now.leg in
     if_some (at c.args.trans s.transactions) (λ t. (is_dirty t.leg && is_none s.shut) ≡ false) c.in-Some.opened.now (named s.transactions c.in-Some.ensures c.trans.view_is)
     (shut_kept (is_dirty leg) s.shut (and_right _ (is_some s.shut) (sym c.gives_up.ensures ∙ c.if-gives_up.true)))
+
+pub settle_unless-requires-clause-rising : goal.settle_unless-requires-clause-rising
+settle_unless-requires-clause-rising c =
+    rising_committed (state_of c.args.self.now) (state_of c.close.new.self) c.args.trans c.in-Some.opened.now (λ u x. closed c.args.trans x) c.changes_all-stays.result c.requires
+    (named (state_of c.args.self.now).transactions c.in-Some.ensures c.trans.view_is) c.close.ensures (λ u x. refl)
+
+pub settle_unless-requires-clause-others : goal.settle_unless-requires-clause-others
+settle_unless-requires-clause-others c stays =
+    others_committed (state_of c.args.self.now) (state_of c.close.new.self) c.args.trans c.in-Some.opened.now (λ u x. closed c.args.trans x) c.changes_all-stays.result c.requires
+    (named (state_of c.args.self.now).transactions c.in-Some.ensures c.trans.view_is) c.close.ensures (λ u x others. others) c.changes_all-stays.ensures stays

@@ -1,0 +1,230 @@
+-- Where a leg was committed or a checkpoint has landed and each block stays busy.
+use Rattle.std.proofs.Common.{◌≡◌, ◌≢◌, ◌∙◌, ◌⊎◌, ◌<◌, ◌∷◌, Bool, List, None, Option, Some, [], ap, arith, false, inl, inr, length, refl, subst, sym, true, ℕ}
+use Rattle.std.proofs.lemmas.Bool.{cases_Bool, false≢true, ne_eqb}
+use Rattle.std.specs.List.{list_any}
+use Rattle.std.specs.Prelude.{IfSome, filter, filter_map, if◌then◌else◌, is_none, is_some, not, ◌&&◌, ◌==◌, ◌||◌}
+use Rattle.xt_base.proofs.KeyLemmas.{at_filter, at_filter_map, is_in_cons_cases, is_in_put_old}
+use Rattle.xt_base.proofs.LegLemmas.{keeps_owner_after, owned_there, rises_with_edits}
+use Rattle.xt_base.proofs.MapLemmas.{at_put_same}
+use Rattle.xt_base.proofs.RisingLemmas.{each_at, each_map}
+use Rattle.xt_base.proofs.SoundBounds.{each_with_edits}
+use Rattle.xt_base.proofs.SoundParts.{activated_one, busy_active, busy_by, busy_committed, busy_flying, busy_owned}
+use Rattle.xt_base.specs.Jobs.{activated, landed_items, waits_on}
+use Rattle.xt_base.specs.Legs.{ended, is_stale, joined_marks, owned_by, owner_after, with_edits, with_marks}
+use Rattle.xt_base.specs.Maps.{at, has, is_in, put, without}
+use Rattle.xt_base.specs.Sound.{AllBelow, Each, IsBetween, IsCancelledIn, IsFair, IsRising, IsSound, Owns}
+use Rattle.xt_base.specs.Space.{flight_items, is_busy}
+use Rattle.xt_base.specs.State.{Change, Flight, Frames, Items, State, Transaction}
+use Rattle.xt_base.specs.declared.steps.Owner.{Owner}
+use Rattle.xt_base.specs.declared.steps.Owner.TheVariants.{Held, Stale, Trans}
+use Rattle.xt_frames.specs.Settling.{AreOthersBusy}
+use Rattle.xt_items.specs.Lists.{flight_number}
+use Rattle.xt_mount.proofs.EndLemmas.{some_if}
+use Rattle.xt_mount.specs.Accounts.{AccountsState, landed_in}
+use Rattle.xt_mount.specs.Settling.{has_cancel, has_unchanged, is_busy_in}
+use Rattle.xt_base.proofs.MapLemmas.{some_same}
+
+-- ---- tests that no element passes
+or_first : (a b : Bool) → (a || b) ≡ false → a ≡ false
+or_first false b h = refl
+or_first true b h = h
+
+or_second : (a b : Bool) → (a || b) ≡ false → b ≡ false
+or_second false b h = h
+or_second true b h = absurd (false≢true (sym h))
+
+module _ {A : Type 0} (p : A → Bool) where
+  each_fails : (xs : List A) → list_any p xs ≡ false → Each (λ x. p x ≡ false) xs
+  each_fails [] h = tt
+  each_fails (x ∷ xs) h = (or_first (p x) (list_any p xs) h, each_fails xs (or_second (p x) (list_any p xs) h))
+
+-- one of a pair of tests that fails, where the other passes
+second_fails : (a b : Bool) → (a && not b) ≡ false → a ≡ true → b ≡ true
+second_fails true true h is = refl
+second_fails true false h is = absurd (false≢true (sym h))
+second_fails false b h is = absurd (false≢true is)
+
+-- the first of two, where the test fails
+first_of_two : (x : Bool) (v w : Option (ℕ × Owner)) → x ≡ false → (if not x then v else w) ≡ v
+first_of_two false v w is = refl
+first_of_two true v w is = absurd (false≢true (sym is))
+
+-- ---- the lists after a landing that cancels nothing
+one_active : (gone there : Bool) (q b number : ℕ) (ail : List (ℕ × ℕ)) → gone ≡ false → there ≡ is_in b ail → (q ≡ b) ⊎ (is_in q ail ≡ true)
+    → is_in q (if gone then without b ail else (if there then ail else put b number ail)) ≡ true
+one_active true there q b number ail stays is h = absurd (false≢true (sym stays))
+one_active false true q b number ail stays is (inl same) = ap (λ k. is_in k ail) same ∙ sym is
+one_active false true q b number ail stays is (inr old) = old
+one_active false false q b number ail stays is (inl same) = ap (λ k. is_in k (put b number ail)) same ∙ ap is_some (at_put_same b number ail)
+one_active false false q b number ail stays is (inr old) = is_in_put_old q b number ail old
+
+-- what flew or was active is active
+all_active : (q number : ℕ) (es : List (ℕ × List ℕ)) (ail : List (ℕ × ℕ)) → Each (λ e. (length e.1 == 0) ≡ false) es → (is_in q es ≡ true) ⊎ (is_in q ail ≡ true) → is_in q (activated number es ail) ≡ true
+all_active q number [] ail stay (inl none) = absurd (false≢true none)
+all_active q number [] ail stay (inr old) = old
+all_active q number (e ∷ es) ail stay (inl there) =
+    all_active q number es (activated_one number e ail) stay.1
+    (elim (is_in_cons_cases q e es there) [
+      | inl same ↦ inr (one_active (length e.1 == 0) (is_in e.0 ail) q e.0 number ail stay.0 refl (inl same))
+      | inr later ↦ inl later
+    ])
+all_active q number (e ∷ es) ail stay (inr old) =
+    all_active q number es (activated_one number e ail) stay.1 (inr (one_active (length e.1 == 0) (is_in e.0 ail) q e.0 number ail stay.0 refl (inr old)))
+
+-- an owner that does not wait for the checkpoint stays
+owner_stays : (b number : ℕ) (owners : List (ℕ × Owner)) (o : Option Owner) → at b owners ≡ o → is_some o ≡ true → ((n : ℕ) → o ≡ Some (Stale n) → n ≢ number)
+    → is_in b (filter (λ e. not (waits_on number e.1)) owners) ≡ true
+owner_stays b number owners None is there other = absurd (false≢true there)
+owner_stays b number owners (Some (Trans u count)) is there other = ap is_some (at_filter b (Trans u count) (λ e. not (waits_on number e.1)) owners is refl)
+owner_stays b number owners (Some Held) is there other = ap is_some (at_filter b Held (λ e. not (waits_on number e.1)) owners is refl)
+owner_stays b number owners (Some (Stale n)) is there other =
+    ap is_some (at_filter b (Stale n) (λ e. not (waits_on number e.1)) owners is (ap not (ne_eqb n number (other n refl))))
+
+module _ (s : State) (f : Flight) (sound : IsSound s) (flies : s.items.flight ≡ Some f) (live : is_none s.shut ≡ true) (plain : has_cancel f.items ≡ false) where
+  none_cancelled : Each (λ e. (length e.1 == 0) ≡ false) f.items
+  none_cancelled = each_fails (λ (e : ℕ × List ℕ). length e.1 == 0) f.items plain
+
+  -- no block waits for this checkpoint
+  none_waits : (b n : ℕ) → at b s.owners ≡ Some (Stale n) → n ≢ f.number
+  none_waits b n waits =
+      let between : (f.number < s.items.open_number) × AllBelow f.number s.items.landed = subst (λ o. IsBetween o s.items) flies sound.parts.flying in
+      elim ((sound.written live).cancelled b n waits) [
+        | inl opened ↦ λ same. omega (arith, opened.0, same, between.0)
+        | inr flown ↦
+            let there : IsCancelledIn (Some f) s.items.cil b n = subst (λ o. IsCancelledIn o s.items.cil b n) flies flown in
+            λ same. false≢true (sym (each_at (λ e. (length e.1 == 0) ≡ false) b [] f.items there.1 none_cancelled))
+      ]
+
+  landed_owners : List (ℕ × Owner)
+  landed_owners = filter (λ e. not (waits_on f.number e.1)) s.owners
+
+  -- each busy block is busy after the landing
+  busy_landed : (b : ℕ) → is_busy s b ≡ true → is_busy_in (filter (λ e. not (waits_on f.number e.1)) s.owners) (landed_items s.form.ends f s.items) b ≡ true
+  busy_landed b busy =
+      let ns : List (ℕ × Owner) = filter (λ e. not (waits_on f.number e.1)) s.owners in
+      let n : Items = landed_items s.form.ends f s.items in
+      busy_by s.owners s.items b (is_busy_in ns n b)
+      (λ owned. busy_owned ns n b (owner_stays b f.number s.owners (at b s.owners) refl owned (none_waits b)))
+      (busy_committed ns n b)
+      (λ flew. busy_active ns n b (all_active b f.number f.items s.items.ail none_cancelled (inl (sym (ap (λ o. is_in b (flight_items o)) flies) ∙ flew))))
+      (λ old. busy_active ns n b (all_active b f.number f.items s.items.ail none_cancelled (inr old)))
+      busy
+
+  others_at_landing : AreOthersBusy (is_busy_in (filter (λ e. not (waits_on f.number e.1)) s.owners) (landed_items s.form.ends f s.items)) 0 s.frames
+  others_at_landing =
+      let busy : ℕ → Bool = is_busy_in (filter (λ e. not (waits_on f.number e.1)) s.owners) (landed_items s.form.ends f s.items) in
+      record {
+        contents = each_map (λ e. is_busy s e.0 ≡ true) (λ e. (e.0 ≡ 0) ⊎ (busy e.0 ≡ true)) s.frames.committed (λ e was. inr (busy_landed e.0 was)) sound.kept.committed_busy;
+        marks = each_map (λ b. is_busy s b ≡ true) (λ b. (b ≡ 0) ⊎ (busy b ≡ true)) s.frames.fresh (λ b was. inr (busy_landed b was)) sound.kept.fresh_busy;
+      }
+
+-- the accounts of a state
+abbrev pub accounts_in : State → AccountsState
+accounts_in s = record { log_bytes = s.log_bytes; form = s.form; transactions = s.transactions; items = s.items; frames = s.frames; shut = s.shut }
+
+others_by : (s : State) (o : Option Flight) (number : ℕ) (owners : List (ℕ × Owner)) (accounts : AccountsState) → IsSound s → s.items.flight ≡ o → flight_number o ≡ Some number
+    → owners ≡ filter (λ e. not (waits_on number e.1)) s.owners → IfSome o (λ f. accounts ≡ landed_in f (accounts_in s)) → is_none s.shut ≡ true → has_cancel (flight_items o) ≡ false
+    → AreOthersBusy (is_busy_in owners accounts.items) 0 accounts.frames
+others_by s None number owners accounts sound is flying freed landed live plain = absurd (cc flying)
+others_by s (Some f) number owners accounts sound is flying freed landed live plain =
+    let left : owners ≡ filter (λ e. not (waits_on f.number e.1)) s.owners = freed ∙ ap (λ k. filter (λ e. not (waits_on k e.1)) s.owners) (sym (some_same f.number number flying)) in
+    subst (λ os. AreOthersBusy (is_busy_in os accounts.items) 0 accounts.frames) (sym left)
+    (subst (λ (a : AccountsState). AreOthersBusy (is_busy_in (filter (λ e. not (waits_on f.number e.1)) s.owners) a.items) 0 a.frames) (sym landed) (others_at_landing s f sound is live plain))
+
+-- each block that has a content is busy after the flight of this number has landed
+pub others_landed : (s : State) (number : ℕ) (owners : List (ℕ × Owner)) (accounts : AccountsState) → IsSound s → flight_number s.items.flight ≡ Some number
+    → owners ≡ filter (λ e. not (waits_on number e.1)) s.owners → IfSome s.items.flight (λ f. accounts ≡ landed_in f (accounts_in s)) → is_none s.shut ≡ true → has_cancel (flight_items s.items.flight) ≡ false
+    → AreOthersBusy (is_busy_in owners accounts.items) 0 accounts.frames
+others_landed s number owners accounts sound flying freed landed live plain = others_by s s.items.flight number owners accounts sound refl flying freed landed live plain
+
+rising_by : (s : State) (o : Option Flight) (number : ℕ) (accounts : AccountsState) → IsSound s → flight_number o ≡ Some number → IfSome o (λ f. accounts ≡ landed_in f (accounts_in s)) → IsRising accounts.frames.committed
+rising_by s None number accounts sound flying landed = absurd (cc flying)
+rising_by s (Some f) number accounts sound flying landed = subst (λ (a : AccountsState). IsRising a.frames.committed) (sym landed) sound.kept.committed_rises
+
+-- the contents rise after the flight has landed
+pub rising_landed : (s : State) (number : ℕ) (accounts : AccountsState) → IsSound s → flight_number s.items.flight ≡ Some number → IfSome s.items.flight (λ f. accounts ≡ landed_in f (accounts_in s))
+    → IsRising accounts.frames.committed
+rising_landed s number accounts sound flying landed = rising_by s s.items.flight number accounts sound flying landed
+
+-- ---- the lists after a commit
+-- what was changed or listed is listed
+all_marked : (q : ℕ) (cs : List (ℕ × Change)) (m : List (ℕ × List ℕ)) → (is_in q cs ≡ true) ⊎ (is_in q m ≡ true) → is_in q (with_marks cs m) ≡ true
+all_marked q [] m (inl none) = absurd (false≢true none)
+all_marked q [] m (inr old) = old
+all_marked q (e ∷ cs) m (inl there) =
+    let marks : List ℕ = joined_marks (at e.0 m) e.1 in
+    all_marked q cs (put e.0 marks m)
+    (elim (is_in_cons_cases q e cs there) [
+      | inl same ↦ inr (ap (λ k. is_in k (put e.0 marks m)) same ∙ ap is_some (at_put_same e.0 marks m))
+      | inr later ↦ inl later
+    ])
+all_marked q (e ∷ cs) m (inr old) =
+    let marks : List ℕ = joined_marks (at e.0 m) e.1 in
+    all_marked q cs (put e.0 marks m) (inr (is_in_put_old q e.0 marks m old))
+
+module _ (s : State) (t : ℕ) (trans : Transaction) (sound : IsSound s) (there : at t s.transactions ≡ Some trans) (changed : has_unchanged t trans.leg s.owners ≡ false) where
+  owned_changed : Each (λ e. (owned_by t e.1 && not (is_in e.0 trans.leg.changes)) ≡ false) s.owners
+  owned_changed = each_fails (λ (e : ℕ × Owner). owned_by t e.1 && not (is_in e.0 trans.leg.changes)) s.owners changed
+
+  -- a block that somebody has is busy after the commit
+  busy_had : (b : ℕ) (o : Option Owner) → at b s.owners ≡ o → is_some o ≡ true
+      → is_busy_in (filter_map (owner_after t trans.leg s.items.open_number) s.owners) (record s.items { cil = with_marks trans.leg.changes s.items.cil }) b ≡ true
+  busy_had b None is had = absurd (false≢true had)
+  busy_had b (Some o) is had =
+      let ns : List (ℕ × Owner) = filter_map (owner_after t trans.leg s.items.open_number) s.owners in
+      let n : Items = record s.items { cil = with_marks trans.leg.changes s.items.cil } in
+      elim (cases_Bool (owned_by t o)) [
+        | inl own ↦
+            busy_committed ns n b (all_marked b trans.leg.changes s.items.cil
+            (inl (second_fails (owned_by t o) (is_in b trans.leg.changes) (each_at (λ e. (owned_by t e.1 && not (is_in e.0 trans.leg.changes)) ≡ false) b o s.owners is owned_changed) own)))
+        | inr other ↦
+            busy_owned ns n b (ap is_some (at_filter_map b o (owner_after t trans.leg s.items.open_number) s.owners (keeps_owner_after t trans.leg s.items.open_number) is (first_of_two (owned_by t o) (Some (b, o)) (if is_stale b trans.leg then Some (b, Stale s.items.open_number) else (if has trans.leg.holds b then Some (b, Held) else None)) other)))
+      ]
+
+  -- each busy block is busy after the commit
+  busy_ended : (b : ℕ) → is_busy s b ≡ true → is_busy_in (filter_map (owner_after t trans.leg s.items.open_number) s.owners) (record s.items { cil = with_marks trans.leg.changes s.items.cil }) b ≡ true
+  busy_ended b busy =
+      let ns : List (ℕ × Owner) = filter_map (owner_after t trans.leg s.items.open_number) s.owners in
+      let n : Items = record s.items { cil = with_marks trans.leg.changes s.items.cil } in
+      busy_by s.owners s.items b (is_busy_in ns n b)
+      (λ owned. busy_had b (at b s.owners) refl owned)
+      (λ listed. busy_committed ns n b (all_marked b trans.leg.changes s.items.cil (inr listed)))
+      (busy_flying ns n b) (busy_active ns n b) busy
+
+  -- each block that has a content is busy after the commit
+  pub others_ended : AreOthersBusy (is_busy_in (filter_map (owner_after t trans.leg s.items.open_number) s.owners) (record s.items { cil = with_marks trans.leg.changes s.items.cil })) 0 (record s.frames { committed = with_edits trans.leg.changes s.frames.committed })
+  others_ended =
+      let busy : ℕ → Bool = is_busy_in (filter_map (owner_after t trans.leg s.items.open_number) s.owners) (record s.items { cil = with_marks trans.leg.changes s.items.cil }) in
+      let fair : IsFair s.form.ends s.owners (t, trans) = each_at (IsFair s.form.ends s.owners) t trans s.transactions there sound.parts.fair in
+      record {
+        contents =
+            each_with_edits (λ b. (b ≡ 0) ⊎ (busy b ≡ true)) trans.leg.changes s.frames.committed
+            (each_map (λ (c : ℕ × Change). Owns s.owners t c.0) (λ (c : ℕ × Change). (c.0 ≡ 0) ⊎ (busy c.0 ≡ true)) trans.leg.changes
+            (λ c own. inr (busy_ended c.0 (busy_owned s.owners s.items c.0 (owned_there t c.0 s.owners own)))) fair.owned)
+            (each_map (λ (e : ℕ × List ℕ). is_busy s e.0 ≡ true) (λ (e : ℕ × List ℕ). (e.0 ≡ 0) ⊎ (busy e.0 ≡ true)) s.frames.committed (λ e was. inr (busy_ended e.0 was)) sound.kept.committed_busy);
+        marks = each_map (λ b. is_busy s b ≡ true) (λ b. (b ≡ 0) ⊎ (busy b ≡ true)) s.frames.fresh (λ b was. inr (busy_ended b was)) sound.kept.fresh_busy;
+      }
+
+not_true : (r : Bool) → not r ≡ true → r ≡ false
+not_true false h = refl
+not_true true h = absurd (false≢true h)
+
+-- a state whose owners, lists and frames are those after a commit
+module _ (s new : State) (t : ℕ) (trans : Transaction) (rest : Transaction → State → State) (stays : Bool) (sound : IsSound s) (there : Some trans ≡ at t s.transactions)
+    (ends : IfSome (at t s.transactions) (λ u. new ≡ rest u (ended t u.leg s))) where
+  new_is : new ≡ rest trans (ended t trans.leg s)
+  new_is = some_if (at t s.transactions) (λ u. new ≡ rest u (ended t u.leg s)) trans there ends
+
+  -- each block that has a content is busy
+  pub others_committed : ((u : Transaction) (x : State) → (AreOthersBusy (is_busy x) 0 x.frames → AreOthersBusy (is_busy (rest u x)) 0 (rest u x).frames)) → IfSome (at t s.transactions) (λ u. stays ≡ not (has_unchanged t u.leg s.owners)) → stays ≡ true
+      → AreOthersBusy (is_busy new) 0 new.frames
+  others_committed keeps tells is =
+      let changed : has_unchanged t trans.leg s.owners ≡ false =
+      not_true (has_unchanged t trans.leg s.owners) (sym (some_if (at t s.transactions) (λ u. stays ≡ not (has_unchanged t u.leg s.owners)) trans there tells) ∙ is) in
+      subst (λ (x : State). AreOthersBusy (is_busy x) 0 x.frames) (sym new_is) (keeps trans (ended t trans.leg s) (others_ended s t trans sound (sym there) changed))
+
+  -- the contents rise
+  pub rising_committed : ((u : Transaction) (x : State) → (rest u x).frames ≡ x.frames) → IsRising new.frames.committed
+  rising_committed keeps =
+      subst (λ (x : State). IsRising x.frames.committed) (sym new_is)
+      (subst (λ (f : Frames). IsRising f.committed) (sym (keeps trans (ended t trans.leg s))) (rises_with_edits trans.leg.changes s.frames.committed sound.kept.committed_rises))
