@@ -33,7 +33,8 @@ impl Machine {
     {
         let mut items = Vec::new(self.alloc);
         for v in self.accounts.vectors() {
-            items.push(item_of(self.alloc, v.0, &v.1)?)?;
+            let item = item_of(self.alloc, v.0, &v.1)?;
+            items.push(item)?;
         }
         Ok(items)
     }

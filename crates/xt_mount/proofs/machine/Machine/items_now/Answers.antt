@@ -7,8 +7,8 @@ pub loop-v-preserved : goal.loop-v-preserved
 loop-v-preserved c =
     let vs = c.vectors-v-items.result.now in
     let lt : c.loop-v.v-index < length vs = omega arith in
-    let made = c.in_ok-item_of.ensures in
-    item_more vs c.loop-v.v-index c.v-item.result c.in_ok-item_of.field-0 c.loop-v.items.items c.push.new.self.items lt c.v-item.is c.in_ok-push.ensures.items made.text made.block made.form c.loop-v.invariant
+    let made = c.in_ok-item.ensures in
+    item_more vs c.loop-v.v-index c.v-item.result c.in_ok-item.item c.loop-v.items.items c.push.new.self.items lt c.v-item.is c.in_ok-push.ensures.items made.text made.block made.form c.loop-v.invariant
 
 pub returns-clause-text : goal.returns-clause-text
 returns-clause-text c =
