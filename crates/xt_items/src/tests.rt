@@ -125,8 +125,10 @@ fn has_both(items: &Items) -> bool {
 /// Whether block 7 has a log vector of three chunks, and block 9 one of none.
 fn has_vectors(items: &Items) -> bool {
     match items.vectors() {
-        [(7, marked), (9, cancelled)] => {
-            marked.bytes().len() == 384 && cancelled.bytes().is_empty()
+        [marked, cancelled] => {
+            (marked.0, cancelled.0) == (7, 9)
+                && marked.1.bytes().len() == 384
+                && cancelled.1.bytes().is_empty()
         }
         _ => false,
     }
