@@ -1,0 +1,7 @@
+use Rattle.std.proofs.Common.{subst, sym, All, ◌≡◌}
+use Rattle.std.proofs.lemmas.List.Elements.{All-append}
+use Rattle.xt_service.proofs.room.put_seats.Goals as goal
+
+-- those that were there, and those that were put behind them
+pub returns-clause-boards : goal.returns-clause-boards
+returns-clause-boards g c = ?
