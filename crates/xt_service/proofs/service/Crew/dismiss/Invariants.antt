@@ -11,4 +11,5 @@ invariant-loop-worker g l = record {
   room : vec_len l.benches + into_iter_len l.worker-iterator ≤ vec_capacity l.benches;
   count : vec_len l.benches + into_iter_len l.worker-iterator ≡ vec_len l.fn.self.workers;
   benches : All (λ bench. (bench.seat.board.board ≡ l.host.board) × (bench.pass.queue ≡ arc_value l.host.queue)) l.benches.items;
+  coming : All (λ worker. (worker.promise.0.value.seat.board.board ≡ l.host.board) × (worker.promise.0.value.pass.queue ≡ arc_value l.host.queue)) (into_iter_items l.worker-iterator);
 }
