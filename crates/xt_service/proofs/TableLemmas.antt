@@ -1,5 +1,5 @@
 -- What holds of each seat and of each session of a table.
-use Rattle.std.proofs.Common.{rules, ap, subst, sym, IfSome, None, Some, ℕ, ◌∙◌, ◌≡◌}
+use Rattle.std.proofs.Common.{rules, ap, subst, sym, IfSome, None, Some, ℕ, ◌∙◌}
 use Rattle.std.specs.Option.{ForSome}
 use Rattle.slab.specs.Slab.{get, Slab, Updates}
 use mathlib.Core.Logic.{dite}

@@ -14,6 +14,7 @@ pub mod host_session;
 mod intake;
 mod names;
 mod reply;
+mod room;
 pub mod service;
 pub mod session;
 pub mod session_end;

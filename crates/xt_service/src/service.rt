@@ -1,14 +1,16 @@
 //! The life of a service over a host whose volumes are mounted: its workers, the sessions, and the end.
 
-ghost use Rattle.std.specs.Prelude.{◌≡◌, ◌+◌, All, IfOk, OnOk, vec_len};
+ghost use Rattle.std.specs.Prelude.{◌≡◌, ◌≤◌, ◌+◌, ◌⊎◌, All, IfErr, IfOk, OnOk, vec_capacity, vec_len};
 ghost use Rattle.std.specs.Arc.{arc_value};
 ghost use Rattle.slab.specs.Slab.{slab_len};
+ghost use Rattle.xt_base.specs.declared.steps.Errno.TheVariants.{NoMemory, NoSpace};
 ghost use Rattle.xt_service.specs.declared.ended.TheConstants.{PLACES};
 
 use crate::accept::accept_sessions;
 use crate::bench::Bench;
 use crate::door::Door;
 use crate::ended::{Ended, PLACES};
+use crate::room::{Room, put_benches, put_seats};
 use crate::table::Table;
 use std::alloc::{AllocError, Global};
 use std::net::TcpListener;
@@ -39,13 +41,18 @@ impl<H: House> Promise<Bench<H>> for SameHost<H> {
 /// A worker in a thread of its own, which gives its bench back at its end.
 type Worker<H> = PromisedHandle<Bench<H>, SameHost<H>>;
 
-/// A service of a host: a seat of its own, its sessions, and its workers.
+/// A service of a host: a seat of its own, its sessions, its workers, and room for all that it gives back at its end.
 #[derive(Drop)]
 pub struct Service<H: House> {
     own: HostSeat<H>,
     table: Table<H>,
     crew: Crew<H>,
+    room: Room<H>,
     ghost tied: { table.like.value.board.board ≡ own.board.board },
+    ghost none: { (vec_len room.seats ≡ 0) × (vec_len room.passes ≡ 0) × (vec_len room.benches ≡ 0) },
+    ghost seats_room: { PLACES + vec_len crew.workers + 1 ≤ vec_capacity room.seats },
+    ghost passes_room: { vec_len crew.workers ≤ vec_capacity room.passes },
+    ghost benches_room: { vec_len crew.workers ≤ vec_capacity room.benches },
 }
 
 /// The workers of a service, each in a thread of its own, and the door at which they stop.
@@ -60,7 +67,7 @@ struct Crew<H: House> {
 pub struct ServiceEnd<H: House> {
     /// Why each slot is still mounted, of those that are.
     pub kept: [Option<Errno>; SLOTS],
-    /// The seats and passes that the service had, for the end of the host. Where memory was refused some are missing, and that end says so.
+    /// The seats and passes that the service had, for the end of the host.
     pub seats: Vec<HostSeat<H>>,
     pub passes: Vec<WorkPass>,
 }
@@ -76,6 +83,7 @@ fn add_places<H: House, R: Wait>(
     requires like { table.old.like.value.board.board ≡ host.now.board }
     requires empty { slab_len table.old.sessions + vec_len table.old.free ≡ 0 }
     ensures own { own.new ≡ own.old }
+    ensures space { IfErr result (λ errno. errno ≡ NoSpace) }
     ensures like { table.new.like ≡ table.old.like }
     ensures places { OnOk result (slab_len table.new.sessions + vec_len table.new.free ≡ PLACES) }
 {
@@ -86,7 +94,7 @@ fn add_places<H: House, R: Wait>(
     Ok(())
 }
 
-/// A full table of a host: ENOMEM where memory is refused.
+/// A full table of a host: ENOMEM where memory is refused, ENOSPC where the numbers of callers end.
 fn full_table<H: House, R: Wait>(
     rt: &R,
     alloc: Global,
@@ -95,6 +103,7 @@ fn full_table<H: House, R: Wait>(
 ) -> Result<Table<H>, Errno>
     requires board { own.old.board.board ≡ host.now.board }
     ensures own { own.new ≡ own.old }
+    ensures refused { IfErr result (λ errno. (errno ≡ NoMemory) ⊎ (errno ≡ NoSpace)) }
     ensures like { IfOk result (λ table. table.like.value.board.board ≡ host.now.board) }
     ensures places { IfOk result (λ table. slab_len table.sessions + vec_len table.free ≡ PLACES) }
 {
@@ -159,25 +168,27 @@ impl<H: House> Crew<H> {
         })
     }
 
-    /// Has the workers stop, and waits until all have: their benches. One for which there is no memory is lost, and the end of the host
-    /// then finds its seat missing.
-    fn dismiss<R: Threads>(self, rt: &R, alloc: Global, host: &Host<H>) -> Vec<Bench<H>>
+    /// Has the workers stop, and waits until all have: their benches, in room that was made before.
+    fn dismiss<R: Threads>(self, rt: &R, host: &Host<H>, room: Vec<Bench<H>>) -> Vec<Bench<H>>
+        requires none { vec_len room ≡ 0 }
+        requires room { vec_len self.workers ≤ vec_capacity room }
         requires workers { All (λ worker. (worker.promise.0.value.seat.board.board ≡ host.now.board) × (worker.promise.0.value.pass.queue ≡ arc_value host.now.queue)) self.workers.items }
+        ensures count { vec_len result ≡ vec_len self.workers }
         ensures benches { All (λ bench. (bench.seat.board.board ≡ host.now.board) × (bench.pass.queue ≡ arc_value host.now.queue)) result.items }
     {
         let _ = host;
         let Crew { workers, door } = self;
         door.shut();
-        let mut benches = Vec::new(alloc);
+        let mut benches = room;
         for worker in workers {
-            let _ = benches.push(worker.join(rt));
+            benches.push_reserved(worker.join(rt));
         }
         benches
     }
 }
 
 impl<H: House + Send + Sync + 'static> Crew<H> {
-    /// A worker for each pass: ENOMEM where memory or a thread is refused.
+    /// A worker for each pass: ENOMEM where memory or a thread is refused, ENOSPC where the numbers of callers end.
     fn add_all<R: Threads + Wait + Clock + Copy + Send + 'static>(
         &mut self,
         rt: R,
@@ -189,6 +200,9 @@ impl<H: House + Send + Sync + 'static> Crew<H> {
         requires queues { All (λ pass. pass.queue ≡ arc_value (arc_value host.now).queue) passes.items }
         requires workers { All (λ worker. (worker.promise.0.value.seat.board.board ≡ (arc_value host.now).board) × (worker.promise.0.value.pass.queue ≡ arc_value (arc_value host.now).queue)) self.old.workers.items }
         ensures own { own.new ≡ own.old }
+        ensures refused { IfErr result (λ errno. (errno ≡ NoMemory) ⊎ (errno ≡ NoSpace)) }
+        ensures count { OnOk result (vec_len self.new.workers ≡ vec_len self.old.workers + vec_len passes) }
+        ensures most { vec_len self.new.workers ≤ vec_len self.old.workers + vec_len passes }
         ensures workers { All (λ worker. (worker.promise.0.value.seat.board.board ≡ (arc_value host.now).board) × (worker.promise.0.value.pass.queue ≡ arc_value (arc_value host.now).queue)) self.new.workers.items }
     {
         for pass in passes {
@@ -207,7 +221,7 @@ impl<H: House + Send + Sync + 'static> Crew<H> {
 
 impl<H: House + Send + Sync + 'static> Service<H> {
     /// A service over a host: a worker in a thread of its own for each pass, and no session yet. ENOMEM where memory or a thread is
-    /// refused; then the workers that there are have stopped.
+    /// refused, ENOSPC where the numbers of callers end; then the workers that there are have stopped.
     pub fn start<R: Threads + Wait + Clock + Copy + Send + 'static>(
         rt: R,
         alloc: Global,
@@ -217,7 +231,9 @@ impl<H: House + Send + Sync + 'static> Service<H> {
     ) -> Result<Self, Errno>
         requires board { seat.board.board ≡ (arc_value host.now).board }
         requires queues { All (λ pass. pass.queue ≡ arc_value (arc_value host.now).queue) passes.items }
+        ensures refused { IfErr result (λ errno. (errno ≡ NoMemory) ⊎ (errno ≡ NoSpace)) }
         ensures own { IfOk result (λ service. service.own ≡ seat) }
+        ensures count { IfOk result (λ service. vec_len service.crew.workers ≡ vec_len passes) }
         ensures places { IfOk result (λ service. slab_len service.table.sessions + vec_len service.table.free ≡ PLACES) }
         ensures workers { IfOk result (λ service. All (λ worker. (worker.promise.0.value.seat.board.board ≡ (arc_value host.now).board) × (worker.promise.0.value.pass.queue ≡ arc_value (arc_value host.now).queue)) service.crew.workers.items) }
     {
@@ -225,12 +241,20 @@ impl<H: House + Send + Sync + 'static> Service<H> {
         let Ok(mut crew) = Crew::new(alloc) else {
             return Err(Errno::NoMemory);
         };
+        let Ok(room) = Room::new(alloc, passes.len()) else {
+            return Err(Errno::NoMemory);
+        };
         let table = full_table(&rt, alloc, host, &mut own)?;
         if let Err(errno) = crew.add_all(rt, host, &mut own, passes) {
-            let _benches = crew.dismiss(&rt, alloc, host);
+            let _benches = crew.dismiss(&rt, host, room.benches);
             return Err(errno);
         }
-        Ok(Service { own, table, crew })
+        Ok(Service {
+            own,
+            table,
+            crew,
+            room,
+        })
     }
 
     /// Serves so many sessions over the streams of a listener, at most sixteen at a time, and returns when the last has ended. An error is
@@ -289,6 +313,25 @@ fn write_out_all<H: House, R: Wait>(
     }
 }
 
+/// Has all mounts written out by one of some benches, if there is one: the benches.
+fn write_out_by<H: House, R: Wait>(
+    rt: &R,
+    host: &Host<H>,
+    benches: Vec<Bench<H>>,
+    mounts: &[MountRef],
+) -> Vec<Bench<H>>
+    requires benches { All (λ bench. (bench.seat.board.board ≡ host.now.board) × (bench.pass.queue ≡ arc_value host.now.queue)) benches.items }
+    ensures count { vec_len result ≡ vec_len benches }
+    ensures benches { All (λ bench. (bench.seat.board.board ≡ host.now.board) × (bench.pass.queue ≡ arc_value host.now.queue)) result.items }
+{
+    let mut benches = benches;
+    if let Some(mut bench) = benches.pop() {
+        write_out_all(rt, host, &mut bench, mounts);
+        benches.push_reserved(bench);
+    }
+    benches
+}
+
 /// Unmounts a mount, and lets its devices go: why it is still mounted, if it is.
 fn unmount<H: House, R: Wait>(
     rt: &R,
@@ -313,6 +356,7 @@ fn unmount_each<H: House, R: Wait>(
     mounts: &[MountRef],
 ) -> [Option<Errno>; SLOTS]
     requires board { seat.old.board.board ≡ host.now.board }
+    ensures board { seat.new.board.board ≡ host.now.board }
 {
     let mut kept = [None; SLOTS];
     for at in mounts {
@@ -321,49 +365,40 @@ fn unmount_each<H: House, R: Wait>(
     kept
 }
 
-/// Puts the seats and passes of benches among others; those for which there is no memory are lost.
-fn collect_benches<H: House>(
-    seats: &mut Vec<HostSeat<H>>,
-    passes: &mut Vec<WorkPass>,
-    benches: Vec<Bench<H>>,
-) {
-    for bench in benches {
-        let Bench { seat, pass } = bench;
-        let _ = seats.push(seat);
-        let _ = passes.push(pass);
-    }
-}
-
 impl<H: House> Service<H> {
     /// Ends a service: its workers stop, what its mounts have committed is written to the logs and home, and the mounts are unmounted. The
-    /// mounts are ascending by slot. The host is then to be closed with the seats that are left.
+    /// mounts are ascending by slot. All seats and passes come back, with which the host is then to be closed.
     pub fn end<R: Threads + Wait>(
         self,
         rt: &R,
-        alloc: Global,
         host: &Host<H>,
         mounts: &[MountRef],
     ) -> ServiceEnd<H>
         requires board { self.own.board.board ≡ host.now.board }
         requires workers { All (λ worker. (worker.promise.0.value.seat.board.board ≡ host.now.board) × (worker.promise.0.value.pass.queue ≡ arc_value host.now.queue)) self.crew.workers.items }
+        ensures seats { vec_len result.seats ≡ slab_len self.table.sessions + vec_len self.table.free + vec_len self.crew.workers + 1 }
+        ensures passes { vec_len result.passes ≡ vec_len self.crew.workers }
+        ensures boards { All (λ seat. seat.board.board ≡ host.now.board) result.seats.items }
+        ensures queues { All (λ pass. pass.queue ≡ arc_value host.now.queue) result.passes.items }
     {
         let Service {
             mut own,
             mut table,
             crew,
+            room,
         } = self;
+        let Room {
+            mut seats,
+            mut passes,
+            benches,
+        } = room;
         table.wait_for_all(rt);
-        let mut seats = table.into_seats();
-        let mut passes = Vec::new(alloc);
-        let mut benches = crew.dismiss(rt, alloc, host);
-        if let Some(mut bench) = benches.pop() {
-            write_out_all(rt, host, &mut bench, mounts);
-            let _ = seats.push(bench.seat);
-            let _ = passes.push(bench.pass);
-        }
+        let benches = crew.dismiss(rt, host, benches);
+        let benches = write_out_by(rt, host, benches, mounts);
         let kept = unmount_each(rt, host, &mut own, mounts);
-        let _ = seats.push(own);
-        collect_benches(&mut seats, &mut passes, benches);
+        put_seats(host, &mut seats, table.into_seats());
+        seats.push_reserved(own);
+        put_benches(host, &mut seats, &mut passes, benches);
         ServiceEnd {
             kept,
             seats,

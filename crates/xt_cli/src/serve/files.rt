@@ -50,12 +50,12 @@ fn place(rt: &HostRuntime, alloc: Global, name: &str) -> io::Result<PathBuf> {
     }
 }
 
-/// How many bytes a file has, if it is there; no folder is a file.
+/// How many bytes a file has, if it is there; no folder is a file, and no name that ends as one of a folder is that of a file.
 fn size(rt: &HostRuntime, name: &str) -> io::Result<u64> {
     match fs::metadata(rt, name) {
         Ok(found) if found.is_dir() => Err(io::Error::from(ErrorKind::IsADirectory)),
         Ok(found) => Ok(found.len()),
-        Err(error) if error.kind() == ErrorKind::NotFound => Ok(0),
+        Err(error) if error.kind() == ErrorKind::NotFound && !name.ends_with('/') => Ok(0),
         Err(error) => Err(error),
     }
 }

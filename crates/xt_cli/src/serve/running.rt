@@ -110,7 +110,7 @@ fn serve_sessions<
             .map_err(ServeFault::Accept),
         Err(error) => Err(ServeFault::Io(error)),
     };
-    (service.end(&rt, alloc, host, mounts), served)
+    (service.end(&rt, host, mounts), served)
 }
 
 /// Tells what was not as it should be at the end of a service: the status.

@@ -205,7 +205,7 @@ fn serve_out<H: House + Send + Sync + 'static, R: Threads + Wait + Clock + Copy 
 {
     let mut service = service;
     let served = service.serve(rt, alloc, host, listener, sessions);
-    (service.end(&rt, alloc, host, mounts), served)
+    (service.end(&rt, host, mounts), served)
 }
 
 /// Serves a visit, and ends the service.

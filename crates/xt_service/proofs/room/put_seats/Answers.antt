@@ -1,0 +1,9 @@
+use Rattle.std.proofs.Common.{subst, sym, All, ◌≡◌}
+use Rattle.std.proofs.lemmas.List.Elements.{All-append}
+use Rattle.xt_service.proofs.room.put_seats.Goals as goal
+
+-- those that were there, and those that were put behind them
+pub returns-clause-boards : goal.returns-clause-boards
+returns-clause-boards g c =
+    subst (All (λ seat. seat.board.board ≡ c.args.host.now.board)) (sym c.in-Ok.ensures.items)
+    (All-append (λ seat. seat.board.board ≡ c.args.host.now.board) _ _ c.requires.boards c.requires.more_boards)
