@@ -24,7 +24,7 @@ use xt_frames::frames::Frames;
 use xt_frames::share::FrameShare;
 use xt_items::items::Items;
 use xt_items::plan::FlushPlan;
-use xt_vectors::vector::LogVector;
+use xt_vectors::vector::{LogVector, VectorRoom};
 
 /// The item lists of a mount beside the contents that they are of, and why the mount is shut, if it is. Clauses see all four parts.
 /// On a live mount each log vector of the commit list has the committed bytes of its item's chunks.
@@ -164,6 +164,13 @@ impl Journal {
         ensures { self.new ≡ self.old }
     {
         self.frames.take_spare()
+    }
+
+    /// The room of a log vector that was replaced, if there is one: a later one may take its place.
+    pub fn take_room(&mut self) -> Option<VectorRoom>
+        ensures { self.new ≡ self.old }
+    {
+        self.items.take_room()
     }
 
     // ---- item lists

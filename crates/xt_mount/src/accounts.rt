@@ -38,7 +38,7 @@ use xt_locks::locks::Locks;
 use xt_resv::space::LogSpace;
 use xt_trans::trans::TransRec;
 use xt_vectors::edit::Edit;
-use xt_vectors::vector::LogVector;
+use xt_vectors::vector::{LogVector, VectorRoom};
 
 /// The open transactions of a mount, its journal, and its log space, which has what both use: what each ticket was
 /// granted, and what each list costs. Clauses see the transactions, and the lists and contents of the journal.
@@ -453,6 +453,13 @@ impl Accounts {
         ensures { self.new ≡ self.old }
     {
         self.journal.take_spare()
+    }
+
+    /// The room of a log vector that was replaced, if there is one: a later one may take its place.
+    pub fn take_room(&mut self) -> Option<VectorRoom>
+        ensures { self.new ≡ self.old }
+    {
+        self.journal.take_room()
     }
 
     /// Contents of blocks that are no longer locked, held or on a list go, on a live mount to the front of the idle list,

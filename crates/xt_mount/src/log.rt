@@ -89,6 +89,7 @@ impl Machine {
         ensures want { OnErr result (is_refusal (with_trans (at trans self.old.accounts.transactions) (state_of self.old) (log_step trans block first bytes.now (state_of self.old))).reply ≡ false) }
     {
         let spare = self.accounts.take_spare();
+        let room = self.accounts.take_room();
         let Some(opened) = self.accounts.get(trans.0) else {
             return Ok(Reply::Refused(Errno::Invalid));
         };
@@ -96,7 +97,7 @@ impl Machine {
             return Ok(Reply::Refused(errno));
         }
         let mut content = self.seen(opened.leg(), block, spare)?;
-        let room = VectorRoom::new(self.alloc)?;
+        let room = VectorRoom::or_new(room, self.alloc)?;
         content.write_data(first as usize, bytes);
         let marked = Chunks::mark(first, bytes.len() as u32);
         self.keep_edit(trans, block, Edit::new(content, room), marked);
