@@ -1,7 +1,6 @@
 -- Settling one block, where each other block is busy.
-use Rattle.std.proofs.Common.{◌≡◌, ◌≢◌, ◌∙◌, ◌≤◌, ◌<◌, ◌∷◌, ◌⊎◌, Bool, List, None, Option, Some, [], ap, arith, cond, false, inl, inr, length, not, refl, suc, sym, true, zero, ℕ, filter, take, if◌then◌else◌}
+use Rattle.std.proofs.Common.{◌≡◌, ◌≢◌, ◌∙◌, ◌≤◌, ◌<◌, ◌∷◌, ◌⊎◌, Bool, List, None, Option, Some, [], ap, arith, cond, false, inl, inr, length, not, refl, suc, sym, true, zero, ℕ, filter, take}
 use Rattle.std.proofs.lemmas.Bool.{cases_eq, eq-eqb, ne_eqb}
-use Rattle.std.specs.Prelude.{◌==◌}
 use Rattle.xt_base.proofs.MapLemmas.{at_first, at_later, without_first, without_later}
 use Rattle.xt_base.proofs.RisingLemmas.{each_map, filter_drop, filter_pass, rises_above}
 use Rattle.xt_base.specs.Maps.{at, without, without_member}

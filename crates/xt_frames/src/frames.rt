@@ -7,7 +7,7 @@ ghost use Rattle.xt_frames.specs.Shares.{no_contents};
 ghost use Rattle.xt_base.specs.Sound.{IsRising};
 ghost use Rattle.xt_frames.specs.Settling.{AreOthersBusy, content_block, contents_from, fresh_block, fresh_from, is_other, saved_by, settled_by};
 
-use crate::busy::BusyFrames;
+use crate::clean::CleanFrames;
 use crate::fresh::FreshBlocks;
 use crate::idle::IdleList;
 use crate::share::FrameShare;
@@ -21,7 +21,7 @@ use xt_base::sizes::{IDLE_BLOCKS, ROOM};
 /// contents of idle blocks, the most recent first.
 #[derive(Debug, Drop)]
 pub struct Frames {
-    busy: BusyFrames,
+    busy: CleanFrames,
     fresh: FreshBlocks,
     idle: IdleList,
     /// A content that was replaced, for a later copy.

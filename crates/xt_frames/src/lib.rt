@@ -1,10 +1,13 @@
 //! The contents that a mount keeps: committed ones of busy blocks, fresh marks, and the idle list.
 #![tactic(auto)]
 
-mod busy;
+pub mod buf;
+pub mod busy;
+mod clean;
 pub mod frames;
 mod fresh;
 mod idle;
+pub mod kept;
 pub mod share;
 pub mod table;
 #[cfg(test)]

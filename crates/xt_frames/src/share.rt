@@ -3,7 +3,7 @@
 ghost use Rattle.std.specs.Prelude.{◌≡◌, [], IfOk};
 ghost use Rattle.xt_frames.specs.Shares.{no_contents};
 
-use crate::busy::BusyFrames;
+use crate::clean::CleanFrames;
 use crate::idle::IdleList;
 use std::alloc::{AllocError, Global};
 use xt_base::names::Slot;
@@ -13,7 +13,7 @@ use xt_base::names::Slot;
 #[derive(Debug, Drop)]
 pub struct FrameShare {
     pub(crate) slot: Slot,
-    pub(crate) busy: BusyFrames,
+    pub(crate) busy: CleanFrames,
     pub(crate) idle: IdleList,
 }
 
@@ -22,7 +22,7 @@ impl FrameShare {
     pub fn new(alloc: Global, slot: Slot) -> Result<Self, AllocError>
         ensures { IfOk result (λ share. share ≡ no_contents slot) }
     {
-        let busy = BusyFrames::new(alloc)?;
+        let busy = CleanFrames::new(alloc)?;
         let idle = IdleList::new(alloc)?;
         Ok(FrameShare { slot, busy, idle })
     }
