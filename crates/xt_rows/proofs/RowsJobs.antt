@@ -319,6 +319,83 @@ row17_order : orderly row17_steps ≡ true
 unfolding chunks_where
 row17_order = refl
 
+-- ---- row17.open_leg
+abbrev row17_open_leg_steps : List Step
+row17_open_leg_steps =
+    Step.Mount 0 65536 1024
+    ∷ Step.Call 0 1 (Request.Alloc 176 1 false) Answer.None
+    ∷ Step.Call 0 1 (Request.Read 1 7) (Answer.Content (replicate 4096 0))
+    ∷ Step.Call 0 1 (Request.Log 0 1 7 ((17 ∷ []))) Answer.None
+    ∷ Step.Call 0 1 (Request.Commit 1) Answer.None
+    ∷ Step.Call 0 1 Request.Force Answer.None
+    ∷ Step.Post (name 0 1 JobKind.Ckpt 1)
+    ∷ Step.Take 0 (name 0 1 JobKind.Ckpt 1)
+    ∷ Step.Begin 0 (name 0 1 JobKind.Ckpt 1)
+    ∷ Step.Call 0 1 (Request.Alloc 176 1 false) Answer.None
+    ∷ Step.Call 0 1 (Request.Get 2 7) Answer.None
+    ∷ Step.Call 0 1 (Request.Log 128 2 7 ((34 ∷ []))) Answer.None
+    ∷ Step.Call 0 1 (Request.Commit 2) Answer.None
+    ∷ Step.End 0 (name 0 1 JobKind.Ckpt 1) (record { taken = 1; sync = Some true })
+    ∷ Step.Call 0 1 Request.Push Answer.None
+    ∷ Step.Post (name 0 1 JobKind.Flush 2)
+    ∷ Step.Take 0 (name 0 1 JobKind.Flush 2)
+    ∷ Step.Flush 0 (name 0 1 JobKind.Flush 2) (record { count = 0; writes = (false ∷ false ∷ false ∷ false ∷ false ∷ false ∷ false ∷ false ∷ []); sync = false })
+    ∷ Step.Call 0 1 Request.Force Answer.None
+    ∷ Step.Post (name 0 1 JobKind.Ckpt 3)
+    ∷ Step.Take 0 (name 0 1 JobKind.Ckpt 3)
+    ∷ Step.Call 0 1 (Request.Alloc 176 1 false) Answer.None
+    ∷ Step.Call 0 1 (Request.Get 3 7) Answer.None
+    ∷ Step.Call 0 1 (Request.Log 256 3 7 ((51 ∷ []))) Answer.None
+    ∷ Step.Begin 0 (name 0 1 JobKind.Ckpt 3)
+    ∷ Step.End 0 (name 0 1 JobKind.Ckpt 3) (record { taken = 1; sync = Some true })
+    ∷ Step.Call 0 1 Request.Push Answer.None
+    ∷ Step.Post (name 0 1 JobKind.Flush 4)
+    ∷ Step.Take 0 (name 0 1 JobKind.Flush 4)
+    ∷ Step.Flush 0 (name 0 1 JobKind.Flush 4) (record { count = 0; writes = (false ∷ false ∷ false ∷ false ∷ false ∷ false ∷ false ∷ false ∷ []); sync = false })
+    ∷ []
+
+abbrev row17_open_leg_said : List Said
+row17_open_leg_said =
+    told 0 (Reply.Life 1)
+    ∷ told 0 (Reply.Trans 1)
+    ∷ told 0 Reply.Okay
+    ∷ told 0 Reply.Okay
+    ∷ told 0 (Reply.Committed 1)
+    ∷ told 0 (Reply.Wait 1)
+    ∷ told 0 Reply.Okay
+    ∷ told 0 Reply.Okay
+    ∷ told 0 (Reply.Begun 1 1)
+    ∷ told 0 (Reply.Trans 2)
+    ∷ told 0 Reply.Okay
+    ∷ told 0 Reply.Okay
+    ∷ told 0 (Reply.Committed 2)
+    ∷ said 0 (Reply.Landed 1) (LogOffer.Piece ((88 ∷ 67 ∷ 80 ∷ 49 ∷ []) ++ replicate 7 0 ++ (1 ∷ 0 ∷ 0 ∷ 0 ∷ 1 ∷ []) ++ replicate 7 0 ++ (7 ∷ 0 ∷ 0 ∷ 0 ∷ 1 ∷ []) ++ replicate 4 0 ++ (17 ∷ []) ++ replicate 127 0 ++ (88 ∷ 67 ∷ 69 ∷ 49 ∷ 0 ∷ 0 ∷ 0 ∷ 1 ∷ []) ++ replicate 7 0 ++ (1 ∷ [])) true ∷ LogOffer.Sync true ∷ []) []
+    ∷ told 0 Reply.Okay
+    ∷ told 0 Reply.Okay
+    ∷ told 0 Reply.Okay
+    ∷ told 0 Reply.Nothing
+    ∷ told 0 (Reply.Wait 2)
+    ∷ told 0 Reply.Okay
+    ∷ told 0 Reply.Okay
+    ∷ told 0 (Reply.Trans 3)
+    ∷ told 0 Reply.Okay
+    ∷ told 0 Reply.Okay
+    ∷ told 0 (Reply.Begun 2 1)
+    ∷ said 0 (Reply.Landed 2) (LogOffer.Piece ((88 ∷ 67 ∷ 80 ∷ 49 ∷ []) ++ replicate 7 0 ++ (2 ∷ 0 ∷ 0 ∷ 0 ∷ 1 ∷ []) ++ replicate 7 0 ++ (7 ∷ 0 ∷ 0 ∷ 0 ∷ 2 ∷ []) ++ replicate 4 0 ++ (34 ∷ []) ++ replicate 127 0 ++ (88 ∷ 67 ∷ 69 ∷ 49 ∷ 0 ∷ 0 ∷ 0 ∷ 1 ∷ []) ++ replicate 7 0 ++ (2 ∷ [])) true ∷ LogOffer.Sync true ∷ []) []
+    ∷ told 0 Reply.Okay
+    ∷ told 0 Reply.Okay
+    ∷ told 0 Reply.Okay
+    ∷ told 0 Reply.Nothing
+    ∷ []
+
+row17_open_leg : alone_run row17_open_leg_steps ≡ row17_open_leg_said
+unfolding chunks_where
+row17_open_leg = refl
+
+row17_open_leg_order : orderly row17_open_leg_steps ≡ true
+unfolding chunks_where
+row17_open_leg_order = refl
+
 -- ---- row19
 abbrev row19_steps : List Step
 row19_steps =
