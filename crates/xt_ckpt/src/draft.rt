@@ -9,6 +9,7 @@ ghost use Rattle.xt_ckpt.specs.Drafts.{seen, IsAfter};
 use crate::format::{END, START};
 use crate::item::Item;
 use crate::reading::Checkpoint;
+use crate::rooms::Rooms;
 use std::alloc::{AllocError, Global};
 use xt_base::chunks::Chunks;
 use xt_base::names::{Block, CkptNo};
@@ -143,14 +144,14 @@ impl Draft {
     /// Adds an item, with which either the next begins or the end.
     fn push_item(
         &mut self,
-        alloc: Global,
+        rooms: &mut Rooms,
         block: u64,
         map: u32,
         content: &[u8],
     ) -> Result<(), AllocError>
         ensures { OnOk result (seen self.new ≡ with_item block map content.now (seen self.old)) }
     {
-        let content = Vec::from_slice(alloc, content)?;
+        let content = rooms.copy_of(content)?;
         let block = Block(block);
         self.items.push(Item {
             block,
@@ -165,7 +166,7 @@ impl Draft {
     /// Judges the flag of an item: a cancel is whole with it.
     fn accept_flag(
         &mut self,
-        alloc: Global,
+        rooms: &mut Rooms,
         block: u64,
         map: u32,
         flag: u32,
@@ -175,7 +176,7 @@ impl Draft {
         if map == 0 {
             let accepted = flag == 1;
             if accepted {
-                self.push_item(alloc, block, 0, &[])?;
+                self.push_item(rooms, block, 0, &[])?;
             }
             Ok(accepted)
         } else {
@@ -213,7 +214,7 @@ impl Draft {
 
     /// Judges the next field, of which all bytes are here: whether it obeys its rule. After
     /// an error, or where it doesn't, the draft is of no further use.
-    pub fn accept(&mut self, alloc: Global, bytes: &[u8]) -> Result<bool, AllocError>
+    pub fn accept(&mut self, rooms: &mut Rooms, bytes: &[u8]) -> Result<bool, AllocError>
         requires { length bytes.now ≡ width self.old.next }
         ensures { IfOk result (λ accepted. IsAfter accepted (seen self.new) (after (seen self.old) bytes.now)) }
     {
@@ -226,9 +227,9 @@ impl Draft {
                 let map = u32_of(bytes);
                 self.go_on(true, Field::Flag { block, map })
             }
-            Field::Flag { block, map } => self.accept_flag(alloc, block, map, u32_of(bytes))?,
+            Field::Flag { block, map } => self.accept_flag(rooms, block, map, u32_of(bytes))?,
             Field::Content { block, map } => {
-                self.push_item(alloc, block, map, bytes)?;
+                self.push_item(rooms, block, map, bytes)?;
                 true
             }
             Field::End => self.go_on(u32_of(bytes) == END, Field::EndCount),

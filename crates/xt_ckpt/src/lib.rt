@@ -9,11 +9,13 @@ pub mod laws;
 pub mod piece_writer;
 mod place;
 pub mod reading;
+pub mod rooms;
 #[cfg(test)]
 mod tests;
 pub mod writing;
 
 pub use item::Item;
 pub use piece_writer::PieceWriter;
-pub use reading::{Checkpoint, CkptFault, ReadFault, read_checkpoint};
+pub use reading::{Checkpoint, CkptFault, ReadFault, read_checkpoint, read_checkpoint_into};
+pub use rooms::Rooms;
 pub use writing::write_checkpoint;

@@ -8,6 +8,7 @@ ghost use Rattle.xt_ckpt.specs.declared.reading.ReadFault.TheVariants.{Memory};
 
 use crate::draft::Draft;
 use crate::item::Item;
+use crate::rooms::Rooms;
 use std::alloc::{AllocError, Global};
 use thiserror::Error;
 use xt_base::names::CkptNo;
@@ -49,17 +50,17 @@ impl From<AllocError> for ReadFault {
 }
 
 /// Judges the fields from the first on, each once all its bytes are there.
-fn judge(alloc: Global, input: &[u8]) -> Result<Option<(Checkpoint, usize)>, ReadFault>
+fn judge(rooms: &mut Rooms, input: &[u8]) -> Result<Option<(Checkpoint, usize)>, ReadFault>
     ensures { IsJudged input.now result }
 {
-    let mut draft = Draft::new(alloc);
+    let mut draft = Draft::new(rooms.alloc());
     let mut at = 0;
     'fields: while !draft.is_whole() {
         let width = draft.next.width();
         if input.len() - at < width {
             return Ok(None);
         }
-        if !draft.accept(alloc, &input[at..at + width])? {
+        if !draft.accept(rooms, &input[at..at + width])? {
             return Err(ReadFault::Ckpt(CkptFault { at }));
         }
         at += width;
@@ -84,5 +85,23 @@ pub fn read_checkpoint(
     // A fault is the first field that breaks its rule.
     ensures fault { IfErr result (λ fault. IsWhy input.now fault) }
 {
-    judge(alloc, input)
+    judge(&mut Rooms::new(alloc), input)
+}
+
+/// The same, with the items in room that was given back, as far as there is some.
+pub fn read_checkpoint_into(
+    rooms: &mut Rooms,
+    input: &[u8],
+) -> Result<Option<(Checkpoint, usize)>, ReadFault>
+    // What is read is the grammar's.
+    ensures found { IfOk result (λ r. IfSome r (λ found. Begins input.now found.0 found.1)) }
+    // What is the grammar's is read, whatever follows it, unless memory runs out.
+    ensures only { (text more : List ℕ) (number : ℕ) (items : List Entry) → IsText text number items
+        → input.now ≡ text ++ more → IsReadAs number items (length text) result }
+    // Nothing is read where no text begins the input, which ends within a field; each field before obeys its rule.
+    ensures none { IfOk result (λ r. IsNone r → BeginsNoText input.now × IsUnfinished input.now) }
+    // A fault is the first field that breaks its rule.
+    ensures fault { IfErr result (λ fault. IsWhy input.now fault) }
+{
+    judge(rooms, input)
 }

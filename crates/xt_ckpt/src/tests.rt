@@ -11,7 +11,8 @@ mod texts;
 
 use crate::item::Item;
 use crate::piece_writer::PieceWriter;
-use crate::reading::{Checkpoint, CkptFault, ReadFault, read_checkpoint};
+use crate::reading::{Checkpoint, CkptFault, ReadFault, read_checkpoint, read_checkpoint_into};
+use crate::rooms::Rooms;
 use crate::writing::write_checkpoint;
 use bytes::Bytes;
 use std::alloc::{AllocError, Global};
@@ -133,6 +134,24 @@ fn texts_of_one_item(rt: HostRuntime) -> Result<(), Fail> {
             read == *len && is_one(&checkpoint, *map, &content),
             "{text}"
         );
+    }
+    Ok(())
+}
+
+/// What one text after another is read as, each in the room of the one before: a longer one, a shorter one, and none.
+#[test]
+fn rooms_used_again(rt: HostRuntime) -> Result<(), Fail> {
+    let mut rooms = Rooms::new(rt.alloc());
+    for (text, len, map, content) in OF_ONE {
+        let input = bytes_of(rt.alloc(), text)?;
+        let found = read_checkpoint_into(&mut rooms, &input)?;
+        let (checkpoint, read) = found.ok_or("a text")?;
+        let content = bytes_of(rt.alloc(), content)?;
+        assert!(rt;
+            read == *len && is_one(&checkpoint, *map, &content),
+            "{text}"
+        );
+        rooms.give_back(checkpoint);
     }
     Ok(())
 }

@@ -13,7 +13,7 @@ use crate::writing::{write_bytes, write_numbered};
 use std::alloc::Global;
 use std::io::{self, ErrorKind, Read, Write};
 use xt_base::sizes::DATA_BYTES;
-use xt_ckpt::{Checkpoint, Item};
+use xt_ckpt::{Checkpoint, Item, Rooms};
 use xt_text::buffer::Text;
 use xt_text::print_ckpt::{print_head, print_item};
 
@@ -106,14 +106,23 @@ fn dump_by_pieces<R: Read, W: Write>(
     ensures status { IfOk result IsLogStatus }
 {
     let mut window = Window::new(alloc);
+    let mut rooms = Rooms::new(alloc);
     for _ in 0..u64::MAX {
-        let found = window.next(reader, piece)?;
+        let found = window.next(reader, piece, &mut rooms)?;
         let status = print_found(writer, text, &found).map_err(LogFault::Io)?;
         if let Some(status) = status {
             return Ok(status);
         }
+        let_go(&mut rooms, found);
     }
     Err(LogFault::Io(io::Error::from(ErrorKind::TimedOut)))
+}
+
+/// What was printed is let go, and its room is used again.
+fn let_go(rooms: &mut Rooms, found: Found) {
+    if let Found::Text(checkpoint) = found {
+        rooms.give_back(checkpoint);
+    }
 }
 
 /// Prints what was found, and answers the status, where the log ends with it: 0, or 3 where a text breaks a rule.

@@ -7,13 +7,16 @@ use std::alloc::{AllocError, Global};
 use std::io::{self, ErrorKind, Read};
 use std::marker::Model;
 use thiserror::Error;
-use xt_ckpt::{Checkpoint, ReadFault, read_checkpoint};
+use xt_ckpt::{Checkpoint, ReadFault, Rooms, read_checkpoint_into};
 
 /// The most bytes of a log.
 pub const LOG_BYTES: usize = 67_108_864;
 
 /// How many bytes are read at once.
 pub const PIECE_BYTES: usize = 65_536;
+
+/// The most bytes of a text: of 64 whole blocks.
+const TEXT_BYTES: usize = 263_200;
 
 /// Why a log was not read to its end.
 #[derive(Debug, Drop, Error)]
@@ -44,7 +47,6 @@ pub enum Found {
 /// log ends with them.
 #[derive(Debug, Drop)]
 pub struct Window {
-    alloc: Global,
     bytes: Vec<u8>,
     /// How many of the bytes are taken.
     taken: usize,
@@ -70,7 +72,6 @@ impl Window {
         ensures { result ≡ record { bytes = []; offset = 0; is_ended = false } }
     {
         Window {
-            alloc,
             bytes: Vec::new(alloc),
             taken: 0,
             start: 0,
@@ -109,9 +110,14 @@ impl Window {
     }
 
     /// Takes the text that begins what is held, or says how the log ends; where more bytes are wanted they are read, by way of `piece`.
-    /// A reader that is interrupted is asked again.
+    /// A reader that is interrupted is asked again. The items of a text stand in `rooms`, as far as there are some.
     #[tactic(auto, using(crate::proofs::WindowLemmas::is_ahead, crate::proofs::WindowLemmas::is_tied, crate::proofs::WindowLemmas::refilled_more, crate::proofs::WindowLemmas::refilled_none, crate::proofs::WindowLemmas::why_ahead, crate::proofs::WindowLemmas::why_other))]
-    pub fn next<R: Read>(&mut self, reader: &mut R, piece: &mut [u8]) -> Result<Found, LogFault>
+    pub fn next<R: Read>(
+        &mut self,
+        reader: &mut R,
+        piece: &mut [u8],
+        rooms: &mut Rooms,
+    ) -> Result<Found, LogFault>
         requires room { 0 < length piece.old }
         requires ended { IsTied self.old (R.remaining reader.old) }
         ensures short { IfOk result AreShort }
@@ -120,7 +126,7 @@ impl Window {
         ensures fault { IfErr result (λ fault. IfSome (ahead self.old (R.remaining reader.old)) (λ log. IsWhy (self.old.offset + length log) fault)) }
     {
         for _ in 0..u64::MAX {
-            if let Some(found) = self.judge()? {
+            if let Some(found) = self.judge(rooms)? {
                 return Ok(found);
             }
             self.refill(reader, piece)?;
@@ -128,13 +134,24 @@ impl Window {
         Err(LogFault::Io(io::Error::from(ErrorKind::TimedOut)))
     }
 
-    /// Judges what is held; None where more is to be read.
-    fn judge(&mut self) -> Result<Option<Found>, LogFault>
+    /// Judges what is held, once no text has more bytes or the log ends with them; None where more is to be read. So a text is read once.
+    fn judge(&mut self, rooms: &mut Rooms) -> Result<Option<Found>, LogFault>
         ensures judged { IfOk result (λ found. IsNext self.old found self.new) }
         ensures bound { self.old.offset + length self.old.bytes ≤ LOG_BYTES }
         ensures fault { IfErr result (λ fault. is_too_long fault ≡ false) }
     {
-        match read_checkpoint(self.alloc, self.held()) {
+        if self.bytes.len() - self.taken < TEXT_BYTES && !self.is_ended {
+            return Ok(None);
+        }
+        self.judge_held(rooms)
+    }
+
+    /// Judges what is held, however little it is.
+    fn judge_held(&mut self, rooms: &mut Rooms) -> Result<Option<Found>, LogFault>
+        ensures judged { IfOk result (λ found. IsNext self.old found self.new) }
+        ensures fault { IfErr result (λ fault. is_too_long fault ≡ false) }
+    {
+        match read_checkpoint_into(rooms, self.held()) {
             Ok(Some((checkpoint, len))) => {
                 self.take(len);
                 Ok(Some(Found::Text(checkpoint)))
@@ -158,26 +175,37 @@ impl Window {
                 self.is_ended = true;
                 Ok(())
             }
-            Ok(count) => self.keep(&piece[..count]),
+            Ok(count) => {
+                self.let_go();
+                self.keep(&piece[..count])
+            }
             Err(error) if error.kind() == ErrorKind::Interrupted => Ok(()),
             Err(error) => Err(LogFault::Io(error)),
         }
     }
 
-    /// Puts bytes behind what is held; what was taken goes. `TooLong` where the log has more than 67,108,864 bytes.
+    /// Puts bytes behind what is held. `TooLong` where the log has more than 67,108,864 bytes.
     fn keep(&mut self, more: &[u8]) -> Result<(), LogFault>
         ensures kept { OnOk result (self.new ≡ with_more more.now self.old) }
         ensures fault { IfErr result (IsWhy (self.old.offset + length self.old.bytes + length more.now)) }
     {
-        let start = self.offset();
-        let mut bytes = Vec::from_slice(self.alloc, self.held()).map_err(LogFault::Memory)?;
-        if more.len() > LOG_BYTES - start - bytes.len() {
+        if more.len() > LOG_BYTES - self.start - self.bytes.len() {
             return Err(LogFault::TooLong);
         }
-        bytes.extend_from_slice(more).map_err(LogFault::Memory)?;
-        self.bytes = bytes;
-        self.start = start;
-        self.taken = 0;
-        Ok(())
+        self.bytes.extend_from_slice(more).map_err(LogFault::Memory)
+    }
+
+    /// The room of what was taken is used again, once it is more than what is held: so little is moved.
+    fn let_go(&mut self)
+        ensures { self.new ≡ self.old }
+    {
+        let len = self.bytes.len();
+        let held = len - self.taken;
+        if held < self.taken {
+            self.bytes.copy_within(self.taken..len, 0);
+            self.bytes.truncate(held);
+            self.start += self.taken;
+            self.taken = 0;
+        }
     }
 }

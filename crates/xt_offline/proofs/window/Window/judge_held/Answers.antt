@@ -1,7 +1,7 @@
 use Rattle.std.proofs.Common.{rules}
 use Rattle.xt_ckpt.specs.Reading.{Begins}
 use Rattle.xt_offline.proofs.DumpLemmas.{short_of}
-use Rattle.xt_offline.proofs.window.Window.judge.Goals as goal
+use Rattle.xt_offline.proofs.window.Window.judge_held.Goals as goal
 
 pub returns-in-Ok-Some-clause-judged : goal.returns-in-Ok-Some-clause-judged
 returns-in-Ok-Some-clause-judged c =
