@@ -8,7 +8,7 @@ ghost use Rattle.xt_base.specs.declared.sizes.TheConstants.{FLUSH_BLOCKS as MOST
 ghost use Rattle.xt_cell.specs.Asking.{committed_write, flush_calls, nearest, read_calls};
 ghost use Rattle.xt_dev.specs.Devices.{Tells};
 ghost use Rattle.xt_dev.specs.Flushes.{contents};
-ghost use Rattle.xt_mount.specs.Slots.{contents_in, form_in, plan_in};
+ghost use Rattle.xt_mount.specs.Slots.{IsUnchangedIn, contents_in, form_in, plan_in};
 
 use std::alloc::{AllocError, Global};
 use xt_base::content::Content;
@@ -47,6 +47,7 @@ pub fn read(home: &mut dyn HomeDevice, block: Block, bytes: Box<Vec<u8>>) -> Ans
 fn write_at<'a>(slot: &'a MountSlot, blocks: &[Block], place: usize) -> (Block, &'a [u8])
     requires some { 0 < length blocks.now }
     requires committed { All (λ b. is_in b (contents_in slot.now.mounted) ≡ true) blocks.now }
+    requires unchanged { All (λ b. IsUnchangedIn b slot.now.mounted) blocks.now }
     ensures write { (result.0, result.1.now) ≡ committed_write slot.now.mounted (nearest blocks.now place) }
     ensures whole { length result.1.now ≡ BLOCK_BYTES }
 {
@@ -62,6 +63,7 @@ fn writes_of<'a>(slot: &'a MountSlot, blocks: &[Block]) -> [(Block, &'a [u8]); F
     requires some { 0 < length blocks.now }
     requires few { length blocks.now ≤ FLUSH_BLOCKS }
     requires committed { All (λ b. is_in b (contents_in slot.now.mounted) ≡ true) blocks.now }
+    requires unchanged { All (λ b. IsUnchangedIn b slot.now.mounted) blocks.now }
     ensures writes { contents (take (length blocks.now) result) ≡ map (committed_write slot.now.mounted) blocks.now }
     ensures whole { All (λ w. length w.1.now ≡ BLOCK_BYTES) (take (length blocks.now) result) }
 {

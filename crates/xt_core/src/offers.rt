@@ -6,7 +6,7 @@ ghost use Rattle.xt_base.specs.Maps.{is_in};
 ghost use Rattle.xt_base.specs.Text.{content_at, log_offers_of, offered};
 ghost use Rattle.xt_base.specs.declared.steps.HomeOffer.{HomeOffer as AHomeOffer};
 ghost use Rattle.xt_base.specs.declared.steps.LogOffer.{LogOffer as AnOffer};
-ghost use Rattle.xt_mount.specs.Slots.{contents_in, form_in, plan_in};
+ghost use Rattle.xt_mount.specs.Slots.{IsUnchangedIn, contents_in, form_in, plan_in};
 
 use bytes::Bytes;
 use std::alloc::{AllocError, Global};
@@ -60,9 +60,10 @@ pub fn log_offers(
     Ok(offers)
 }
 
-/// A copy of what a slot's mount has committed of a block.
+/// A copy of what a slot's mount has committed of a block that no open transaction has changed.
 fn committed_copy(alloc: Global, slot: &MountSlot, block: Block) -> Result<Content, AllocError>
-    requires { is_in block (contents_in slot.now.mounted) ≡ true }
+    requires there { is_in block (contents_in slot.now.mounted) ≡ true }
+    requires unchanged { IsUnchangedIn block slot.now.mounted }
     ensures { IfOk result (λ content. content ≡ content_at (form_in slot.now.mounted).size block (contents_in slot.now.mounted)) }
 {
     let Some(bytes) = slot.committed(block) else {
@@ -81,7 +82,8 @@ fn write_offer(
     block: Block,
     ok: bool,
 ) -> Result<HomeOffer, AllocError>
-    requires { is_in block (contents_in slot.now.mounted) ≡ true }
+    requires there { is_in block (contents_in slot.now.mounted) ≡ true }
+    requires unchanged { IsUnchangedIn block slot.now.mounted }
     ensures { IfOk result (λ offer. offer ≡ AHomeOffer.Write block (content_at (form_in slot.now.mounted).size block (contents_in slot.now.mounted)) ok) }
 {
     let content = committed_copy(alloc, slot, block)?;
@@ -97,6 +99,7 @@ fn write_offers(
 ) -> Result<Vec<HomeOffer>, AllocError>
     requires answered { length answers.now ≡ length blocks.now }
     requires committed { All (λ b. is_in b (contents_in slot.now.mounted) ≡ true) blocks.now }
+    requires unchanged { All (λ b. IsUnchangedIn b slot.now.mounted) blocks.now }
     ensures { IfOk result (λ offers. offers.items ≡ writes (form_in slot.now.mounted).size (contents_in slot.now.mounted) blocks.now answers.now) }
 {
     let mut offers = Vec::new(alloc);

@@ -1,21 +1,22 @@
 -- Busy frames by their index: one more, one in the place of another, and one that goes.
-use Rattle.std.proofs.Common.{append-nil, append_assoc, true, ◌≡◌, ◌≢◌, ◌∙◌, ◌+◌, ◌<◌, ◌≤◌, ◌++◌, ◌∷◌, List, None, Option, Some, [], add-one, ap, arith, drop, inl, inr, length, refl, subst, suc, sym, take, zero, ℕ}
-use Rattle.std.proofs.lemmas.Bool.{cases_eq}
+use Rattle.std.proofs.Common.{Err, Ok, OnOk, Result, append-nil, append_assoc, true, ◌≡◌, ◌≢◌, ◌∙◌, ◌+◌, ◌<◌, ◌≤◌, ◌++◌, ◌∷◌, List, None, Option, Some, [], add-one, ap, arith, drop, inl, inr, length, refl, subst, suc, sym, take, zero, ℕ}
+use Rattle.std.proofs.lemmas.Bool.{cases_eq, false≢true}
 use Rattle.std.proofs.lemmas.Grind.{common_steps}
 use Rattle.std.proofs.lemmas.List.{drop_all}
 use Rattle.std.specs.List.{cons_option}
 use Rattle.std.specs.Prelude.{count_by, false, is_some, option_map, slice_get, slice_index_or}
 use Rattle.slab.specs.Slab.{Slab, Updates, get, slab_len}
 use Rattle.xt_base.proofs.MapLemmas.{at_first, at_later, some_same, without_first, without_later}
-use Rattle.xt_base.proofs.RisingLemmas.{each_at, each_both, each_map, each_other, each_put, length_put_new, rises_put, rises_without}
+use Rattle.xt_base.proofs.RisingLemmas.{each_at, each_map, each_other, each_put, length_put_new, rises_put, rises_without}
 use Rattle.xt_base.proofs.ViewLemmas.{at_view, put_without, rises_view, view_put, view_put_same, view_without}
 use Rattle.xt_base.specs.Maps.{at, is_in, put, without}
 use Rattle.xt_base.specs.Sound.{Each, RisesFrom}
 use Rattle.xt_base.specs.Views.{view, view_entry, viewed}
-use Rattle.xt_frames.specs.Busy.{AreTied, block_in, busy_of, content_in}
+use Rattle.xt_frames.specs.Busy.{AreTied, base_in, block_in, busy_of, changed_at, changed_in, committed_of, frame_in}
+use Rattle.xt_frames.specs.Kept.{Framed}
 
 abbrev Frame : Type 0
-Frame = ℕ × List ℕ
+Frame = ℕ × Framed
 
 abbrev Index : Type 0
 Index = List (ℕ × ℕ)
@@ -26,21 +27,21 @@ IsNamed frames e = block_in frames e.1 ≡ Some e.0
 
 -- ---- what an index leads to
 -- frames that have the same show the same
-same_view : (f g : ℕ → Option (List ℕ)) (es : Index) → Each (λ e. f e.1 ≡ g e.1) es → view f es ≡ view g es
+same_view : (f g : ℕ → Option Framed) (es : Index) → Each (λ e. f e.1 ≡ g e.1) es → view f es ≡ view g es
 same_view f g [] same = refl
-same_view f g (e ∷ es) same = ap (λ o. cons_option (option_map (λ (w : List ℕ). (e.0, w)) o) (view f es)) same.0 ∙ ap (cons_option (view_entry g e)) (same_view f g es same.1)
+same_view f g (e ∷ es) same = ap (λ o. cons_option (option_map (λ (w : Framed). (e.0, w)) o) (view f es)) same.0 ∙ ap (cons_option (view_entry g e)) (same_view f g es same.1)
 
 -- a frame with a block has a content
-frame_is : (b : ℕ) (o : Option Frame) → option_map (λ (e : Frame). e.0) o ≡ Some b → (c : List ℕ) × (option_map (λ (e : Frame). e.1) o ≡ Some c)
+frame_is : (b : ℕ) (o : Option Frame) → option_map (λ (e : Frame). e.0) o ≡ Some b → (c : Framed) × (option_map (λ (e : Frame). e.1) o ≡ Some c)
 frame_is b None is = absurd (cc)
 frame_is b (Some e) is = (e.1, refl)
 
-pub content_there : (frames : Slab Frame) (key b : ℕ) → block_in frames key ≡ Some b → (c : List ℕ) × (content_in frames key ≡ Some c)
+pub content_there : (frames : Slab Frame) (key b : ℕ) → block_in frames key ≡ Some b → (c : Framed) × (frame_in frames key ≡ Some c)
 content_there frames key b is = frame_is b (get frames key) is
 
 -- a first entry that is there
-shown : (frames : Slab Frame) (e : ℕ × ℕ) (es : Index) (c : List ℕ) → content_in frames e.1 ≡ Some c → busy_of frames (e ∷ es) ≡ (e.0, c) ∷ busy_of frames es
-shown frames e es c is = ap (λ o. cons_option (option_map (λ (w : List ℕ). (e.0, w)) o) (busy_of frames es)) is
+shown : (frames : Slab Frame) (e : ℕ × ℕ) (es : Index) (c : Framed) → frame_in frames e.1 ≡ Some c → busy_of frames (e ∷ es) ≡ (e.0, c) ∷ busy_of frames es
+shown frames e es c is = ap (λ o. cons_option (option_map (λ (w : Framed). (e.0, w)) o) (busy_of frames es)) is
 
 pub length_busy : (frames : Slab Frame) (es : Index) → Each (IsNamed frames) es → length (busy_of frames es) ≡ length es
 length_busy frames [] named = refl
@@ -61,8 +62,8 @@ pub no_block : (xs : List Frame) (i : ℕ) → length xs ≤ i → None ≡ opti
 no_block xs i le = sym (ap (option_map (λ (e : Frame). e.0)) (past_none xs i le))
 
 -- the content of a block
-pub found_at : (frames : Slab Frame) (es : Index) (b : ℕ) (o : Option ℕ) → AreTied frames es → o ≡ at b es → viewed (content_in frames) o ≡ at b (busy_of frames es)
-found_at frames es b o tied is = ap (viewed (content_in frames)) is ∙ sym (at_view (content_in frames) 0 b es tied.rising)
+pub found_at : (frames : Slab Frame) (es : Index) (b : ℕ) (o : Option ℕ) → AreTied frames es → o ≡ at b es → viewed (frame_in frames) o ≡ at b (busy_of frames es)
+found_at frames es b o tied is = ap (viewed (frame_in frames)) is ∙ sym (at_view (frame_in frames) 0 b es tied.rising)
 
 -- a map without a key that it has
 length_without : (k v : ℕ) (xs : Index) → at k xs ≡ Some v → length (without k xs) + 1 ≡ length xs
@@ -85,7 +86,7 @@ pub key_there : (frames : Slab Frame) (es : Index) (b key : ℕ) → AreTied fra
 key_there frames es b key tied there = frame_there b (get frames key) (each_at (IsNamed frames) b key es there tied.named)
 
 -- a block is in the index where it has a content
-in_both : (frames : Slab Frame) (es : Index) (b : ℕ) (o : Option ℕ) → AreTied frames es → at b es ≡ o → is_some o ≡ is_some (viewed (content_in frames) o)
+in_both : (frames : Slab Frame) (es : Index) (b : ℕ) (o : Option ℕ) → AreTied frames es → at b es ≡ o → is_some o ≡ is_some (viewed (frame_in frames) o)
 in_both frames es b None tied is = refl
 in_both frames es b (Some key) tied is = sym (ap is_some (content_there frames key b (each_at (IsNamed frames) b key es is tied.named)).1)
 
@@ -93,7 +94,7 @@ pub in_busy : (frames : Slab Frame) (es : Index) (b : ℕ) → AreTied frames es
 in_busy frames es b tied = in_both frames es b (at b es) tied refl ∙ ap is_some (found_at frames es b (at b es) tied refl)
 
 -- ---- one more
-module _ (frames next : Slab Frame) (es : Index) (b key : ℕ) (content : List ℕ) (tied : AreTied frames es) (vacant : get frames key ≡ None) (brought : Updates frames next key (Some (b, content))) where
+module _ (frames next : Slab Frame) (es : Index) (b key : ℕ) (content : Framed) (tied : AreTied frames es) (vacant : get frames key ≡ None) (brought : Updates frames next key (Some (b, content))) where
   unmoved : (e : ℕ × ℕ) → IsNamed frames e → get next e.1 ≡ get frames e.1
   unmoved e named = brought.others e.1 (λ same. let none : None ≡ Some e.0 = sym (ap (λ k. block_in frames k) same ∙ ap (option_map (λ (x : Frame). x.0)) vacant) ∙ named in cc)
 
@@ -113,9 +114,9 @@ module _ (frames next : Slab Frame) (es : Index) (b key : ℕ) (content : List �
 
   pub busy_put : (more : Index) → more ≡ put b key es → busy_of next more ≡ put b content (busy_of frames es)
   busy_put more is =
-      ap (busy_of next) is ∙ view_put (content_in next) 0 b key content es tied.rising (ap (option_map (λ (x : Frame). x.1)) brought.changed)
-      ∙ ap (put b content) (same_view (content_in next) (content_in frames) es
-      (each_map (IsNamed frames) (λ e. content_in next e.1 ≡ content_in frames e.1) es (λ e named. ap (option_map (λ (x : Frame). x.1)) (unmoved e named)) tied.named))
+      ap (busy_of next) is ∙ view_put (frame_in next) 0 b key content es tied.rising (ap (option_map (λ (x : Frame). x.1)) brought.changed)
+      ∙ ap (put b content) (same_view (frame_in next) (frame_in frames) es
+      (each_map (IsNamed frames) (λ e. frame_in next e.1 ≡ frame_in frames e.1) es (λ e named. ap (option_map (λ (x : Frame). x.1)) (unmoved e named)) tied.named))
 
 -- ---- one that goes
 module _ (frames next : Slab Frame) (es : Index) (b key : ℕ) (tied : AreTied frames es) (there : at b es ≡ Some key) (gone : Updates frames next key None) where
@@ -133,9 +134,9 @@ module _ (frames next : Slab Frame) (es : Index) (b key : ℕ) (tied : AreTied f
 
   left_view : busy_of next (without b es) ≡ without b (busy_of frames es)
   left_view =
-      same_view (content_in next) (content_in frames) (without b es)
-      (each_map (λ e. IsNamed frames e × (e.0 ≢ b)) (λ e. content_in next e.1 ≡ content_in frames e.1) (without b es) (λ e both. ap (option_map (λ (x : Frame). x.1)) (gone.others e.1 (apart e both))) others)
-      ∙ view_without (content_in frames) 0 b es tied.rising
+      same_view (frame_in next) (frame_in frames) (without b es)
+      (each_map (λ e. IsNamed frames e × (e.0 ≢ b)) (λ e. frame_in next e.1 ≡ frame_in frames e.1) (without b es) (λ e both. ap (option_map (λ (x : Frame). x.1)) (gone.others e.1 (apart e both))) others)
+      ∙ view_without (frame_in frames) 0 b es tied.rising
 
   pub tied_without : (less : Index) → less ≡ without b es → slab_len next + 1 ≡ slab_len frames → next.capacity ≡ frames.capacity → AreTied next less
   tied_without less is count room =
@@ -155,7 +156,7 @@ pub moved_key : (old new : Slab Frame) (k key : ℕ) (slot : Option Frame) → k
 moved_key old new k key slot same brought = subst (λ x. Updates old new x slot) same brought
 
 -- ---- another in the same frame
-module _ (frames cleared next : Slab Frame) (es : Index) (b key : ℕ) (content : List ℕ) (tied : AreTied frames es) (there : at b es ≡ Some key)
+module _ (frames cleared next : Slab Frame) (es : Index) (b key : ℕ) (content : Framed) (tied : AreTied frames es) (there : at b es ≡ Some key)
     (gone : Updates frames cleared key None) (brought : Updates cleared next key (Some (b, content))) where
   kept : (e : ℕ × ℕ) → e.1 ≢ key → get next e.1 ≡ get frames e.1
   kept e other = brought.others e.1 other ∙ gone.others e.1 other
@@ -180,15 +181,15 @@ module _ (frames cleared next : Slab Frame) (es : Index) (b key : ℕ) (content 
   pub busy_exchanged : busy_of next es ≡ put b content (busy_of frames es)
   busy_exchanged =
       let others = each_other (IsNamed frames) 0 b es tied.rising tied.named in
-      sym (view_put_same (content_in next) 0 b key es tied.rising (ap (viewed (content_in next)) there))
+      sym (view_put_same (frame_in next) 0 b key es tied.rising (ap (viewed (frame_in next)) there))
       ∙ ap (busy_of next) (sym (put_without 0 b key es tied.rising))
-      ∙ view_put (content_in next) 0 b key content (without b es) (rises_without 0 b es tied.rising) (ap (option_map (λ (x : Frame). x.1)) brought.changed)
+      ∙ view_put (frame_in next) 0 b key content (without b es) (rises_without 0 b es tied.rising) (ap (option_map (λ (x : Frame). x.1)) brought.changed)
       ∙ ap (put b content)
-      (same_view (content_in next) (content_in frames) (without b es)
-      (each_map (λ e. IsNamed frames e × (e.0 ≢ b)) (λ e. content_in next e.1 ≡ content_in frames e.1) (without b es)
+      (same_view (frame_in next) (frame_in frames) (without b es)
+      (each_map (λ e. IsNamed frames e × (e.0 ≢ b)) (λ e. frame_in next e.1 ≡ frame_in frames e.1) (without b es)
       (λ e both. ap (option_map (λ (x : Frame). x.1)) (kept e (apart frames cleared es b key tied there gone e both))) others)
-      ∙ view_without (content_in frames) 0 b es tied.rising)
-      ∙ put_without 0 b content (busy_of frames es) (rises_view (content_in frames) 0 es tied.rising)
+      ∙ view_without (frame_in frames) 0 b es tied.rising)
+      ∙ put_without 0 b content (busy_of frames es) (rises_view (frame_in frames) 0 es tied.rising)
 
 -- ---- by places
 some_frame : (x e : Frame) → Some x ≡ Some e → x ≡ e
@@ -216,7 +217,7 @@ cut_placed n (suc i) (x ∷ xs) e r is =
     let le : suc x.0 ≤ e.0 = above (suc x.0) i xs e r.1 is in
     without_later e.0 x xs (λ s. omega (arith, s, le)) ∙ ap (λ ys. x ∷ ys) (cut_placed (suc x.0) i xs e r.1 is)
 
-placed_in : (frames : Slab Frame) (es : Index) (i b key : ℕ) → Each (IsNamed frames) es → slice_get es i ≡ Some (b, key) → (c : List ℕ) × (slice_get (busy_of frames es) i ≡ Some (b, c))
+placed_in : (frames : Slab Frame) (es : Index) (i b key : ℕ) → Each (IsNamed frames) es → slice_get es i ≡ Some (b, key) → (c : Framed) × (slice_get (busy_of frames es) i ≡ Some (b, c))
 placed_in frames [] i b key named is = absurd (cc)
 placed_in frames (e ∷ es) zero b key named is =
     let there = content_there frames e.1 e.0 named.0 in
@@ -228,7 +229,7 @@ placed_in frames (e ∷ es) (suc i) b key named is =
     (later.0, ap (λ (xs : List Frame). slice_get xs (suc i)) (shown frames e es there.0 there.1) ∙ later.1)
 
 -- the content at a place of the index
-pub placed : (frames : Slab Frame) (es : Index) (i b key : ℕ) → AreTied frames es → slice_get es i ≡ Some (b, key) → (c : List ℕ) × (slice_get (busy_of frames es) i ≡ Some (b, c))
+pub placed : (frames : Slab Frame) (es : Index) (i b key : ℕ) → AreTied frames es → slice_get es i ≡ Some (b, key) → (c : Framed) × (slice_get (busy_of frames es) i ≡ Some (b, c))
 placed frames es i b key tied is = placed_in frames es i b key tied.named is
 
 -- the element at a place
@@ -241,21 +242,21 @@ module _ (frames : Slab Frame) (es ns : Index) (now : List Frame) (i : ℕ) (tie
   abbrev pub block_here : ℕ
   block_here = (slice_index_or ns i (0, 0)).0
 
-  pub content_here : (c : List ℕ) × (slice_get now i ≡ Some (block_here, c))
+  pub content_here : (c : Framed) × (slice_get now i ≡ Some (block_here, c))
   content_here =
       let found = placed frames es i block_here (slice_index_or ns i (0, 0)).1 tied (ap (λ xs. slice_get xs i) (sym same) ∙ there_at ns i lt) in
       (found.0, ap (λ xs. slice_get xs i) (sym seen) ∙ found.1)
 
   rising : RisesFrom 0 now
-  rising = subst (RisesFrom 0) seen (rises_view (content_in frames) 0 es tied.rising)
+  rising = subst (RisesFrom 0) seen (rises_view (frame_in frames) 0 es tied.rising)
 
   at_here : at block_here now ≡ Some content_here.0
   at_here = at_placed 0 i now (block_here, content_here.0) rising content_here.1
 
-  pub not_missing : (o : Option (List ℕ)) → o ≡ None → o ≡ at block_here now → ⊥
+  pub not_missing : (o : Option Framed) → o ≡ None → o ≡ at block_here now → ⊥
   not_missing o none is = let bad : None ≡ Some content_here.0 = sym none ∙ is ∙ at_here in cc
 
-  pub value_here : (c : List ℕ) → Some c ≡ at block_here now → slice_get now i ≡ Some (block_here, c)
+  pub value_here : (c : Framed) → Some c ≡ at block_here now → slice_get now i ≡ Some (block_here, c)
   value_here c is = content_here.1 ∙ ap (λ x. Some (block_here, x)) (some_same content_here.0 c (sym at_here ∙ sym is))
 
   pub rest_here : (new : List Frame) → new ≡ without block_here now → new ≡ take i now ++ drop (i + 1) now
@@ -265,22 +266,54 @@ module _ (frames : Slab Frame) (es ns : Index) (now : List Frame) (i : ℕ) (tie
 cut_at : (es : Index) (i : ℕ) → i < length es → drop i es ≡ slice_index_or es i (0, 0) ∷ drop (i + 1) es
 cut_at es i lt = grind (arith, common_steps)
 
-module _ (frames : Slab Frame) (es : Index) (i : ℕ) (copies new : List Frame) (lt : i < length es) (so_far : copies ++ busy_of frames (drop i es) ≡ busy_of frames es) where
+-- a first frame, if it is there, shows its committed content
+first_base : (k : ℕ) (o : Option Framed) (rest : List Frame)
+    → committed_of (cons_option (option_map (λ (w : Framed). (k, w)) o) rest) ≡ cons_option (option_map (λ (w : List ℕ). (k, w)) (option_map (λ (f : Framed). f.committed) o)) (committed_of rest)
+first_base k None rest = refl
+first_base k (Some f) rest = refl
+
+module _ (frames : Slab Frame) (es : Index) (i : ℕ) (copies new : List (ℕ × List ℕ)) (lt : i < length es) (so_far : copies ++ committed_of (busy_of frames (drop i es)) ≡ committed_of (busy_of frames es)) where
   abbrev this : ℕ × ℕ
   this = slice_index_or es i (0, 0)
 
-  pub copied : (c : List ℕ) → content_in frames this.1 ≡ Some c → new ≡ copies ++ (this.0, c) ∷ [] → new ++ busy_of frames (drop (i + 1) es) ≡ busy_of frames es
+  here : (o : Option (List ℕ)) → base_in frames this.1 ≡ o
+      → committed_of (busy_of frames (drop i es)) ≡ cons_option (option_map (λ (w : List ℕ). (this.0, w)) o) (committed_of (busy_of frames (drop (i + 1) es)))
+  here o there =
+      ap (λ xs. committed_of (busy_of frames xs)) (cut_at es i lt) ∙ first_base this.0 (frame_in frames this.1) (busy_of frames (drop (i + 1) es))
+      ∙ ap (λ x. cons_option (option_map (λ (w : List ℕ). (this.0, w)) x) (committed_of (busy_of frames (drop (i + 1) es)))) there
+
+  pub copied : (c : List ℕ) → base_in frames this.1 ≡ Some c → new ≡ copies ++ (this.0, c) ∷ [] → new ++ committed_of (busy_of frames (drop (i + 1) es)) ≡ committed_of (busy_of frames es)
   copied c there is =
-      ap (λ xs. xs ++ busy_of frames (drop (i + 1) es)) is ∙ append_assoc copies ((this.0, c) ∷ []) (busy_of frames (drop (i + 1) es))
-      ∙ ap (λ xs. copies ++ xs) (sym (ap (busy_of frames) (cut_at es i lt) ∙ shown frames this (drop (i + 1) es) c there)) ∙ so_far
+      let rest : List (ℕ × List ℕ) = committed_of (busy_of frames (drop (i + 1) es)) in
+      ap (λ xs. xs ++ rest) is ∙ append_assoc copies ((this.0, c) ∷ []) rest ∙ ap (λ xs. copies ++ xs) (sym (here (Some c) there)) ∙ so_far
 
-  pub skipped : content_in frames this.1 ≡ None → new ≡ copies → new ++ busy_of frames (drop (i + 1) es) ≡ busy_of frames es
+  pub skipped : base_in frames this.1 ≡ None → new ≡ copies → new ++ committed_of (busy_of frames (drop (i + 1) es)) ≡ committed_of (busy_of frames es)
   skipped none is =
-      ap (λ xs. xs ++ busy_of frames (drop (i + 1) es)) is
-      ∙ ap (λ xs. copies ++ xs) (sym (ap (busy_of frames) (cut_at es i lt) ∙ ap (λ o. cons_option (option_map (λ (w : List ℕ). (this.0, w)) o) (busy_of frames (drop (i + 1) es))) none)) ∙ so_far
+      let rest : List (ℕ × List ℕ) = committed_of (busy_of frames (drop (i + 1) es)) in
+      ap (λ xs. xs ++ rest) is ∙ ap (λ xs. copies ++ xs) (sym (here None none)) ∙ so_far
 
-pub copied_all : (frames : Slab Frame) (es : Index) (i : ℕ) (copies : List Frame) → length es ≤ i → copies ++ busy_of frames (drop i es) ≡ busy_of frames es → copies ≡ busy_of frames es
-copied_all frames es i copies past so_far = sym (append-nil copies) ∙ ap (λ xs. copies ++ busy_of frames xs) (sym (drop_all i es past)) ∙ so_far
+pub copied_all : (frames : Slab Frame) (es : Index) (i : ℕ) (copies : List (ℕ × List ℕ)) → length es ≤ i → copies ++ committed_of (busy_of frames (drop i es)) ≡ committed_of (busy_of frames es) → copies ≡ committed_of (busy_of frames es)
+copied_all frames es i copies past so_far = sym (append-nil copies) ∙ ap (λ xs. copies ++ committed_of (busy_of frames xs)) (sym (drop_all i es past)) ∙ so_far
+
+-- ---- one that is changed where it stands
+module _ (frames cleared next : Slab Frame) (es : Index) (now : List Frame) (b key : ℕ) (before : Frame) (frame : Framed) (tied : AreTied frames es) (seen : busy_of frames es ≡ now)
+    (there : at b es ≡ Some key) (was : get frames key ≡ Some before) (gone : Updates frames cleared key None) (brought : Updates cleared next key (Some (b, frame))) where
+  pub was_there : at b now ≡ Some before.1
+  was_there = sym (ap (at b) seen) ∙ sym (found_at frames es b (Some key) tied (sym there)) ∙ ap (option_map (λ (x : Frame). x.1)) was
+
+  pub changed : (new : Framed → Framed) → frame ≡ new before.1 → busy_of next es ≡ changed_in new b now
+  changed new is =
+      busy_exchanged frames cleared next es b key frame tied there gone brought ∙ ap (put b frame) seen ∙ ap (λ f. put b f now) is
+      ∙ sym (ap (λ o. changed_at new b o now) was_there)
+
+-- where there is none, nothing changes
+pub unchanged_none : (frames : Slab Frame) (es : Index) (now : List Frame) (b : ℕ) (new : Framed → Framed) → AreTied frames es → busy_of frames es ≡ now → None ≡ at b es → now ≡ changed_in new b now
+unchanged_none frames es now b new tied seen none = ap (λ o. changed_at new b o now) (found_at frames es b None tied none ∙ ap (at b) seen)
+
+-- a block with a frame is in the index
+pub missing : (frames : Slab Frame) (es : Index) (now : List Frame) (b : ℕ) → AreTied frames es → busy_of frames es ≡ now → is_in b now ≡ true → None ≡ at b es → ⊥
+missing frames es now b tied seen there none =
+    let out : false ≡ true = ap is_some none ∙ in_busy frames es b tied ∙ ap (is_in b) seen ∙ there in false≢true out
 
 -- ---- none left
 none_left : (slots : List (Option Frame)) → slots ≡ [] → count_by is_some slots ≡ 0
@@ -292,3 +325,8 @@ tied_cleared old new more room empty same is =
 
 pub busy_cleared : (frames : Slab Frame) (more : Index) → more ≡ [] → busy_of frames more ≡ []
 busy_cleared frames more is = ap (busy_of frames) is
+
+-- what follows from a fact of an Ok
+pub if_ok : {T E P Q : Type 0} → (r : Result T E) → (P → Q) → OnOk r P → OnOk r Q
+if_ok (Ok x) f p = f p
+if_ok (Err e) f p = tt

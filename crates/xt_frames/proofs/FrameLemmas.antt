@@ -6,22 +6,23 @@ use Rattle.std.proofs.lemmas.Bool.{cases_lt}
 use Rattle.xt_base.specs.Places.{spot}
 use Rattle.xt_base.proofs.PlaceLemmas.{found, missing}
 use Rattle.xt_base.specs.Maps.{at, is_in, put, without, with_member}
-use Rattle.xt_base.specs.State.{Frames}
-use Rattle.xt_frames.specs.Contents.{brought_in}
+use Rattle.xt_frames.specs.Contents.{Bufs, bufs_brought_in}
+use Rattle.xt_frames.specs.Kept.{Framed, clean_of}
 
-module _ (b : ℕ) (f g : Frames) (same : f ≡ g) where
+module _ (b : ℕ) (f g : Bufs) (same : f ≡ g) where
   -- with its idle content
-  pub brought_idle : (content : List ℕ) (committed idle : List (ℕ × List ℕ)) → Some content ≡ at b f.idle → committed ≡ put b content f.committed → idle ≡ without b f.idle
-      → record { committed = committed; fresh = f.fresh; idle = idle } ≡ brought_in b (at b g.idle) g
-  brought_idle content committed idle found contents rest =
-      let frames : List (ℕ × List ℕ) → List (ℕ × List ℕ) → Frames = λ c i. record { committed = c; fresh = f.fresh; idle = i } in
-      ap (λ c. frames c idle) contents ∙ ap (frames (put b content f.committed)) rest ∙ ap (λ o. brought_in b o f) found ∙ ap (λ (h : Frames). brought_in b (at b h.idle) h) same
+  pub brought_idle : (content : List ℕ) (frame : Framed) (frames : List (ℕ × Framed)) (idle : List (ℕ × List ℕ)) → Some content ≡ at b f.idle → frame ≡ clean_of content → frames ≡ put b frame f.frames → idle ≡ without b f.idle
+      → record { frames = frames; fresh = f.fresh; idle = idle } ≡ bufs_brought_in b (at b g.idle) g
+  brought_idle content frame frames idle found clean brought rest =
+      let bufs : List (ℕ × Framed) → List (ℕ × List ℕ) → Bufs = λ c i. record { frames = c; fresh = f.fresh; idle = i } in
+      ap (λ c. bufs c idle) (brought ∙ ap (λ x. put b x f.frames) clean) ∙ ap (bufs (put b (clean_of content) f.frames)) rest ∙ ap (λ o. bufs_brought_in b o f) found
+      ∙ ap (λ (h : Bufs). bufs_brought_in b (at b h.idle) h) same
 
   -- fresh
-  pub brought_fresh : (fresh : List ℕ) → None ≡ at b f.idle → fresh ≡ with_member b f.fresh → record { committed = f.committed; fresh = fresh; idle = f.idle } ≡ brought_in b (at b g.idle) g
+  pub brought_fresh : (fresh : List ℕ) → None ≡ at b f.idle → fresh ≡ with_member b f.fresh → record { frames = f.frames; fresh = fresh; idle = f.idle } ≡ bufs_brought_in b (at b g.idle) g
   brought_fresh fresh missing more =
-      let frames : List ℕ → Frames = λ x. record { committed = f.committed; fresh = x; idle = f.idle } in
-      ap frames more ∙ ap (λ o. brought_in b o f) missing ∙ ap (λ (h : Frames). brought_in b (at b h.idle) h) same
+      let bufs : List ℕ → Bufs = λ x. record { frames = f.frames; fresh = x; idle = f.idle } in
+      ap bufs more ∙ ap (λ o. bufs_brought_in b o f) missing ∙ ap (λ (h : Bufs). bufs_brought_in b (at b h.idle) h) same
 
 -- a key is there where its spot is within the entries
 lt_true : (a b : ℕ) → a < b → nat_lt a b ≡ true
@@ -38,8 +39,8 @@ spot_is_in k m p n is count =
     ]
 
 -- idle no more
-pub idle_left : (f g : Frames) → f ≡ g → (b : ℕ) (idle : List (ℕ × List ℕ)) → idle ≡ without b f.idle → record f { idle = idle } ≡ record g { idle = without b g.idle }
-idle_left f g same b idle is = ap (λ i. record f { idle = i }) is ∙ ap (λ (h : Frames). record h { idle = without b h.idle }) same
+pub idle_left : (f g : Bufs) → f ≡ g → (b : ℕ) (idle : List (ℕ × List ℕ)) → idle ≡ without b f.idle → record f { idle = idle } ≡ record g { idle = without b g.idle }
+idle_left f g same b idle is = ap (λ i. record f { idle = i }) is ∙ ap (λ (h : Bufs). record h { idle = without b h.idle }) same
 
-pub idle_stays : (f g : Frames) → f ≡ g → (b : ℕ) → f.idle ≡ without b f.idle → g ≡ record g { idle = without b g.idle }
+pub idle_stays : (f g : Bufs) → f ≡ g → (b : ℕ) → f.idle ≡ without b f.idle → g ≡ record g { idle = without b g.idle }
 idle_stays f g same b is = sym same ∙ idle_left f g same b f.idle is

@@ -5,7 +5,7 @@ use Rattle.std.proofs.lemmas.Bool.{cases_Bool, cases_eq, eq-eqb, ne_eqb}
 use Rattle.std.specs.List.{AllByRecursion, IsDistinct}
 use Rattle.std.specs.Map.{keys_of, lookup, lookup_entry, remove_entry}
 use Rattle.std.specs.Option.{option_map_or}
-use Rattle.std.specs.Prelude.{Err, IfNone, Ok, OnOk, Result, if◌then◌else◌, is_err, is_some, nat_eq, option_map, slice_get, ◌==◌}
+use Rattle.std.specs.Prelude.{Err, IfNone, Ok, OnOk, Result, if◌then◌else◌, is_err, is_some, nat_eq, option_map, slice_get}
 use Rattle.lru.specs.LruCache.{LruCache, demoted, last_entry, lru_cache, put_entries}
 use Rattle.xt_base.proofs.MapLemmas.{at_first, at_later, without_first, without_later}
 use Rattle.xt_base.proofs.ViewLemmas.{without_none}

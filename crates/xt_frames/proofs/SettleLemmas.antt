@@ -6,8 +6,10 @@ use Rattle.std.proofs.lemmas.Grind.{reverse_onto}
 use Rattle.std.proofs.Math.Seq.{take-nil}
 use Rattle.xt_base.specs.Settle.{rested}
 use Rattle.xt_base.proofs.RisingLemmas.{filter_pass, filter_drop}
-use Rattle.xt_base.specs.State.{Frames}
-use Rattle.xt_frames.specs.Settling.{content_block, contents_from, fresh_block, fresh_from, leaving_contents, rest_of}
+use Rattle.xt_frames.specs.Busy.{committed_of}
+use Rattle.xt_frames.specs.Contents.{Bufs}
+use Rattle.xt_frames.specs.Kept.{Framed}
+use Rattle.xt_frames.specs.Settling.{frame_block, frames_from, fresh_block, fresh_from, idle_entry, leaving_contents, rest_of}
 
 -- ---- places
 -- what stands at a place, and the list round it
@@ -105,65 +107,69 @@ fewer_without xs i lt = omega (arith, length-append (take i xs) (drop (i + 1) xs
 filter_past : {X : Type 0} (p : X → Bool) (xs : List X) (i : ℕ) → length xs ≤ i → take i xs ++ filter p (drop i xs) ≡ xs
 filter_past p xs i past = ap (λ ys. take i xs ++ filter p ys) (drop_past xs i past) ∙ append-nil (take i xs) ∙ take_past xs i past
 
--- ---- contents
--- the content whose block stands at a place
-entry_is : (xs : List (ℕ × List ℕ)) (i b : ℕ) (o : Option (ℕ × List ℕ)) → slice_get xs i ≡ o → option_map (λ (e : ℕ × List ℕ). e.0) o ≡ Some b → (e : ℕ × List ℕ) × (slice_get xs i ≡ Some e) × (e.0 ≡ b)
+-- ---- frames
+abbrev Frame : Type 0
+Frame = ℕ × Framed
+
+-- the frame whose block stands at a place
+entry_is : (xs : List Frame) (i b : ℕ) (o : Option Frame) → slice_get xs i ≡ o → option_map (λ (e : Frame). e.0) o ≡ Some b → (e : Frame) × (slice_get xs i ≡ Some e) × (e.0 ≡ b)
 entry_is xs i b None is block = absurd (cc)
 entry_is xs i b (Some e) is block = (e, is, cc)
 
--- no block, no content
-none_is : (o : Option (ℕ × List ℕ)) → option_map (λ (e : ℕ × List ℕ). e.0) o ≡ None → o ≡ None
+-- no block, no frame
+none_is : (o : Option Frame) → option_map (λ (e : Frame). e.0) o ≡ None → o ≡ None
 none_is None is = refl
 none_is (Some e) is = absurd (cc)
 
-module _ (index block : ℕ) (now : Frames) (here : content_block index now ≡ Some block) where
-  pub content_there : index < length now.committed
-  content_there =
-      let e = entry_is now.committed index block (slice_get now.committed index) refl here in
-      (place_is now.committed index (Some e.0) e.1).0
+module _ (index block : ℕ) (now : Bufs) (here : frame_block index now ≡ Some block) where
+  pub frame_there : index < length now.frames
+  frame_there =
+      let e = entry_is now.frames index block (slice_get now.frames index) refl here in
+      (place_is now.frames index (Some e.0) e.1).0
 
-  pub content_stays : (is_kept stays : Bool) → stays ≡ true → (busy : ℕ → Bool) → stays ≡ busy block → contents_from busy is_kept (index + 1) now ≡ contents_from busy is_kept index now
-  content_stays is_kept stays yes_stays busy same =
-      let e = entry_is now.committed index block (slice_get now.committed index) refl here in
-      let at = place_is now.committed index (Some e.0) e.1 in
+  pub frame_stays : (is_kept stays : Bool) → stays ≡ true → (busy : ℕ → Bool) → stays ≡ busy block → frames_from busy is_kept (index + 1) now ≡ frames_from busy is_kept index now
+  frame_stays is_kept stays yes_stays busy same =
+      let e = entry_is now.frames index block (slice_get now.frames index) refl here in
+      let at = place_is now.frames index (Some e.0) e.1 in
       let busy_here : busy e.0.0 ≡ true = ap busy e.2 ∙ sym same ∙ yes_stays in
-      ap (λ (c : List (ℕ × List ℕ)). record now { committed = c; idle = rest_of busy is_kept (drop (index + 1) now.committed) now.idle }) (filter_stays (λ x. busy x.0) now.committed index e.0 at.1 at.2 busy_here)
-      ∙ ap (λ (i : List (ℕ × List ℕ)). record now { committed = take index now.committed ++ filter (λ x. busy x.0) (drop index now.committed); idle = i })
-      (ap (λ n. rest_of busy is_kept (drop n now.committed) now.idle) (add-one index) ∙ rests_still busy is_kept e.0 (drop (suc index) now.committed) now.idle busy_here
-      ∙ ap (λ xs. rest_of busy is_kept xs now.idle) (sym at.1))
+      ap (λ (c : List Frame). record now { frames = c; idle = rest_of busy is_kept (committed_of (drop (index + 1) now.frames)) now.idle }) (filter_stays (λ x. busy x.0) now.frames index e.0 at.1 at.2 busy_here)
+      ∙ ap (λ (i : List (ℕ × List ℕ)). record now { frames = take index now.frames ++ filter (λ x. busy x.0) (drop index now.frames); idle = i })
+      (ap (λ n. rest_of busy is_kept (committed_of (drop n now.frames)) now.idle) (add-one index) ∙ rests_still busy is_kept (idle_entry e.0) (committed_of (drop (suc index) now.frames)) now.idle busy_here
+      ∙ ap (λ xs. rest_of busy is_kept (committed_of xs) now.idle) (sym at.1))
 
-  -- the frames without the content at the place
-  abbrev pub frames_without : Bool → ℕ × List ℕ → Frames
-  frames_without is_kept e = record now {
-    committed = take index now.committed ++ drop (index + 1) now.committed;
-    idle = if is_kept then take 64 (e ∷ now.idle) else now.idle;
+  -- what is left without the frame at the place
+  abbrev pub bufs_without : Bool → Frame → Bufs
+  bufs_without is_kept e = record now {
+    frames = take index now.frames ++ drop (index + 1) now.frames;
+    idle = if is_kept then take 64 (idle_entry e ∷ now.idle) else now.idle;
   }
 
-  new_is : (is_kept : Bool) (new : Frames) → IfSome (slice_get now.committed index) (λ e. new ≡ frames_without is_kept e) → (e : ℕ × List ℕ) → slice_get now.committed index ≡ Some e → new ≡ frames_without is_kept e
-  new_is is_kept new gone e is = subst (λ o. IfSome o (λ x. new ≡ frames_without is_kept x)) is gone
+  new_is : (is_kept : Bool) (new : Bufs) → IfSome (slice_get now.frames index) (λ e. new ≡ bufs_without is_kept e) → (e : Frame) → slice_get now.frames index ≡ Some e → new ≡ bufs_without is_kept e
+  new_is is_kept new gone e is = subst (λ o. IfSome o (λ x. new ≡ bufs_without is_kept x)) is gone
 
-  pub content_goes : (is_kept stays : Bool) (new : Frames) → IfSome (slice_get now.committed index) (λ e. new ≡ frames_without is_kept e) → stays ≡ false → (busy : ℕ → Bool) → stays ≡ busy block
-      → contents_from busy is_kept index new ≡ contents_from busy is_kept index now
-  content_goes is_kept stays new gone goes busy same =
-      let e = entry_is now.committed index block (slice_get now.committed index) refl here in
-      let at = place_is now.committed index (Some e.0) e.1 in
+  pub frame_goes : (is_kept stays : Bool) (new : Bufs) → IfSome (slice_get now.frames index) (λ e. new ≡ bufs_without is_kept e) → stays ≡ false → (busy : ℕ → Bool) → stays ≡ busy block
+      → frames_from busy is_kept index new ≡ frames_from busy is_kept index now
+  frame_goes is_kept stays new gone goes busy same =
+      let e = entry_is now.frames index block (slice_get now.frames index) refl here in
+      let at = place_is now.frames index (Some e.0) e.1 in
       let free : busy e.0.0 ≡ false = ap busy e.2 ∙ sym same ∙ goes in
-      let lt : index < length now.committed = at.0 in
-      let le : index ≤ length now.committed = omega (arith, lt) in
-      ap (contents_from busy is_kept index) (new_is is_kept new gone e.0 e.1)
-      ∙ ap (λ (c : List (ℕ × List ℕ)). record now { committed = c; idle = rest_of busy is_kept (drop index (take index now.committed ++ drop (index + 1) now.committed)) (if is_kept then take 64 (e.0 ∷ now.idle) else now.idle) })
-      (filter_goes (λ x. busy x.0) now.committed index e.0 le at.1 free)
-      ∙ ap (λ (i : List (ℕ × List ℕ)). record now { committed = take index now.committed ++ filter (λ x. busy x.0) (drop index now.committed); idle = i })
-      (ap (λ xs. rest_of busy is_kept xs (if is_kept then take 64 (e.0 ∷ now.idle) else now.idle)) (drop_without now.committed index (drop (index + 1) now.committed) le ∙ ap (λ n. drop n now.committed) (add-one index))
-      ∙ rests_on busy is_kept e.0 (drop (suc index) now.committed) now.idle free ∙ ap (λ xs. rest_of busy is_kept xs now.idle) (sym at.1))
+      let lt : index < length now.frames = at.0 in
+      let le : index ≤ length now.frames = omega (arith, lt) in
+      let more : List (ℕ × List ℕ) = if is_kept then take 64 (idle_entry e.0 ∷ now.idle) else now.idle in
+      ap (frames_from busy is_kept index) (new_is is_kept new gone e.0 e.1)
+      ∙ ap (λ (c : List Frame). record now { frames = c; idle = rest_of busy is_kept (committed_of (drop index (take index now.frames ++ drop (index + 1) now.frames))) more })
+      (filter_goes (λ x. busy x.0) now.frames index e.0 le at.1 free)
+      ∙ ap (λ (i : List (ℕ × List ℕ)). record now { frames = take index now.frames ++ filter (λ x. busy x.0) (drop index now.frames); idle = i })
+      (ap (λ xs. rest_of busy is_kept (committed_of xs) more) (drop_without now.frames index (drop (index + 1) now.frames) le ∙ ap (λ n. drop n now.frames) (add-one index))
+      ∙ rests_on busy is_kept (idle_entry e.0) (committed_of (drop (suc index) now.frames)) now.idle free ∙ ap (λ xs. rest_of busy is_kept (committed_of xs) now.idle) (sym at.1))
 
-  pub content_fewer : (is_kept : Bool) (new : Frames) → IfSome (slice_get now.committed index) (λ e. new ≡ frames_without is_kept e) → length new.committed - index < length now.committed - index
-  content_fewer is_kept new gone =
-      let e = entry_is now.committed index block (slice_get now.committed index) refl here in
-      subst (λ (f : Frames). length f.committed - index < length now.committed - index) (sym (new_is is_kept new gone e.0 e.1)) (fewer_without now.committed index content_there)
+  pub frame_fewer : (is_kept : Bool) (new : Bufs) → IfSome (slice_get now.frames index) (λ e. new ≡ bufs_without is_kept e) → length new.frames - index < length now.frames - index
+  frame_fewer is_kept new gone =
+      let e = entry_is now.frames index block (slice_get now.frames index) refl here in
+      subst (λ (f : Bufs). length f.frames - index < length now.frames - index) (sym (new_is is_kept new gone e.0 e.1)) (fewer_without now.frames index frame_there)
 
 -- ---- fresh marks
-module _ (index block : ℕ) (now : Frames) (here : fresh_block index now ≡ Some block) where
+module _ (index block : ℕ) (now : Bufs) (here : fresh_block index now ≡ Some block) where
   pub mark_there : index < length now.fresh
   mark_there = (place_is now.fresh index (Some block) here).0
 
@@ -172,7 +178,7 @@ module _ (index block : ℕ) (now : Frames) (here : fresh_block index now ≡ So
       let at = place_is now.fresh index (Some block) here in
       ap (λ (ks : List ℕ). record now { fresh = ks }) (filter_stays busy now.fresh index block at.1 at.2 (sym same ∙ yes_stays))
 
-  pub mark_goes : (stays : Bool) (new : Frames) → new ≡ record now { fresh = take index now.fresh ++ drop (index + 1) now.fresh } → stays ≡ false → (busy : ℕ → Bool) → stays ≡ busy block
+  pub mark_goes : (stays : Bool) (new : Bufs) → new ≡ record now { fresh = take index now.fresh ++ drop (index + 1) now.fresh } → stays ≡ false → (busy : ℕ → Bool) → stays ≡ busy block
       → fresh_from busy index new ≡ fresh_from busy index now
   mark_goes stays new gone goes busy same =
       let at = place_is now.fresh index (Some block) here in
@@ -180,22 +186,22 @@ module _ (index block : ℕ) (now : Frames) (here : fresh_block index now ≡ So
       let le : index ≤ length now.fresh = omega (arith, lt) in
       ap (fresh_from busy index) gone ∙ ap (λ (ks : List ℕ). record now { fresh = ks }) (filter_goes busy now.fresh index block le at.1 (sym same ∙ goes))
 
-  pub mark_fewer : (new : Frames) → new ≡ record now { fresh = take index now.fresh ++ drop (index + 1) now.fresh } → length new.fresh - index < length now.fresh - index
-  mark_fewer new gone = subst (λ (f : Frames). length f.fresh - index < length now.fresh - index) (sym gone) (fewer_without now.fresh index mark_there)
+  pub mark_fewer : (new : Bufs) → new ≡ record now { fresh = take index now.fresh ++ drop (index + 1) now.fresh } → length new.fresh - index < length now.fresh - index
+  mark_fewer new gone = subst (λ (f : Bufs). length f.fresh - index < length now.fresh - index) (sym gone) (fewer_without now.fresh index mark_there)
 
 -- ---- all of them
 -- nothing is left from these places on
-pub all_settled : (busy : ℕ → Bool) (is_kept : Bool) (content mark : ℕ) (now : Frames) → content_block content now ≡ None → fresh_block mark now ≡ None → length now.idle ≤ 64
-    → now ≡ fresh_from busy mark (contents_from busy is_kept content now)
-all_settled busy is_kept content mark now none unmarked short =
-    let past = past_of now.committed content (none_is (slice_get now.committed content) none) in
+pub all_settled : (busy : ℕ → Bool) (is_kept : Bool) (frame mark : ℕ) (now : Bufs) → frame_block frame now ≡ None → fresh_block mark now ≡ None → length now.idle ≤ 64
+    → now ≡ fresh_from busy mark (frames_from busy is_kept frame now)
+all_settled busy is_kept frame mark now none unmarked short =
+    let past = past_of now.frames frame (none_is (slice_get now.frames frame) none) in
     let beyond = past_of now.fresh mark unmarked in
-    ap (λ (c : List (ℕ × List ℕ)). record now { committed = c }) (sym (filter_past (λ e. busy e.0) now.committed content past))
-    ∙ ap (λ (ks : List ℕ). record now { committed = take content now.committed ++ filter (λ e. busy e.0) (drop content now.committed); fresh = ks }) (sym (filter_past busy now.fresh mark beyond))
-    ∙ ap (λ (i : List (ℕ × List ℕ)). record { committed = take content now.committed ++ filter (λ e. busy e.0) (drop content now.committed); fresh = take mark now.fresh ++ filter busy (drop mark now.fresh); idle = i })
-    (sym (ap (λ xs. rest_of busy is_kept xs now.idle) (drop_past now.committed content past) ∙ rests_none is_kept now.idle short))
+    ap (λ (c : List Frame). record now { frames = c }) (sym (filter_past (λ e. busy e.0) now.frames frame past))
+    ∙ ap (λ (ks : List ℕ). record now { frames = take frame now.frames ++ filter (λ e. busy e.0) (drop frame now.frames); fresh = ks }) (sym (filter_past busy now.fresh mark beyond))
+    ∙ ap (λ (i : List (ℕ × List ℕ)). record { frames = take frame now.frames ++ filter (λ e. busy e.0) (drop frame now.frames); fresh = take mark now.fresh ++ filter busy (drop mark now.fresh); idle = i })
+    (sym (ap (λ xs. rest_of busy is_kept (committed_of xs) now.idle) (drop_past now.frames frame past) ∙ rests_none is_kept now.idle short))
 
-pub all_saved : (saved : ℕ → Bool) (content : ℕ) (now : Frames) → content_block content now ≡ None → now ≡ contents_from saved false content now
-all_saved saved content now none =
-    let past = past_of now.committed content (none_is (slice_get now.committed content) none) in
-    ap (λ (c : List (ℕ × List ℕ)). record now { committed = c }) (sym (filter_past (λ e. saved e.0) now.committed content past))
+pub all_saved : (saved : ℕ → Bool) (frame : ℕ) (now : Bufs) → frame_block frame now ≡ None → now ≡ frames_from saved false frame now
+all_saved saved frame now none =
+    let past = past_of now.frames frame (none_is (slice_get now.frames frame) none) in
+    ap (λ (c : List Frame). record now { frames = c }) (sym (filter_past (λ e. saved e.0) now.frames frame past))

@@ -1,7 +1,7 @@
 -- Shares at the places of their slots.
-use Rattle.std.proofs.Common.{◌≡◌, ◌≢◌, ◌∙◌, ◌+◌, ◌<◌, ◌≤◌, ◌++◌, ◌∷◌, IfSome, List, None, Option, Some, [], add-one, ap, arith, inl, inr, length, refl, subst, suc, sym, zero, ℕ}
+use Rattle.std.proofs.Common.{◌≡◌, ◌≢◌, ◌∙◌, ◌+◌, ◌<◌, ◌≤◌, ◌++◌, ◌∷◌, IfSome, List, None, Option, Some, [], ap, arith, inl, inr, length, refl, subst, suc, sym, zero, ℕ}
 use Rattle.std.proofs.lemmas.Bool.{cases_eq, cases_lt}
-use Rattle.std.specs.Prelude.{slice_index_or, slice_set}
+use Rattle.std.specs.Prelude.{slice_set}
 use Rattle.xt_frames.specs.Shares.{AreOwn, AreThere, no_contents, share_at}
 use Rattle.xt_frames.specs.declared.share.FrameShare.{FrameShare}
 

@@ -1,5 +1,5 @@
 -- The idle list: contents under so many names, which are put in once, so that none is ever looked for in vain.
-use Rattle.std.specs.Prelude.{Bool, List, None, Option, Some, [], filter_map, if◌then◌else◌, length, suc, zero, ℕ, ◌==◌, ◌∷◌, ◌≡◌}
+use Rattle.std.specs.Prelude.{List, None, Option, Some, [], filter_map, if◌then◌else◌, length, suc, zero, ℕ, ◌==◌, ◌∷◌, ◌≡◌}
 use Rattle.lru.specs.LruCache.{LruCache}
 use Rattle.xt_base.specs.Sound.{Each}
 use Rattle.xt_base.specs.declared.sizes.TheConstants.{IDLE_BLOCKS}

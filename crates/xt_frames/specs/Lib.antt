@@ -4,3 +4,4 @@ pub mod Settling
 pub mod Busy
 pub mod Idle
 pub mod Shares
+pub mod Kept

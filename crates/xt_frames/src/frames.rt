@@ -1,58 +1,55 @@
-//! Contents: the committed ones of busy blocks, fresh marks, and the idle list.
+//! Contents: those of busy blocks in frames, fresh marks, and the idle list.
 
-ghost use Rattle.std.specs.Prelude.{ℕ, Bool, ◌≡◌, ◌+◌, ◌-◌, Some, None, ◌<◌, ◌≤◌, ◌++◌, ◌∷◌, [], length, take, drop, slice_get, IfErr, IfOk, IfSome, option_copied, if◌then◌else◌, ◌⊎◌, ◌&&◌, nat_lt, not};
+ghost use Rattle.std.specs.Prelude.{ℕ, Bool, ◌≡◌, ◌+◌, ◌-◌, Some, None, ◌<◌, ◌≤◌, ◌++◌, ◌∷◌, [], length, take, drop, slice_get, false, true, IfErr, IfOk, IfSome, OnErr, OnOk, option_copied, if◌then◌else◌, ◌⊎◌, ◌&&◌, nat_lt, not};
 ghost use Rattle.xt_base.specs.Maps.{at, has, is_in, put, with_member, without, without_member};
-ghost use Rattle.xt_frames.specs.Contents.{no_frames, brought_in};
-ghost use Rattle.xt_frames.specs.Shares.{no_contents};
 ghost use Rattle.xt_base.specs.Sound.{IsRising};
-ghost use Rattle.xt_frames.specs.Settling.{AreOthersBusy, content_block, contents_from, fresh_block, fresh_from, is_other, saved_by, settled_by};
+ghost use Rattle.xt_frames.specs.Busy.{changed_in, committed_of};
+ghost use Rattle.xt_frames.specs.Contents.{bufs_brought_in, contents_of, no_bufs};
+ghost use Rattle.xt_frames.specs.Kept.{clean_of, committed_now, logged, undone};
+ghost use Rattle.xt_frames.specs.Settling.{AreOthersBusy, bufs_saved_by, bufs_settled_by, frame_block, frames_from, fresh_block, fresh_from, idle_entry, is_other};
+ghost use Rattle.xt_frames.specs.Shares.{no_contents};
 
+use crate::buf::Buf;
 use crate::busy::BusyFrames;
 use crate::fresh::FreshBlocks;
 use crate::idle::IdleList;
 use crate::share::FrameShare;
 use std::alloc::{AllocError, Global};
 use std::marker::Model;
-use xt_base::content::Content;
+use xt_base::content::{Content, Data};
+use xt_base::form::Form;
 use xt_base::names::Slot;
-use xt_base::sizes::{IDLE_BLOCKS, ROOM};
+use xt_base::sizes::{BLOCK_BYTES, IDLE_BLOCKS, ROOM};
 
-/// The contents that a mount keeps: committed ones of busy blocks, which blocks are fresh, and the
-/// contents of idle blocks, the most recent first.
+/// The contents that a mount keeps: frames of busy blocks, each with its bytes as the leg that changes it has them and with its
+/// committed content; which blocks are fresh; and the contents of idle blocks, the most recent first.
 #[derive(Debug, Drop)]
 pub struct Frames {
     busy: BusyFrames,
     fresh: FreshBlocks,
     idle: IdleList,
-    /// A content that was replaced, for a later copy.
-    spare: Option<Content>,
 }
 
 impl Model for Frames {
-    ghost use Rattle.xt_base.specs.State.{Frames as FramesValue};
+    ghost use Rattle.xt_frames.specs.Contents.{Bufs};
 
-    ghost Value = { FramesValue };
+    ghost Value = { Bufs };
 
-    ghost view = { λ f. record { committed = f.busy; fresh = f.fresh; idle = f.idle } };
+    ghost view = { λ f. record { frames = f.busy; fresh = f.fresh; idle = f.idle } };
 }
 
 impl Frames {
     /// No content at all, in a share that has none. Where memory is refused for the fresh marks, the share is handed back.
     pub fn over(alloc: Global, share: FrameShare) -> Result<Self, FrameShare>
         requires { share ≡ no_contents share.slot }
-        ensures ok { IfOk result (λ frames. frames ≡ no_frames) }
+        ensures ok { IfOk result (λ frames. frames ≡ no_bufs) }
         ensures back { IfErr result (λ back. back ≡ share) }
     {
         let Ok(fresh) = FreshBlocks::new(alloc) else {
             return Err(share);
         };
         let FrameShare { busy, idle, .. } = share;
-        Ok(Frames {
-            busy,
-            fresh,
-            idle,
-            spare: None,
-        })
+        Ok(Frames { busy, fresh, idle })
     }
 
     /// The frames go back into a share of their slot: what one life kept is no part of the next. It takes no memory.
@@ -83,23 +80,30 @@ impl Frames {
         self.idle.contains(block)
     }
 
-    /// Whether there is no room for one more content, or for one more fresh mark.
+    /// Whether there is no room for one more frame, or for one more fresh mark.
     pub fn is_full(&self) -> bool
-        ensures { result ≡ not (nat_lt (length self.now.committed) ROOM && nat_lt (length self.now.fresh) ROOM) }
+        ensures { result ≡ not (nat_lt (length self.now.frames) ROOM && nat_lt (length self.now.fresh) ROOM) }
     {
         !(self.busy.len() < ROOM && self.fresh.len() < ROOM)
     }
 
-    /// The committed content of a block.
-    pub fn content(&self, block: u64) -> Option<&Content>
-        ensures { option_copied result ≡ at block self.now.committed }
+    /// The blocks of the frames rise: for a proof, at run time nothing.
+    pub fn frames_rise(&self)
+        ensures { IsRising self.now.frames }
+    {
+        self.busy.blocks_rise();
+    }
+
+    /// The frame of a block.
+    pub fn frame(&self, block: u64) -> Option<&Buf>
+        ensures { option_copied result ≡ at block self.now.frames }
     {
         self.busy.get(block)
     }
 
     /// The committed contents in a list of their own, by rising block. The one error is want of memory.
     pub fn committed(&self, alloc: Global) -> Result<Vec<(u64, Content)>, AllocError>
-        ensures { IfOk result (λ contents. contents.items ≡ self.now.committed) }
+        ensures { IfOk result (λ contents. contents.items ≡ committed_of self.now.frames) }
     {
         self.busy.copies(alloc)
     }
@@ -120,13 +124,13 @@ impl Frames {
 
     /// A block becomes busy: with its idle content, or fresh. It takes no memory.
     pub fn bring(&mut self, block: u64)
-        requires committed { length self.old.committed < ROOM }
+        requires frames { length self.old.frames < ROOM }
         requires fresh { length self.old.fresh < ROOM }
-        ensures { self.new ≡ brought_in block (at block self.old.idle) self.old }
+        ensures { self.new ≡ bufs_brought_in block (at block self.old.idle) self.old }
     {
         match self.idle.take(block) {
             Some(content) => {
-                let _before = self.busy.exchange(block, content);
+                let _before = self.busy.exchange(block, Buf::clean(content));
             }
             None => self.fresh.insert(block),
         }
@@ -134,11 +138,11 @@ impl Frames {
 
     /// A block becomes busy, with this content. It takes no memory.
     pub fn bring_content(&mut self, block: u64, content: Content)
-        requires { length self.old.committed < ROOM }
-        ensures { self.new ≡ record self.old { committed = put block content self.old.committed; idle = without block self.old.idle } }
+        requires { length self.old.frames < ROOM }
+        ensures { self.new ≡ record self.old { frames = put block (clean_of content) self.old.frames; idle = without block self.old.idle } }
     {
         self.leave_idle(block);
-        let _before = self.busy.exchange(block, content);
+        let _before = self.busy.exchange(block, Buf::clean(content));
     }
 
     /// A block is idle no more.
@@ -148,11 +152,53 @@ impl Frames {
         let _content = self.idle.take(block);
     }
 
-    /// A committed content goes. It takes no memory.
-    pub fn uncommit(&mut self, block: u64)
-        ensures { self.new ≡ record self.old { committed = without block self.old.committed } }
+    /// A leg writes bytes of a block that has a frame, in place. The one error is want of memory for the first chunk that is kept of
+    /// it, and then nothing changes.
+    pub fn log(
+        &mut self,
+        alloc: Global,
+        form: Form,
+        block: u64,
+        first: u32,
+        bytes: &Data,
+    ) -> Result<(), AllocError>
+        requires there { is_in block self.old.frames ≡ true }
+        requires within { first + length bytes.now ≤ BLOCK_BYTES }
+        requires some { 0 < length bytes.now }
+        ensures ok { OnOk result (self.new ≡ record self.old { frames = changed_in (logged first bytes.now) block self.old.frames }) }
+        ensures err { OnErr result (self.new ≡ self.old) }
     {
-        let _content = self.take_content(block);
+        self.busy.log(alloc, form, block, first, bytes)
+    }
+
+    /// What a leg changed of a block in place is put back, if it has a frame. It takes no memory.
+    pub fn undo(&mut self, block: u64)
+        ensures { self.new ≡ record self.old { frames = changed_in undone block self.old.frames } }
+    {
+        self.busy.undo(block);
+    }
+
+    /// What a leg changed of a block in place is committed. It takes no memory.
+    pub fn keep(&mut self, block: u64)
+        requires { is_in block self.old.frames ≡ true }
+        ensures { self.new ≡ record self.old { frames = changed_in committed_now block self.old.frames } }
+    {
+        self.busy.commit(block);
+    }
+
+    /// A content of a leg's own is committed. It takes no memory.
+    pub fn commit(&mut self, block: u64, content: Content)
+        requires { is_in block self.old.frames ≡ false → length self.old.frames < ROOM }
+        ensures { self.new ≡ record self.old { frames = put block (clean_of content) self.old.frames } }
+    {
+        let _before = self.busy.exchange(block, Buf::clean(content));
+    }
+
+    /// The frame of a block goes. It takes no memory.
+    pub fn uncommit(&mut self, block: u64)
+        ensures { self.new ≡ record self.old { frames = without block self.old.frames } }
+    {
+        let _frame = self.take_frame(block);
     }
 
     /// A block is fresh. It takes no memory.
@@ -163,21 +209,6 @@ impl Frames {
         self.fresh.insert(block);
     }
 
-    /// A content is committed. It takes no memory.
-    pub fn commit(&mut self, block: u64, content: Content)
-        requires { length self.old.committed < ROOM }
-        ensures { self.new ≡ record self.old { committed = put block content self.old.committed } }
-    {
-        self.spare = self.busy.exchange(block, content);
-    }
-
-    /// A content that was replaced and that nobody needs any more, if there is one: a copy may take its place.
-    pub fn take_spare(&mut self) -> Option<Content>
-        ensures { self.new ≡ self.old }
-    {
-        self.spare.take()
-    }
-
     /// A block is fresh no more.
     pub fn leave_fresh(&mut self, block: u64)
         ensures { self.new ≡ record self.old { fresh = without_member block self.old.fresh } }
@@ -185,31 +216,31 @@ impl Frames {
         self.fresh.remove(block);
     }
 
-    /// Contents and fresh marks of blocks that are not busy go. Where contents are kept, they go to the front of the idle
-    /// list, ascending by block, which is cut at 64. `is_busy` is asked of the blocks in rising order, up to the first content
+    /// Frames and fresh marks of blocks that are not busy go. Where contents are kept, the committed ones go to the front of the
+    /// idle list, ascending by block, which is cut at 64. `is_busy` is asked of the blocks in rising order, up to the first frame
     /// that goes and then from there on, with each fresh block; what it is lent is its own, for where it looked last. It
     /// takes no memory.
     pub fn settle<F: Fn(&mut usize, u64) -> bool>(&mut self, is_kept: bool, is_busy: F)
         requires { F.IsAlwaysCallable is_busy }
-        ensures { (busy : ℕ → Bool) → ((near : _) → (b : ℕ) → (r : Bool) → (after : _) → F.post is_busy near b r after → r ≡ busy b) → self.new ≡ settled_by busy is_kept self.old }
+        ensures { (busy : ℕ → Bool) → ((near : _) → (b : ℕ) → (r : Bool) → (after : _) → F.post is_busy near b r after → r ≡ busy b) → self.new ≡ bufs_settled_by busy is_kept self.old }
     {
         let mut near = 0;
-        let mut content = self.first_leaving(&mut near, &is_busy);
+        let mut frame = self.first_leaving(&mut near, &is_busy);
         let mut mark = 0;
-        while let Some(block) = self.next_block(content, mark) {
+        while let Some(block) = self.next_block(frame, mark) {
             let stays = is_busy(&mut near, block);
-            content = self.settle_content(content, block, stays, is_kept);
+            frame = self.settle_frame(frame, block, stays, is_kept);
             mark = self.settle_mark(mark, block, stays);
         }
     }
 
     /// What `settle` does where each block is busy but perhaps one: whether that one stays is said. It takes no memory.
     pub fn settle_block(&mut self, block: u64, stays: bool, is_kept: bool)
-        requires { IsRising self.old.committed }
-        ensures { (busy : ℕ → Bool) → stays ≡ busy block → AreOthersBusy busy block self.old → self.new ≡ settled_by busy is_kept self.old }
+        ensures { (busy : ℕ → Bool) → stays ≡ busy block → AreOthersBusy busy block (contents_of self.old) → self.new ≡ bufs_settled_by busy is_kept self.old }
     {
         self.is_short();
         if !stays {
+            self.frames_rise();
             self.leave(block, is_kept);
         }
     }
@@ -221,24 +252,24 @@ impl Frames {
         self.idle.is_short();
     }
 
-    /// The content and the fresh mark of one block go; where the content is kept, to the front of the idle list.
+    /// The frame and the fresh mark of one block go; where contents are kept, the committed one to the front of the idle list.
     fn leave(&mut self, block: u64, is_kept: bool)
-        requires { IsRising self.old.committed }
-        ensures { self.new ≡ settled_by (is_other block) is_kept self.old }
+        requires { IsRising self.old.frames }
+        ensures { self.new ≡ bufs_settled_by (is_other block) is_kept self.old }
     {
         self.leave_fresh(block);
-        let Some(content) = self.take_content(block) else {
+        let Some(frame) = self.take_frame(block) else {
             return;
         };
         if is_kept {
-            self.keep_idle(block, content);
+            self.keep_idle(block, frame.into_committed());
         }
     }
 
-    /// A committed content goes: what it was, if there was one.
-    fn take_content(&mut self, block: u64) -> Option<Content>
-        ensures value { result ≡ at block self.old.committed }
-        ensures rest { self.new ≡ record self.old { committed = without block self.old.committed } }
+    /// A frame goes: what it was, if there was one.
+    fn take_frame(&mut self, block: u64) -> Option<Buf>
+        ensures value { result ≡ at block self.old.frames }
+        ensures rest { self.new ≡ record self.old { frames = without block self.old.frames } }
         ensures idle { length self.new.idle ≤ IDLE_BLOCKS }
     {
         self.idle.is_short();
@@ -252,13 +283,13 @@ impl Frames {
         self.idle.put(block, content);
     }
 
-    /// The place of the first content whose block is not busy, or how many contents there are: those before it stay.
+    /// The place of the first frame whose block is not busy, or how many frames there are: those before it stay.
     fn first_leaving<F: Fn(&mut usize, u64) -> bool>(&self, near: &mut usize, is_busy: &F) -> usize
         requires { F.IsAlwaysCallable is_busy.now }
-        ensures { (busy : ℕ → Bool) → ((near : _) → (b : ℕ) → (r : Bool) → (after : _) → F.post is_busy.now near b r after → r ≡ busy b) → (is_kept : Bool) → contents_from busy is_kept result self.now ≡ contents_from busy is_kept 0 self.now }
+        ensures { (busy : ℕ → Bool) → ((near : _) → (b : ℕ) → (r : Bool) → (after : _) → F.post is_busy.now near b r after → r ≡ busy b) → (is_kept : Bool) → frames_from busy is_kept result self.now ≡ frames_from busy is_kept 0 self.now }
     {
         let mut index = 0;
-        while let Some(block) = self.content_block(index) {
+        while let Some(block) = self.frame_block(index) {
             if !is_busy(near, block) {
                 return index;
             }
@@ -267,31 +298,31 @@ impl Frames {
         index
     }
 
-    /// Committed contents of blocks that are not saved go. It takes no memory.
+    /// Frames of blocks that are not saved go. It takes no memory.
     pub fn forget<F: Fn(u64) -> bool>(&mut self, is_saved: F)
         requires { F.IsAlwaysCallable is_saved }
-        ensures { (saved : ℕ → Bool) → ((b : ℕ) → (r : Bool) → F.post is_saved b r → r ≡ saved b) → self.new ≡ saved_by saved self.old }
+        ensures { (saved : ℕ → Bool) → ((b : ℕ) → (r : Bool) → F.post is_saved b r → r ≡ saved b) → self.new ≡ bufs_saved_by saved self.old }
     {
-        let mut content = 0;
-        while let Some(block) = self.content_block(content) {
+        let mut frame = 0;
+        while let Some(block) = self.frame_block(frame) {
             let stays = is_saved(block);
-            content = self.settle_content(content, block, stays, false);
+            frame = self.settle_frame(frame, block, stays, false);
         }
     }
 
-    /// The lesser of the blocks at a place of the committed contents and at one of the fresh marks.
-    fn next_block(&self, content: usize, mark: usize) -> Option<u64>
-        ensures contents { result ≡ None → content_block content self.now ≡ None }
+    /// The lesser of the blocks at a place of the frames and at one of the fresh marks.
+    fn next_block(&self, frame: usize, mark: usize) -> Option<u64>
+        ensures frames { result ≡ None → frame_block frame self.now ≡ None }
         ensures marks { result ≡ None → fresh_block mark self.now ≡ None }
-        ensures block { IfSome result (λ block. (content_block content self.now ≡ Some block) ⊎ (fresh_block mark self.now ≡ Some block)) }
+        ensures block { IfSome result (λ block. (frame_block frame self.now ≡ Some block) ⊎ (fresh_block mark self.now ≡ Some block)) }
         ensures idle { length self.now.idle ≤ IDLE_BLOCKS }
     {
-        lesser(self.content_block(content), self.fresh_block(mark))
+        lesser(self.frame_block(frame), self.fresh_block(mark))
     }
 
-    /// The block of the committed content at a place.
-    fn content_block(&self, index: usize) -> Option<u64>
-        ensures block { result ≡ content_block index self.now }
+    /// The block of the frame at a place.
+    fn frame_block(&self, index: usize) -> Option<u64>
+        ensures block { result ≡ frame_block index self.now }
         ensures small { IfSome result (λ _. index < ROOM) }
         ensures idle { length self.now.idle ≤ IDLE_BLOCKS }
     {
@@ -311,14 +342,14 @@ impl Frames {
         }
     }
 
-    /// The committed content at a place stays or goes, where it is of this block. The place of the next one.
-    fn settle_content(&mut self, index: usize, block: u64, stays: bool, is_kept: bool) -> usize
-        ensures contents { (busy : ℕ → Bool) → stays ≡ busy block → contents_from busy is_kept result self.new ≡ contents_from busy is_kept index self.old }
+    /// The frame at a place stays or goes, where it is of this block. The place of the next one.
+    fn settle_frame(&mut self, index: usize, block: u64, stays: bool, is_kept: bool) -> usize
+        ensures frames { (busy : ℕ → Bool) → stays ≡ busy block → frames_from busy is_kept result self.new ≡ frames_from busy is_kept index self.old }
         ensures fresh { self.new.fresh ≡ self.old.fresh }
-        ensures left { length self.new.committed - result ≤ length self.old.committed - index }
-        ensures fewer { content_block index self.old ≡ Some block → length self.new.committed - result < length self.old.committed - index }
+        ensures left { length self.new.frames - result ≤ length self.old.frames - index }
+        ensures fewer { frame_block index self.old ≡ Some block → length self.new.frames - result < length self.old.frames - index }
     {
-        if self.content_block(index) != Some(block) {
+        if self.frame_block(index) != Some(block) {
             return index;
         }
         if stays {
@@ -331,7 +362,7 @@ impl Frames {
     /// The fresh mark at a place stays or goes, where it is of this block. The place of the next one.
     fn settle_mark(&mut self, index: usize, block: u64, stays: bool) -> usize
         ensures marks { (busy : ℕ → Bool) → stays ≡ busy block → fresh_from busy result self.new ≡ fresh_from busy index self.old }
-        ensures contents { self.new.committed ≡ self.old.committed }
+        ensures frames { self.new.frames ≡ self.old.frames }
         ensures left { length self.new.fresh - result ≤ length self.old.fresh - index }
         ensures fewer { fresh_block index self.old ≡ Some block → length self.new.fresh - result < length self.old.fresh - index }
     {
@@ -345,17 +376,17 @@ impl Frames {
         index
     }
 
-    /// The committed content at a place goes; where it is to be kept, to the front of the idle list, which is cut at 64.
+    /// The frame at a place goes; where contents are kept, the committed one to the front of the idle list, which is cut at 64.
     fn settle_at(&mut self, index: usize, is_kept: bool)
-        requires { index < length self.old.committed }
-        ensures { IfSome (slice_get self.old.committed index) (λ e. self.new ≡ record self.old {
-          committed = take index self.old.committed ++ drop (index + 1) self.old.committed;
-          idle = if is_kept then take IDLE_BLOCKS (e ∷ self.old.idle) else self.old.idle;
+        requires { index < length self.old.frames }
+        ensures { IfSome (slice_get self.old.frames index) (λ e. self.new ≡ record self.old {
+          frames = take index self.old.frames ++ drop (index + 1) self.old.frames;
+          idle = if is_kept then take IDLE_BLOCKS (idle_entry e ∷ self.old.idle) else self.old.idle;
         }) }
     {
-        let (block, content) = self.busy.remove_at(index);
+        let (block, frame) = self.busy.remove_at(index);
         if is_kept {
-            self.idle.put(block, content);
+            self.idle.put(block, frame.into_committed());
         }
     }
 

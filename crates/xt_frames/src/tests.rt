@@ -1,11 +1,13 @@
 //! The contents on small lists worked out by hand.
 
+ghost use Rattle.std.specs.Prelude.{◌≡◌, length, IfOk};
+
 use crate::frames::Frames;
 use crate::share::FrameShare;
 use crate::table::FrameTable;
 use std::alloc::{AllocError, Global};
 use std::test::Fail;
-use xt_base::content::Content;
+use xt_base::content::{Content, Data};
 use xt_base::form::Form;
 use xt_base::names::Slot;
 
@@ -41,9 +43,9 @@ fn with_one(alloc: Global, block: u64, first: u8) -> Result<Frames, AllocError> 
 
 /// The content of a block goes, and its fresh mark; whether it had a content.
 fn settle(frames: &mut Frames, block: u64, is_kept: bool) -> bool {
-    let had = frames.content(block).is_some();
+    let had = frames.frame(block).is_some();
     frames.settle(is_kept, |_near, other| other != block);
-    had && frames.content(block).is_none()
+    had && frames.frame(block).is_none()
 }
 
 /// A block is brought in, where there is room.
@@ -53,10 +55,10 @@ fn bring(frames: &mut Frames, block: u64) {
     }
 }
 
-/// Whether the committed content of a block begins with this byte.
+/// Whether the bytes of a block, as a leg has them, begin with this byte.
 fn begins(frames: &Frames, block: u64, first: u8) -> bool {
-    match frames.content(block) {
-        Some(content) => content.bytes()[0] == first,
+    match frames.frame(block) {
+        Some(frame) => frame.content().bytes()[0] == first,
         None => false,
     }
 }
@@ -78,12 +80,37 @@ fn rest(alloc: Global, frames: &mut Frames, block: u64) -> Result<bool, AllocErr
     Ok(settle(frames, block, true))
 }
 
+/// Data of one byte.
+fn one_byte(alloc: Global, byte: u8) -> Result<Data, AllocError>
+    ensures { IfOk result (λ bytes. length bytes ≡ 1) }
+{
+    let found = Data::of_repeated(alloc, byte, 1)?;
+    found.ok_or(AllocError)
+}
+
+/// A leg writes the first byte of a block in place, if the block has a frame; whether it has.
+fn log(alloc: Global, frames: &mut Frames, block: u64, first: u8) -> Result<bool, AllocError> {
+    if frames.frame(block).is_none() {
+        return Ok(false);
+    }
+    let bytes = one_byte(alloc, first)?;
+    frames.log(alloc, Form::one(), block, 0, &bytes)?;
+    Ok(true)
+}
+
+/// What a leg changed of a block in place is committed, if the block has a frame.
+fn keep(frames: &mut Frames, block: u64) {
+    if frames.frame(block).is_some() {
+        frames.keep(block);
+    }
+}
+
 /// A content that is kept is idle, and comes back with its block.
 #[test]
 fn idle_content_comes_back(rt: HostRuntime) -> Result<(), AllocError> {
     let mut frames = with_one(rt.alloc(), 7, 0x11)?;
     assert!(rt; settle(&mut frames, 7, true));
-    assert!(rt; frames.is_idle(7) && frames.content(7).is_none());
+    assert!(rt; frames.is_idle(7) && frames.frame(7).is_none());
     bring(&mut frames, 7);
     assert!(rt; begins(&frames, 7, 0x11));
     assert!(rt; !frames.is_idle(7) && !frames.is_fresh(7));
@@ -97,7 +124,7 @@ fn other_content_is_gone(rt: HostRuntime) -> Result<(), AllocError> {
     assert!(rt; settle(&mut frames, 7, false));
     assert!(rt; !frames.is_idle(7));
     bring(&mut frames, 7);
-    assert!(rt; frames.is_fresh(7) && frames.content(7).is_none());
+    assert!(rt; frames.is_fresh(7) && frames.frame(7).is_none());
     Ok(())
 }
 
@@ -107,7 +134,7 @@ fn another_content_is_brought(rt: HostRuntime) -> Result<(), AllocError> {
     let mut frames = with_one(rt.alloc(), 7, 0x11)?;
     let content = content_of(rt.alloc(), 0x33)?;
     let _is_idle = settle(&mut frames, 7, true);
-    assert!(rt; frames.content(7).is_none());
+    assert!(rt; frames.frame(7).is_none());
     if !frames.is_full() {
         frames.bring_content(7, content);
     }
@@ -122,10 +149,10 @@ fn contents_go_one_by_one(rt: HostRuntime) -> Result<(), AllocError> {
     commit(rt.alloc(), &mut frames, 7, 0x33)?;
     commit(rt.alloc(), &mut frames, 5, 0x22)?;
     frames.uncommit(7);
-    assert!(rt; frames.content(7).is_none() && begins(&frames, 5, 0x22));
+    assert!(rt; frames.frame(7).is_none() && begins(&frames, 5, 0x22));
     assert!(rt; settle(&mut frames, 5, false) && begins(&frames, 9, 0x11));
     frames.forget(|block| block != 9);
-    assert!(rt; frames.content(9).is_none() && !frames.is_idle(9));
+    assert!(rt; frames.frame(9).is_none() && !frames.is_idle(9));
     Ok(())
 }
 
@@ -159,6 +186,42 @@ fn fresh_blocks_come_and_go(rt: HostRuntime) -> Result<(), AllocError> {
     frames.leave_fresh(6);
     assert!(rt; frames.is_fresh(9) && !frames.is_fresh(4) && !frames.is_fresh(6));
     assert!(rt; !frames.is_idle(4));
+    Ok(())
+}
+
+/// Of a chunk that a leg wrote twice, an undo gives the bytes back that were there before the first.
+#[test]
+fn an_undo_gives_the_first_bytes_back(rt: HostRuntime) -> Result<(), AllocError> {
+    let mut frames = with_one(rt.alloc(), 7, 0x11)?;
+    assert!(rt; log(rt.alloc(), &mut frames, 7, 0x22)? && begins(&frames, 7, 0x22));
+    assert!(rt; log(rt.alloc(), &mut frames, 7, 0x33)? && begins(&frames, 7, 0x33));
+    frames.undo(7);
+    assert!(rt; begins(&frames, 7, 0x11));
+    Ok(())
+}
+
+/// What was committed in place, an undo leaves, and one of a later leg gives it back.
+#[test]
+fn an_undo_after_a_commit_changes_nothing(rt: HostRuntime) -> Result<(), AllocError> {
+    let mut frames = with_one(rt.alloc(), 7, 0x11)?;
+    assert!(rt; log(rt.alloc(), &mut frames, 7, 0x22)?);
+    keep(&mut frames, 7);
+    frames.undo(7);
+    assert!(rt; begins(&frames, 7, 0x22));
+    assert!(rt; log(rt.alloc(), &mut frames, 7, 0x33)?);
+    frames.undo(7);
+    assert!(rt; begins(&frames, 7, 0x22));
+    Ok(())
+}
+
+/// A block that was changed in place rests with its committed content.
+#[test]
+fn committed_bytes_are_idle(rt: HostRuntime) -> Result<(), AllocError> {
+    let mut frames = with_one(rt.alloc(), 7, 0x11)?;
+    assert!(rt; log(rt.alloc(), &mut frames, 7, 0x22)?);
+    assert!(rt; settle(&mut frames, 7, true) && frames.is_idle(7));
+    bring(&mut frames, 7);
+    assert!(rt; begins(&frames, 7, 0x11));
     Ok(())
 }
 

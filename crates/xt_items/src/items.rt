@@ -52,6 +52,8 @@ pub struct Items {
     ail: NumberMap<u64>,
     /// The list of a flight that has landed, for a later one.
     spare: Option<NumberMap<Chunks>>,
+    /// The room of a log vector that was replaced, for a later one.
+    spare_room: Option<VectorRoom>,
 }
 
 impl Model for Items {
@@ -81,6 +83,7 @@ impl Items {
             flight: None,
             ail,
             spare: None,
+            spare_room: None,
         })
     }
 
@@ -233,7 +236,15 @@ impl Items {
         ensures { self.new ≡ record self.old { cil = put block vector.chunks self.old.cil; vectors = put block vector self.old.vectors } }
     {
         self.cil.put(block, vector.chunks());
-        self.vectors.put(block, vector);
+        let before = self.vectors.exchange(block, vector);
+        self.spare_room = room_of(before);
+    }
+
+    /// The room of a log vector that was replaced, if there is one: a later one may take its place.
+    pub fn take_room(&mut self) -> Option<VectorRoom>
+        ensures { self.new ≡ self.old }
+    {
+        self.spare_room.take()
     }
 
     /// The cost of the commit list in bytes: the length of its checkpoint text of this form, 0 where it is empty.
@@ -351,6 +362,14 @@ impl Items {
             plan.blocks(),
             &answers.writes[..answers.count as usize],
         )
+    }
+}
+
+/// The room of a log vector, if there is one.
+fn room_of(vector: Option<LogVector>) -> Option<VectorRoom> {
+    match vector {
+        Some(vector) => vector.into_room(),
+        None => None,
     }
 }
 

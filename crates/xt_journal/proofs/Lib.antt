@@ -1,2 +1,3 @@
-mod KeepLemmas
+pub mod OverLemmas
+pub mod KeepLemmas
 mod TieLemmas

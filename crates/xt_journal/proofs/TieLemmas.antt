@@ -33,6 +33,10 @@ module _ (size : ℕ) (l : Lists) (f : Frames) (shut : Option Reason) (tied : Ar
   pub tied_brought : (b : ℕ) (g : Frames) → (is_none shut ≡ true → is_in b l.cil ≡ false) → g ≡ brought_in b (at b f.idle) f → AreVectors size l g shut
   tied_brought b g out is = tied_by b (at b f.idle) g out is
 
+  -- ---- nothing that is committed changes
+  pub tied_same : (g : Frames) → g.committed ≡ f.committed → AreVectors size l g shut
+  tied_same g is = λ live. tied live ∙ ap (λ contents. vectors_of size contents l.cil) (sym is)
+
   -- ---- contents go, and those of listed blocks stay
   pub tied_kept : (keep : ℕ → Bool) (g : Frames) → Each (λ e. keep e.0 ≡ true) l.cil → g.committed ≡ filter (λ e. keep e.0) f.committed → AreVectors size l g shut
   tied_kept keep g kept is = λ live. tied live ∙ sym (vectors_kept size keep f.committed l.cil kept) ∙ ap (λ contents. vectors_of size contents l.cil) (sym is)

@@ -1,32 +1,34 @@
 //! The journal of a mount: item lists and contents in one hand, since what is written to the log is of both.
 
-ghost use Rattle.std.specs.Prelude.{◌≡◌, ◌+◌, ◌*◌, ◌<◌, ◌≤◌, [], Some, None, filter, is_none, is_some, length, not, true, IfErr, IfOk, IfSome, false};
+ghost use Rattle.std.specs.Prelude.{◌≡◌, ◌+◌, ◌*◌, ◌<◌, ◌≤◌, [], Some, None, filter, is_none, is_some, length, not, true, IfErr, IfOk, IfSome, OnErr, OnOk, false};
 ghost use Rattle.xt_base.specs.Calls.{shut_for};
 ghost use Rattle.xt_base.specs.Jobs.{activated, fits_plan, gone};
 ghost use Rattle.xt_base.specs.Maps.{at, has, is_in, put, without, without_member};
 ghost use Rattle.xt_base.specs.Space.{cost, flight_items};
-ghost use Rattle.xt_frames.specs.Contents.{brought_in};
+ghost use Rattle.xt_frames.specs.Busy.{changed_in, committed_of};
+ghost use Rattle.xt_frames.specs.Contents.{bufs_brought_in};
+ghost use Rattle.xt_frames.specs.Kept.{clean_of, logged, undone};
 ghost use Rattle.xt_frames.specs.Shares.{no_contents};
-ghost use Rattle.xt_journal.specs.Journals.{no_journal};
+ghost use Rattle.xt_journal.specs.Journals.{no_journal, with_frames};
 ghost use Rattle.xt_vectors.specs.Vectors.{vectors_of};
 
 use bytes::Bytes;
 use std::alloc::{AllocError, Global};
 use std::marker::Model;
 use xt_base::chunks::Chunks;
-use xt_base::content::Content;
+use xt_base::content::{Content, Data};
 use xt_base::form::Form;
 use xt_base::map::NumberMap;
 use xt_base::names::Slot;
-use xt_base::sizes::{CHUNK_COST, CHUNKS, ITEM_COST, MOST_ENDS, ROOM};
+use xt_base::sizes::{BLOCK_BYTES, CHUNK_COST, CHUNKS, ITEM_COST, MOST_ENDS, ROOM};
 use xt_base::steps::{HomeAnswers, Reason};
 use xt_frames::frames::Frames;
 use xt_frames::share::FrameShare;
 use xt_items::items::Items;
 use xt_items::plan::FlushPlan;
-use xt_vectors::vector::LogVector;
+use xt_vectors::vector::{LogVector, VectorRoom};
 
-/// The item lists of a mount beside the contents that they are of, and why the mount is shut, if it is. Clauses see all four parts.
+/// The item lists of a mount beside the frames that they are of, and why the mount is shut, if it is. Clauses see all four parts.
 /// On a live mount each log vector of the commit list has the committed bytes of its item's chunks.
 #[derive(Debug, Drop)]
 pub struct Journal {
@@ -41,11 +43,12 @@ impl Model for Journal {
 
     ghost Value = { JournalState };
 
+    ghost use Rattle.xt_frames.specs.Contents.{contents_of};
     ghost use Rattle.xt_journal.specs.Journals.{AreVectors};
 
     ghost view = { λ j. record { form = j.form; lists = j.items; frames = j.frames; shut = j.shut } };
 
-    ghost invariant = { λ j. AreVectors j.form.size j.items j.frames j.shut };
+    ghost invariant = { λ j. AreVectors j.form.size j.items (contents_of j.frames) j.shut };
 }
 
 impl Journal {
@@ -104,12 +107,12 @@ impl Journal {
     /// The log vectors of the commit list of a live mount: what a checkpoint of it is written from.
     pub fn vectors(&self) -> &[(u64, LogVector)]
         requires { is_none self.now.shut ≡ true }
-        ensures { result.now ≡ vectors_of self.now.form.size self.now.frames.committed self.now.lists.cil }
+        ensures { result.now ≡ vectors_of self.now.form.size (committed_of self.now.frames.frames) self.now.lists.cil }
     {
         self.items.vectors()
     }
 
-    /// The contents.
+    /// The frames, fresh marks and idle contents.
     pub fn frames(&self) -> &Frames
         ensures { result.now ≡ self.now.frames }
     {
@@ -136,9 +139,9 @@ impl Journal {
     /// A block becomes busy, on a live mount one that is not listed: with its idle content, or fresh. It takes no memory.
     pub fn bring(&mut self, block: u64)
         requires unlisted { is_none self.old.shut ≡ true → is_in block self.old.lists.cil ≡ false }
-        requires committed { length self.old.frames.committed < ROOM }
+        requires frames { length self.old.frames.frames < ROOM }
         requires fresh { length self.old.frames.fresh < ROOM }
-        ensures { self.new ≡ record self.old { frames = brought_in block (at block self.old.frames.idle) self.old.frames } }
+        ensures { self.new ≡ record self.old { frames = bufs_brought_in block (at block self.old.frames.idle) self.old.frames } }
     {
         self.frames.bring(block);
     }
@@ -146,8 +149,8 @@ impl Journal {
     /// A block becomes busy, on a live mount one that is not listed, with this content. It takes no memory.
     pub fn bring_content(&mut self, block: u64, content: Content)
         requires unlisted { is_none self.old.shut ≡ true → is_in block self.old.lists.cil ≡ false }
-        requires room { length self.old.frames.committed < ROOM }
-        ensures { self.new ≡ record self.old { frames = record self.old.frames { committed = put block content self.old.frames.committed; idle = without block self.old.frames.idle } } }
+        requires room { length self.old.frames.frames < ROOM }
+        ensures { self.new ≡ record self.old { frames = record self.old.frames { frames = put block (clean_of content) self.old.frames.frames; idle = without block self.old.frames.idle } } }
     {
         self.frames.bring_content(block, content);
     }
@@ -159,11 +162,38 @@ impl Journal {
         self.frames.leave_fresh(block);
     }
 
-    /// A content that was replaced and that nobody needs any more, if there is one: a copy may take its place.
-    pub fn take_spare(&mut self) -> Option<Content>
+    /// A leg writes bytes of a block that has a frame, in place: what is committed stays. The one error is want of memory for the first
+    /// chunk that is kept of it, and then nothing changes.
+    pub fn log_in_place(
+        &mut self,
+        alloc: Global,
+        block: u64,
+        first: u32,
+        bytes: &Data,
+    ) -> Result<(), AllocError>
+        requires there { is_in block self.old.frames.frames ≡ true }
+        requires within { first + length bytes.now ≤ BLOCK_BYTES }
+        requires some { 0 < length bytes.now }
+        ensures ok { OnOk result (self.new ≡ with_frames (changed_in (logged first bytes.now) block self.old.frames.frames) self.old) }
+        ensures err { OnErr result (self.new ≡ self.old) }
+    {
+        self.frames.frames_rise();
+        self.frames.log(alloc, self.form, block, first, bytes)
+    }
+
+    /// What a leg changed of a block in place is put back, if it has a frame: what is committed stays. It takes no memory.
+    pub fn undo(&mut self, block: u64)
+        ensures { self.new ≡ with_frames (changed_in undone block self.old.frames.frames) self.old }
+    {
+        self.frames.frames_rise();
+        self.frames.undo(block);
+    }
+
+    /// The room of a log vector that was replaced, if there is one: a later one may take its place.
+    pub fn take_room(&mut self) -> Option<VectorRoom>
         ensures { self.new ≡ self.old }
     {
-        self.frames.take_spare()
+        self.items.take_room()
     }
 
     // ---- item lists

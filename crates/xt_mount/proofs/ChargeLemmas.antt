@@ -1,15 +1,19 @@
 -- What a ticket is charged, beside the charge of its leg.
-use Rattle.std.proofs.Common.{◌≡◌, ◌∙◌, ◌+◌, ◌*◌, ◌∷◌, ℕ, List, Some, [], ap, arith, inl, inr, refl, sym}
+use Rattle.std.proofs.Common.{◌≡◌, ◌∙◌, ◌+◌, ◌*◌, ◌∷◌, ℕ, List, None, Some, [], ap, arith, inl, inr, length, refl, sym}
 use Rattle.std.proofs.lemmas.Bool.{cases_order}
 use Rattle.std.proofs.lemmas.List.Sums.{sum_by-cons}
 use Rattle.xt_base.proofs.MapLemmas.{put_less, put_more, put_same}
 use Rattle.std.specs.Prelude.{Bool, false, if◌then◌else◌, nat_le, sum_by, true}
-use Rattle.xt_base.specs.Calls.{edited}
+use Rattle.xt_base.specs.Calls.{edited, invalidated}
 use Rattle.xt_base.specs.Chunks.{union}
 use Rattle.xt_base.specs.Legs.{change_of, is_dirty}
 use Rattle.xt_base.specs.Maps.{put}
 use Rattle.xt_base.specs.Space.{change_cost, charge}
 use Rattle.xt_base.specs.State.{Change, Leg}
+use Rattle.xt_frames.proofs.EntryLemmas.{put_changed}
+use Rattle.xt_frames.specs.Kept.{Framed}
+use Rattle.xt_journal.proofs.OverLemmas.{change_over, costs_over}
+use Rattle.xt_journal.specs.Over.{changes_over, leg_over, shown_over}
 use Rattle.xt_base.specs.declared.newly.Newly.{Newly}
 use Rattle.xt_base.specs.declared.sizes.TheConstants.{CHUNK_COST, ITEM_COST}
 use Rattle.xt_resv.proofs.MountLemmas.{bare_charge, charge_is}
@@ -49,3 +53,26 @@ pub charged_alike : (b : ℕ) (content marked : List ℕ) (leg : Leg) → sum_by
 charged_alike b content marked leg =
     let here : List ℕ → Change = λ bytes. record { edit = Some bytes; marks = union (change_of b leg).marks marked; charged = union (change_of b leg).charged marked } in
     sum_alike change_cost b (here []) (here content) (λ x. refl) leg.changes
+
+-- ---- a leg as it is shown over frames
+by_sum : (ends : ℕ) (cs ds : List (ℕ × Change)) → sum_by change_cost cs ≡ sum_by change_cost ds → charge ends cs ≡ charge ends ds
+by_sum ends cs ds same = charge_is ends cs ∙ ap (whole_charge ends) same ∙ sym (charge_is ends ds)
+
+module _ (f : List (ℕ × Framed)) (ends b : ℕ) where
+  -- is charged alike where it changes a block
+  put_charge : (x y : Change) (cs : List (ℕ × Change)) → length x.charged ≡ length y.charged → charge ends (put b x (changes_over f cs)) ≡ charge ends (put b y cs)
+  put_charge x y cs same =
+      by_sum ends (put b x (changes_over f cs)) (put b y cs)
+      (sum_alike change_cost b x (shown_over f b y) (λ k. ap (λ n. ITEM_COST + CHUNK_COST * n) same) (changes_over f cs)
+      ∙ ap (sum_by change_cost) (sym (put_changed (shown_over f) b y cs)) ∙ costs_over f (put b y cs))
+
+  pub edited_charge : (marked : List ℕ) (leg : Leg) → charge ends (edited b [] marked (leg_over f leg)).changes ≡ charge ends (edited b [] marked leg).changes
+  edited_charge marked leg =
+      let more : Change → Change = λ (c : Change). record { edit = Some []; marks = union c.marks marked; charged = union c.charged marked } in
+      put_charge (more (change_of b (leg_over f leg))) (more (change_of b leg)) leg.changes (ap (λ (c : Change). length (union c.charged marked)) (change_over f b leg))
+
+  -- and where it invalidates one
+  pub invalidated_charge : (leg : Leg) → charge ends (invalidated b (leg_over f leg)).changes ≡ charge ends (invalidated b leg).changes
+  invalidated_charge leg =
+      let gone : Change → Change = λ (c : Change). record { edit = None; marks = []; charged = c.charged } in
+      put_charge (gone (change_of b (leg_over f leg))) (gone (change_of b leg)) leg.changes (ap (λ (c : Change). length c.charged) (change_over f b leg))

@@ -71,7 +71,7 @@ module _ (s : State) (t : ℕ) (trans : Transaction) (there : Some trans ≡ at 
   shut_transactions false = refl
 
   -- it is still there
-  there_shut : Some trans ≡ at t mid.transactions
+  pub there_shut : Some trans ≡ at t mid.transactions
   there_shut = there ∙ sym (ap (at t) (shut_transactions dirty)) ∙ sym (ap (λ (x : State). at t x.transactions) shuts)
 
   pub open_shut : is_in t mid.transactions ≡ true

@@ -1,3 +1,4 @@
+pub mod ChangedLemmas
 pub mod SettleLemmas
 pub mod KeepLemmas
 pub mod EndLemmas
@@ -10,4 +11,8 @@ pub mod FlushLemmas
 pub mod SlotLemmas
 pub mod WantLemmas
 pub mod PlanLemmas
+pub mod PlannedLemmas
 pub mod StayLemmas
+pub mod ShownLemmas
+pub mod StepLemmas
+pub mod SnapshotLemmas

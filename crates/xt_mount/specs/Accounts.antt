@@ -1,11 +1,12 @@
 -- Accounts: the size of the log, the form of the mount, the open transactions, the item lists and the contents, and why the mount is shut, if it is.
-use Rattle.std.specs.Prelude.{ℕ, List, [], None, Option, Some, ◌+◌, sum_by}
+use Rattle.std.specs.Prelude.{ℕ, List, [], None, Option, Some, false, sum_by, true, ◌+◌, ◌≡◌, ◌⊎◌}
 use Rattle.xt_base.specs.Form.{Form}
 use Rattle.xt_base.specs.Jobs.{cleaned, landed_items}
 use Rattle.xt_base.specs.Legs.{clean_leg, with_edits, with_marks}
-use Rattle.xt_base.specs.Maps.{put, set_at, without}
+use Rattle.xt_base.specs.Maps.{is_in, put, set_at, without}
+use Rattle.xt_base.specs.Sound.{Each}
 use Rattle.xt_base.specs.Space.{cost, flight_items, granted}
-use Rattle.xt_base.specs.State.{Flight, Frames, Items, Leg, Transaction}
+use Rattle.xt_base.specs.State.{Change, Flight, Frames, Items, Leg, Transaction}
 use Rattle.xt_base.specs.declared.steps.Reason.{Reason}
 use Rattle.xt_frames.specs.Contents.{no_frames}
 use Rattle.xt_items.specs.Lists.{Lists}
@@ -75,3 +76,16 @@ lists_in j = record { open_number = j.items.open_number; cil = j.items.cil; vect
 -- these blocks were written home
 abbrev pub cleaned_in : List ℕ → AccountsState → AccountsState
 cleaned_in blocks j = record j { items = cleaned blocks j.items }
+
+-- ---- who changed a block
+-- no open transaction has changed the block
+abbrev pub IsUnchanged : ℕ → List (ℕ × Transaction) → Type 0
+IsUnchanged b ts = Each (λ e. is_in b e.1.leg.changes ≡ false) ts
+
+-- no open transaction but this one has changed the block
+abbrev pub IsAlone : ℕ → ℕ → List (ℕ × Transaction) → Type 0
+IsAlone t b ts = Each (λ e. (e.0 ≡ t) ⊎ (is_in b e.1.leg.changes ≡ false)) ts
+
+-- no open transaction but this one has changed any of these blocks
+abbrev pub AreAlone : ℕ → List (ℕ × Change) → List (ℕ × Transaction) → Type 0
+AreAlone t cs ts = (b : ℕ) → is_in b cs ≡ true → IsAlone t b ts

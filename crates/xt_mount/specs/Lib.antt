@@ -7,3 +7,4 @@ pub mod Texts
 pub mod Come
 pub mod Stages
 pub mod Slots
+pub mod Shown

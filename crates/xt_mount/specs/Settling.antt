@@ -1,15 +1,20 @@
 -- Settling, as far as it touches the frames, and where nothing settles.
 use Rattle.std.specs.List.{list_any}
-use Rattle.std.specs.Prelude.{ℕ, List, Bool, length, not, ◌&&◌, ◌==◌, ◌||◌}
+use Rattle.std.specs.Prelude.{ℕ, List, Bool, length, not, true, ◌&&◌, ◌==◌, ◌||◌, ◌≡◌}
 use Rattle.xt_base.specs.Legs.{owned_by}
 use Rattle.xt_base.specs.Maps.{is_in}
 use Rattle.xt_base.specs.Space.{is_listed}
-use Rattle.xt_base.specs.State.{Items, Leg}
+use Rattle.xt_base.specs.Sound.{Each}
+use Rattle.xt_base.specs.State.{Items, Leg, Transaction}
 use Rattle.xt_base.specs.declared.steps.Owner.{Owner}
 
 -- whether a block has an owner or is on a list
 abbrev pub is_busy_in : List (ℕ × Owner) → Items → ℕ → Bool
 is_busy_in owners l b = is_in b owners || is_listed l b
+
+-- each block that an open transaction changed is busy
+abbrev pub AreChangedBusy : (ℕ → Bool) → List (ℕ × Transaction) → Type 0
+AreChangedBusy busy ts = Each (λ e. Each (λ c. busy c.0 ≡ true) e.1.leg.changes) ts
 
 -- whether a transaction has a block that its leg did not change
 abbrev pub has_unchanged : ℕ → Leg → List (ℕ × Owner) → Bool

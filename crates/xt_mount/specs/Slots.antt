@@ -17,6 +17,7 @@ use Rattle.xt_base.specs.declared.steps.Request.{Request}
 use Rattle.xt_base.specs.declared.steps.Step.{Step}
 use Rattle.xt_frames.specs.Shares.{no_contents}
 use Rattle.xt_frames.specs.declared.share.FrameShare.{FrameShare}
+use Rattle.xt_mount.specs.Accounts.{IsUnchanged}
 use Rattle.xt_mount.specs.Come.{owed_name}
 use Rattle.xt_mount.specs.declared.mount.Stage.{Stage}
 use Rattle.xt_mount.specs.declared.mount.Stage.TheVariants.{Begun, Waiting}
@@ -96,6 +97,11 @@ plan_in (Some m) = flush_plan m
 abbrev pub contents_in : Option State → List (ℕ × List ℕ)
 contents_in None = []
 contents_in (Some m) = m.frames.committed
+
+-- no open transaction of its mount has changed a block
+abbrev pub IsUnchangedIn : ℕ → Option State → Type 0
+IsUnchangedIn b None = Unit {0}
+IsUnchangedIn b (Some m) = IsUnchanged b m.transactions
 
 -- ---- the frames of a slot
 -- the share of the slot while no mount has it, without contents

@@ -1,35 +1,40 @@
 //! The accounts of a mount: its open transactions with their tickets, its journal, and the log space that both use.
 
-ghost use Rattle.std.specs.Prelude.{◌≡◌, ◌+◌, ◌*◌, ◌≤◌, ◌<◌, ◌&&◌, ◌++◌, [], Some, None, false, true, is_none, is_some, length, nat_le, nat_lt, not, ◌==◌, IfErr, IfOk, IfSome, OnOk, OnErr, option_copied};
-ghost use Rattle.xt_base.specs.Calls.{edited, invalidated, legs_after, new_trans, shut_for, without_hold};
+ghost use Rattle.std.specs.Prelude.{◌≡◌, ◌+◌, ◌*◌, ◌≤◌, ◌<◌, ◌&&◌, ◌++◌, [], Some, None, false, true, is_none, is_some, length, nat_le, nat_lt, not, ◌==◌, IfErr, IfOk, IfSome, OnOk, OnErr, option_copied, slice_get, ◌||◌};
+ghost use Rattle.xt_base.specs.Calls.{edited, invalidated, legs_after, logged_leg, new_trans, seen, shut_for, without_hold};
+ghost use Rattle.xt_base.specs.Chunks.{marks};
 ghost use Rattle.xt_base.specs.Jobs.{fits_plan, flight_pieces, gone};
-ghost use Rattle.xt_base.specs.Legs.{clean_leg, is_dirty, with_marks};
+ghost use Rattle.xt_base.specs.Legs.{clean_leg, is_dirty, is_stale, with_marks};
 ghost use Rattle.xt_base.specs.Maps.{at, has, is_in, put, with_member, without, without_member};
 ghost use Rattle.xt_base.specs.Sound.{AllBelow, IsRising};
 ghost use Rattle.xt_base.specs.Space.{charge, cost, flight_items, granted, is_listed};
-ghost use Rattle.xt_frames.specs.Contents.{brought_in};
+ghost use Rattle.xt_base.specs.Text.{content_at};
+ghost use Rattle.xt_frames.specs.Busy.{committed_of};
+ghost use Rattle.xt_frames.specs.Contents.{brought_in, contents_of};
 ghost use Rattle.xt_frames.specs.Settling.{AreOthersBusy, settled_by};
 ghost use Rattle.xt_frames.specs.Shares.{no_contents};
-ghost use Rattle.xt_mount.specs.Accounts.{cleaned_in, closed_in, flown_in, kept_in, landed_in, legs_in, lists_in, lost_in, no_accounts, opened_in, releg, used_in};
-ghost use Rattle.xt_mount.specs.Settling.{is_busy_in};
+ghost use Rattle.xt_mount.specs.Accounts.{AreAlone, IsAlone, IsUnchanged, cleaned_in, closed_in, flown_in, kept_in, landed_in, legs_in, lists_in, lost_in, no_accounts, opened_in, releg, used_in};
+ghost use Rattle.xt_mount.specs.Settling.{AreChangedBusy, is_busy_in};
+ghost use Rattle.xt_mount.specs.Shown.{has_in_place};
 ghost use Rattle.xt_items.specs.Lists.{flight_number};
+ghost use Rattle.xt_journal.specs.Over.{frame_bytes, leg_over};
 ghost use Rattle.xt_items.specs.Plans.{due, planned};
 ghost use Rattle.xt_resv.specs.Ledgers.{is_invalid, is_no_room};
 ghost use Rattle.xt_resv.specs.Mounts.{grant_of, ledger};
 ghost use Rattle.xt_vectors.specs.Vectors.{vectors_of};
 
 use crate::open_trans::OpenTrans;
+use crate::opened::Opened;
 use bytes::Bytes;
 use std::alloc::{AllocError, Global};
 use std::marker::Model;
 use xt_base::chunks::Chunks;
-use xt_base::content::Content;
+use xt_base::content::{Content, Data};
 use xt_base::form::Form;
 use xt_base::map::NumberMap;
 use xt_base::names::{Block, CkptNo, Slot};
-use xt_base::sizes::{MOST_LOG, ROOM};
+use xt_base::sizes::{BLOCK_BYTES, MOST_LOG, ROOM};
 use xt_base::steps::{HomeAnswers, Reason};
-use xt_frames::frames::Frames;
 use xt_frames::share::FrameShare;
 use xt_items::items::Items;
 use xt_items::plan::FlushPlan;
@@ -37,7 +42,6 @@ use xt_journal::journal::Journal;
 use xt_locks::locks::Locks;
 use xt_resv::space::LogSpace;
 use xt_trans::trans::TransRec;
-use xt_vectors::edit::Edit;
 use xt_vectors::vector::LogVector;
 
 /// The open transactions of a mount, its journal, and its log space, which has what both use: what each ticket was
@@ -55,7 +59,10 @@ impl Model for Accounts {
     ghost use Rattle.std.specs.Prelude.{◌≡◌};
     ghost use Rattle.xt_base.specs.Space.{cost, granted};
     ghost use Rattle.xt_mount.specs.Accounts.{AccountsState};
+    ghost use Rattle.xt_frames.specs.Contents.{contents_of};
     ghost use Rattle.xt_items.specs.Lists.{with_landed};
+    ghost use Rattle.xt_journal.specs.Over.{transactions_over};
+    ghost use Rattle.xt_mount.specs.Shown.{AreInFrames};
     ghost use Rattle.xt_resv.specs.Mounts.{flight_of};
 
     ghost Value = { AccountsState };
@@ -63,13 +70,13 @@ impl Model for Accounts {
     ghost view = { λ j. record {
       log_bytes = j.space.size;
       form = j.journal.form;
-      transactions = j.transactions;
+      transactions = transactions_over j.journal.frames.frames j.transactions;
       items = with_landed j.space.landed j.journal.lists;
-      frames = j.journal.frames;
+      frames = contents_of j.journal.frames;
       shut = j.journal.shut;
     } };
 
-    ghost invariant = { λ j. (j.space.granted ≡ granted j.transactions) × (j.space.cil ≡ cost j.journal.form.ends j.journal.lists.cil) × (j.space.flight ≡ flight_of j.journal.form.ends j.journal.lists.flight) };
+    ghost invariant = { λ j. (j.space.granted ≡ granted j.transactions) × (j.space.cil ≡ cost j.journal.form.ends j.journal.lists.cil) × (j.space.flight ≡ flight_of j.journal.form.ends j.journal.lists.flight) × AreInFrames j.journal.frames.frames j.transactions };
 }
 
 impl Drop for Accounts {
@@ -170,13 +177,6 @@ impl Accounts {
         self.journal.form()
     }
 
-    /// The contents.
-    pub fn frames(&self) -> &Frames
-        ensures { result.now ≡ self.now.frames }
-    {
-        self.journal.frames()
-    }
-
     /// Why the mount is shut, if it is.
     pub fn shut(&self) -> Option<Reason>
         ensures { result ≡ self.now.shut }
@@ -195,10 +195,13 @@ impl Accounts {
     }
 
     /// The open transaction of a number.
-    pub fn get(&self, trans: u64) -> Option<&OpenTrans>
-        ensures { option_copied result ≡ at trans self.now.transactions }
+    pub fn get(&self, trans: u64) -> Option<Opened<'_>>
+        ensures { result ≡ at trans self.now.transactions }
     {
-        self.transactions.get(trans)
+        match self.transactions.get(trans) {
+            Some(opened) => Some(Opened::new(opened, self.journal.frames())),
+            None => None,
+        }
     }
 
     /// Whether a transaction is open.
@@ -208,11 +211,14 @@ impl Accounts {
         self.transactions.contains(trans)
     }
 
-    /// The open transactions, by rising number.
-    pub fn transactions(&self) -> &[(u64, OpenTrans)]
-        ensures { result.now ≡ self.now.transactions }
+    /// The open transaction at a place, by rising number, with its number.
+    pub fn opened_at(&self, index: usize) -> Option<(u64, Opened<'_>)>
+        ensures { result ≡ slice_get self.now.transactions index }
     {
-        self.transactions.entries()
+        match self.transactions.entries().get(index) {
+            Some(e) => Some((e.0, Opened::new(&e.1, self.journal.frames()))),
+            None => None,
+        }
     }
 
     /// How many transactions are open.
@@ -334,7 +340,7 @@ impl Accounts {
     }
 
     /// Whether the last leg of a transaction finds no space for one new unit, once its leg was committed.
-    pub fn finds_no_room(&self, opened: &OpenTrans) -> bool
+    pub fn finds_no_room(&self, opened: &Opened<'_>) -> bool
         requires rising { IsRising opened.now.leg.changes }
         requires list { IsRising self.now.items.cil }
         requires granted { opened.now.unit * opened.now.legs ≤ granted self.now.transactions }
@@ -374,17 +380,29 @@ impl Accounts {
         Ok(())
     }
 
-    /// The leg of a transaction has these bytes of a block, and these chunks are marked and charged. It takes no memory.
-    pub fn log(&mut self, trans: u64, block: u64, edit: Edit, marked: Chunks)
+    /// Writes bytes in the leg of a transaction, from `first` on, and marks and charges their chunks. The room for the log vector that
+    /// a commit makes of them is taken here, so that a commit takes none. The one error is want of memory, and then nothing changes.
+    pub fn log(
+        &mut self,
+        alloc: Global,
+        trans: u64,
+        block: u64,
+        first: u32,
+        bytes: &Data,
+    ) -> Result<(), AllocError>
         requires there { is_in trans self.old.transactions ≡ true }
         requires rising { IsRising self.old.transactions }
+        requires alone { IsAlone trans block self.old.transactions }
+        requires some { 0 < length bytes.now }
+        requires within { first + length bytes.now ≤ BLOCK_BYTES }
         requires few { IfSome (at trans self.old.transactions) (λ t. is_in block t.leg.changes ≡ false → length t.leg.changes + length t.leg.holds < ROOM) }
-        requires fits { IfSome (at trans self.old.transactions) (λ t. charge self.old.form.ends (edited block [] marked t.leg).changes ≤ t.unit) }
-        ensures { IfSome (at trans self.old.transactions) (λ t. self.new ≡ releg trans t (edited block edit marked t.leg) self.old) }
+        requires fits { IfSome (at trans self.old.transactions) (λ t. charge self.old.form.ends (edited block [] (marks first (length bytes.now)) t.leg).changes ≤ t.unit) }
+        ensures ok { OnOk result (IfSome (at trans self.old.transactions) (λ t. self.new ≡ releg trans t (logged_leg self.old.form.size block first bytes.now self.old.frames t.leg) self.old)) }
+        ensures err { OnErr result (self.new ≡ self.old) }
     {
-        let form = self.journal.form();
         let opened = self.transactions.value_mut(trans);
-        opened.log(form, block, edit, marked);
+        opened.log(&mut self.journal, alloc, block, first, bytes)?;
+        Ok(())
     }
 
     /// The leg of a transaction invalidates a block. It takes no memory.
@@ -392,12 +410,12 @@ impl Accounts {
         requires there { is_in trans self.old.transactions ≡ true }
         requires rising { IsRising self.old.transactions }
         requires few { IfSome (at trans self.old.transactions) (λ t. is_in block t.leg.changes ≡ false → length t.leg.changes + length t.leg.holds < ROOM) }
+        requires alone { IsAlone trans block self.old.transactions }
         requires fits { IfSome (at trans self.old.transactions) (λ t. charge self.old.form.ends (invalidated block t.leg).changes ≤ t.unit) }
         ensures { IfSome (at trans self.old.transactions) (λ t. self.new ≡ releg trans t (invalidated block t.leg) self.old) }
     {
-        let form = self.journal.form();
         let opened = self.transactions.value_mut(trans);
-        opened.inval(form, block);
+        opened.inval(&mut self.journal, block);
     }
 
     /// A block has the hold mark in the leg of a transaction. It takes no memory.
@@ -422,9 +440,67 @@ impl Accounts {
     }
 
     // ---- contents
+    /// Whether a block is fresh: it shows zeros until it is written whole.
+    pub fn is_fresh(&self, block: u64) -> bool
+        ensures { result ≡ has self.now.frames.fresh block }
+    {
+        self.journal.frames().is_fresh(block)
+    }
+
+    /// Whether a block is idle.
+    pub fn is_idle(&self, block: u64) -> bool
+        ensures { result ≡ is_in block self.now.frames.idle }
+    {
+        self.journal.frames().is_idle(block)
+    }
+
+    /// The committed content of a block that no open transaction has changed.
+    pub fn committed(&self, block: u64) -> Option<&Content>
+        requires { IsUnchanged block self.now.transactions }
+        ensures { option_copied result ≡ at block self.now.frames.committed }
+    {
+        match self.journal.frames().frame(block) {
+            Some(frame) => Some(frame.content()),
+            None => None,
+        }
+    }
+
+    /// The committed contents in a list of their own, by rising block. The one error is want of memory.
+    pub fn committed_copies(&self, alloc: Global) -> Result<Vec<(u64, Content)>, AllocError>
+        ensures { IfOk result (λ contents. contents.items ≡ self.now.frames.committed) }
+    {
+        self.journal.frames().committed(alloc)
+    }
+
+    /// The fresh blocks, ascending, in a list of their own. The one error is want of memory.
+    pub fn fresh_copies(&self, alloc: Global) -> Result<Vec<u64>, AllocError>
+        ensures { IfOk result (λ blocks. blocks.items ≡ self.now.frames.fresh) }
+    {
+        self.journal.frames().fresh(alloc)
+    }
+
+    /// The idle contents in a list of their own, the most recent first. The one error is want of memory.
+    pub fn idle_copies(&self, alloc: Global) -> Result<Vec<(u64, Content)>, AllocError>
+        ensures { IfOk result (λ contents. contents.items ≡ self.now.frames.idle) }
+    {
+        self.journal.frames().idle(alloc)
+    }
+
+    /// A copy of what an open transaction sees of a block that it has. The one error is want of memory.
+    pub fn seen(&self, alloc: Global, trans: u64, block: u64) -> Result<Content, AllocError>
+        requires there { is_in trans self.now.transactions ≡ true }
+        ensures { IfOk result (λ content. IfSome (at trans self.now.transactions) (λ t. content ≡ seen self.now.form.size block t.leg self.now.frames)) }
+    {
+        match self.transactions.get(trans) {
+            Some(opened) => copy_seen(alloc, opened.leg(), &self.journal, block),
+            None => unreachable!(),
+        }
+    }
+
     /// A block becomes busy, on a live mount one that is not listed: with its idle content, or fresh. It takes no memory.
     pub fn bring(&mut self, block: u64)
         requires unlisted { is_none self.old.shut ≡ true → is_in block self.old.items.cil ≡ false }
+        requires unchanged { IsUnchanged block self.old.transactions }
         requires committed { length self.old.frames.committed < ROOM }
         requires fresh { length self.old.frames.fresh < ROOM }
         ensures { self.new ≡ record self.old { frames = brought_in block (at block self.old.frames.idle) self.old.frames } }
@@ -435,6 +511,7 @@ impl Accounts {
     /// A block becomes busy, on a live mount one that is not listed, with this content. It takes no memory.
     pub fn bring_content(&mut self, block: u64, content: Content)
         requires unlisted { is_none self.old.shut ≡ true → is_in block self.old.items.cil ≡ false }
+        requires unchanged { IsUnchanged block self.old.transactions }
         requires room { length self.old.frames.committed < ROOM }
         ensures { self.new ≡ record self.old { frames = record self.old.frames { committed = put block content self.old.frames.committed; idle = without block self.old.frames.idle } } }
     {
@@ -448,16 +525,10 @@ impl Accounts {
         self.journal.leave_fresh(block);
     }
 
-    /// A content that was replaced and that nobody needs any more, if there is one: a copy may take its place.
-    pub fn take_spare(&mut self) -> Option<Content>
-        ensures { self.new ≡ self.old }
-    {
-        self.journal.take_spare()
-    }
-
     /// Contents of blocks that are no longer locked, held or on a list go, on a live mount to the front of the idle list,
     /// ascending by block; their fresh marks go. It takes no memory.
     pub fn settle(&mut self, locks: &Locks)
+        requires { AreChangedBusy (is_busy_in locks.now self.old.items) self.old.transactions }
         ensures { self.new ≡ record self.old { frames = settled_by (is_busy_in locks.now self.old.items) (is_none self.old.shut) self.old.frames } }
     {
         self.journal.settle(locks);
@@ -467,6 +538,7 @@ impl Accounts {
     pub fn settle_block(&mut self, locks: &Locks, block: u64)
         requires rising { IsRising self.old.frames.committed }
         requires others { AreOthersBusy (is_busy_in locks.now self.old.items) block self.old.frames }
+        requires changed { AreChangedBusy (is_busy_in locks.now self.old.items) self.old.transactions }
         ensures { self.new ≡ record self.old { frames = settled_by (is_busy_in locks.now self.old.items) (is_none self.old.shut) self.old.frames } }
     {
         self.journal.settle_block(locks, block);
@@ -484,15 +556,18 @@ impl Accounts {
     /// commit list. It takes no memory.
     pub fn commit(&mut self, trans: u64)
         requires there { is_in trans self.old.transactions ≡ true }
+        requires alone { IfSome (at trans self.old.transactions) (λ t. AreAlone trans t.leg.changes self.old.transactions) }
         requires contents { IfSome (at trans self.old.transactions) (λ t. length self.old.frames.committed + length t.leg.changes ≤ ROOM) }
         requires list { IfSome (at trans self.old.transactions) (λ t. length self.old.items.cil + length t.leg.changes ≤ ROOM) }
         requires paid { IfSome (at trans self.old.transactions) (λ t. cost self.old.form.ends (with_marks t.leg.changes self.old.items.cil) ≤ cost self.old.form.ends self.old.items.cil + t.unit * t.legs) }
         ensures { IfSome (at trans self.old.transactions) (λ t. self.new ≡ closed_in trans (kept_in t self.old)) }
     {
+        let _rise = self.transactions.entries();
         let Some(opened) = self.transactions.remove(trans) else {
             unreachable!();
         };
         let (ticket, mut leg) = opened.into_parts();
+        leg.changes_rise();
         self.journal.keep_changes(&mut leg);
         self.spare = Some(leg);
         self.space.commit(ticket, self.journal.cil_cost());
@@ -501,6 +576,7 @@ impl Accounts {
     /// A leg is committed, and the next one of its transaction begins. It takes no memory.
     pub fn roll(&mut self, trans: u64)
         requires there { is_in trans self.old.transactions ≡ true }
+        requires alone { IfSome (at trans self.old.transactions) (λ t. AreAlone trans t.leg.changes self.old.transactions) }
         requires rising { IsRising self.old.transactions }
         requires contents { IfSome (at trans self.old.transactions) (λ t. length self.old.frames.committed + length t.leg.changes ≤ ROOM) }
         requires list { IfSome (at trans self.old.transactions) (λ t. length self.old.items.cil + length t.leg.changes ≤ ROOM) }
@@ -516,10 +592,12 @@ impl Accounts {
     /// A transaction ends, and its leg is given up, on a live mount only a clean one. It takes no memory.
     pub fn cancel(&mut self, trans: u64)
         requires there { is_in trans self.old.transactions ≡ true }
+        requires alone { IfSome (at trans self.old.transactions) (λ t. AreAlone trans t.leg.changes self.old.transactions) }
         requires kept { IfSome (at trans self.old.transactions) (λ t. (is_dirty t.leg && is_none self.old.shut) ≡ false) }
         requires fresh { IfSome (at trans self.old.transactions) (λ t. length self.old.frames.fresh + length t.leg.changes ≤ ROOM) }
         ensures { IfSome (at trans self.old.transactions) (λ t. self.new ≡ closed_in trans (lost_in t self.old)) }
     {
+        let _rise = self.transactions.entries();
         let Some(opened) = self.transactions.remove(trans) else {
             unreachable!();
         };
@@ -532,6 +610,7 @@ impl Accounts {
     /// A leg is given up, on a live mount only a clean one, and its transaction stays with no leg left. It takes no memory.
     pub fn give_up(&mut self, trans: u64)
         requires there { is_in trans self.old.transactions ≡ true }
+        requires alone { IfSome (at trans self.old.transactions) (λ t. AreAlone trans t.leg.changes self.old.transactions) }
         requires kept { IfSome (at trans self.old.transactions) (λ t. (is_dirty t.leg && is_none self.old.shut) ≡ false) }
         requires rising { IsRising self.old.transactions }
         requires fresh { IfSome (at trans self.old.transactions) (λ t. length self.old.frames.fresh + length t.leg.changes ≤ ROOM) }
@@ -602,6 +681,56 @@ impl Accounts {
         let count = self.journal.flush_done(plan, answers);
         self.space.tail(self.journal.items().least());
         count
+    }
+}
+
+/// A copy of what a leg sees of a block. The one error is want of memory.
+fn copy_seen(
+    alloc: Global,
+    leg: &TransRec,
+    journal: &Journal,
+    block: u64,
+) -> Result<Content, AllocError>
+    requires { has_in_place block leg.now ≡ true → is_in block journal.now.frames.frames ≡ true }
+    ensures { IfOk result (λ content. content ≡ seen journal.now.form.size block (leg_over journal.now.frames.frames leg.now) (contents_of journal.now.frames)) }
+{
+    if let Some(content) = leg.edit(block) {
+        return content.copy(alloc);
+    }
+    if leg.is_in_place(block) {
+        return copy_in_place(alloc, journal, block);
+    }
+    if is_hidden(leg, journal, block) {
+        return Content::zeros(alloc, journal.form());
+    }
+    copy_committed(alloc, journal, block)
+}
+
+/// Whether a leg that did not change a block sees zeros of it.
+fn is_hidden(leg: &TransRec, journal: &Journal, block: u64) -> bool
+    ensures { result ≡ (has journal.now.frames.fresh block || is_stale block leg.now) }
+{
+    journal.frames().is_fresh(block) || leg.is_stale(block)
+}
+
+/// A copy of the bytes of a block's frame. The one error is want of memory.
+fn copy_in_place(alloc: Global, journal: &Journal, block: u64) -> Result<Content, AllocError>
+    requires { is_in block journal.now.frames.frames ≡ true }
+    ensures { IfOk result (λ content. content ≡ frame_bytes (at block journal.now.frames.frames)) }
+{
+    match journal.frames().frame(block) {
+        Some(frame) => frame.content().copy(alloc),
+        None => unreachable!(),
+    }
+}
+
+/// A copy of the committed content of a block, zeros where there is none. The one error is want of memory.
+fn copy_committed(alloc: Global, journal: &Journal, block: u64) -> Result<Content, AllocError>
+    ensures { IfOk result (λ content. content ≡ content_at journal.now.form.size block (committed_of journal.now.frames.frames)) }
+{
+    match journal.frames().frame(block) {
+        Some(frame) => frame.committed_copy(alloc),
+        None => Content::zeros(alloc, journal.form()),
     }
 }
 

@@ -133,6 +133,7 @@ impl Machine {
 
     /// The flight is given up, and a live mount is shut. It takes no memory.
     fn fail(&mut self)
+        requires { IsSound (state_of self.old) }
         ensures { state_of self.new ≡ failed_step [] (state_of self.old) }
     {
         self.accounts.fail();

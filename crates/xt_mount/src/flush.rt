@@ -3,6 +3,7 @@
 ghost use Rattle.std.specs.Prelude.{◌≡◌, [], true};
 ghost use Rattle.xt_base.specs.Calls.{gives, push as push_step};
 ghost use Rattle.xt_base.specs.Jobs.{fits_plan, flush as flush_step, flush_plan, flushed as flushed_step, renewed, unflushed};
+ghost use Rattle.xt_base.specs.Sound.{IsSound};
 ghost use Rattle.xt_mount.specs.Machines.{state_of};
 
 use crate::machine::Machine;
@@ -53,7 +54,8 @@ impl Machine {
 
     /// Blocks of this plan were written home, as the home device answered. It takes no memory.
     fn flushed(&mut self, plan: &FlushPlan, answers: &HomeAnswers) -> Reply
-        requires { fits_plan answers.now plan.now ≡ true }
+        requires sound { IsSound (state_of self.old) }
+        requires fits { fits_plan answers.now plan.now ≡ true }
         ensures { gives result (state_of self.new) ≡ flushed_step [] plan.now answers.now (state_of self.old) }
     {
         let count = self.accounts.flush_done(plan, answers);
@@ -66,7 +68,8 @@ impl Machine {
     /// Ends the outstanding flush by what the home device answered to the writes of its plan, and to the sync that follows. It
     /// takes no memory.
     pub fn flush(&mut self, answers: &HomeAnswers) -> Reply
-        requires { fits_plan answers.now (flush_plan (state_of self.old)) ≡ true }
+        requires sound { IsSound (state_of self.old) }
+        requires fits { fits_plan answers.now (flush_plan (state_of self.old)) ≡ true }
         ensures { gives result (state_of self.new) ≡ flush_step [] answers.now (state_of self.old) }
     {
         let plan = self.flush_plan();

@@ -5,10 +5,11 @@ ghost use Rattle.xt_base.specs.Calls.{first_of, gives, inval as inval_step, inva
 ghost use Rattle.xt_base.specs.Maps.{at, is_in};
 ghost use Rattle.xt_base.specs.Sound.{IsRising, IsSound};
 ghost use Rattle.xt_base.specs.Space.{charge};
+ghost use Rattle.xt_mount.specs.Accounts.{IsAlone};
 ghost use Rattle.xt_mount.specs.Machines.{state_of};
 
 use crate::machine::Machine;
-use crate::open_trans::OpenTrans;
+use crate::opened::Opened;
 use xt_base::names::{Block, TransNo};
 use xt_base::sizes::ROOM;
 use xt_base::steps::{Errno, Reply};
@@ -18,6 +19,7 @@ impl Machine {
     fn mark_stale(&mut self, trans: TransNo, block: Block)
         requires there { is_in trans self.old.accounts.transactions ≡ true }
         requires rising { IsRising self.old.accounts.transactions }
+        requires alone { IsAlone trans block self.old.accounts.transactions }
         requires few { IfSome (at trans self.old.accounts.transactions) (λ t. is_in block t.leg.changes ≡ false → length t.leg.changes + length t.leg.holds < ROOM) }
         requires fits { IfSome (at trans self.old.accounts.transactions) (λ t. charge self.old.accounts.form.ends (invalidated block t.leg).changes ≤ t.unit) }
         ensures { IfSome (at trans self.old.accounts.transactions) (λ t. state_of self.new ≡ not_fresh block (with_leg trans t (invalidated block t.leg) (state_of self.old))) }
@@ -27,7 +29,7 @@ impl Machine {
     }
 
     /// What refuses an invalidation.
-    fn inval_refusal(&self, opened: &OpenTrans, trans: TransNo, block: Block) -> Option<Errno>
+    fn inval_refusal(&self, opened: &Opened<'_>, trans: TransNo, block: Block) -> Option<Errno>
         ensures refusal { result ≡ first_of (inval_refusals trans block opened.now (state_of self.now)) }
         ensures own { result ≡ None → is_own (state_of self.now) trans block ≡ true }
         ensures fits { result ≡ None → charge self.now.accounts.form.ends (invalidated block opened.now.leg).changes ≤ opened.now.unit }
@@ -49,7 +51,7 @@ impl Machine {
         let Some(opened) = self.accounts.get(trans.0) else {
             return Reply::Refused(Errno::Invalid);
         };
-        if let Some(errno) = self.inval_refusal(opened, trans, block) {
+        if let Some(errno) = self.inval_refusal(&opened, trans, block) {
             return Reply::Refused(errno);
         }
         if !opened.leg().is_stale(block.0) {

@@ -9,10 +9,10 @@ ghost use Rattle.xt_mount.specs.Ending.{owner_kept, owner_left};
 ghost use Rattle.xt_mount.specs.Machines.{state_of};
 
 use crate::machine::Machine;
+use crate::opened::LegSeen;
 use xt_base::names::{CkptNo, TransNo};
 use xt_base::steps::Owner;
 use xt_locks::locks::Locks;
-use xt_trans::trans::TransRec;
 
 impl Machine {
     /// A transaction ends, and its leg is committed. It takes no memory.
@@ -28,7 +28,7 @@ impl Machine {
         pass_on(
             &mut self.locks,
             trans,
-            opened.leg(),
+            &opened.leg(),
             self.accounts.open_number(),
         );
         self.accounts.commit(trans.0);
@@ -48,7 +48,7 @@ impl Machine {
         pass_on(
             &mut self.locks,
             trans,
-            opened.leg(),
+            &opened.leg(),
             self.accounts.open_number(),
         );
         self.accounts.roll(trans.0);
@@ -64,7 +64,7 @@ impl Machine {
         let Some(opened) = self.accounts.get(trans.0) else {
             unreachable!();
         };
-        pass_held(&mut self.locks, trans, opened.leg());
+        pass_held(&mut self.locks, trans, &opened.leg());
         self.accounts.cancel(trans.0);
     }
 
@@ -78,14 +78,14 @@ impl Machine {
         let Some(opened) = self.accounts.get(trans.0) else {
             unreachable!();
         };
-        pass_held(&mut self.locks, trans, opened.leg());
+        pass_held(&mut self.locks, trans, &opened.leg());
         self.accounts.give_up(trans.0);
     }
 }
 
 /// Who has a block of a leg that was committed: an invalidated one waits for the open checkpoint, one with the hold mark is
 /// held, another is free.
-fn owner_left(leg: &TransRec, number: CkptNo, block: u64) -> Option<Owner>
+fn owner_left(leg: &LegSeen<'_>, number: CkptNo, block: u64) -> Option<Owner>
     ensures { result ≡ owner_left leg.now number block }
 {
     if leg.is_stale(block) {
@@ -96,7 +96,7 @@ fn owner_left(leg: &TransRec, number: CkptNo, block: u64) -> Option<Owner>
 }
 
 /// Who has a block of a leg that was given up: one with the hold mark is held, another is free.
-fn owner_kept(leg: &TransRec, block: u64) -> Option<Owner>
+fn owner_kept(leg: &LegSeen<'_>, block: u64) -> Option<Owner>
     ensures { result ≡ owner_kept leg.now block }
 {
     let stays = leg.is_held(block);
@@ -104,14 +104,14 @@ fn owner_kept(leg: &TransRec, block: u64) -> Option<Owner>
 }
 
 /// The blocks of a leg that was committed pass on.
-fn pass_on(locks: &mut Locks, trans: TransNo, leg: &TransRec, number: CkptNo)
+fn pass_on(locks: &mut Locks, trans: TransNo, leg: &LegSeen<'_>, number: CkptNo)
     ensures { locks.new ≡ filter_map (owner_after trans leg.now number) locks.old }
 {
     locks.end_leg(trans, |block| owner_left(leg, number, block));
 }
 
 /// The blocks of a leg that was given up pass on.
-fn pass_held(locks: &mut Locks, trans: TransNo, leg: &TransRec)
+fn pass_held(locks: &mut Locks, trans: TransNo, leg: &LegSeen<'_>)
     ensures { locks.new ≡ filter_map (owner_aborted trans leg.now) locks.old }
 {
     locks.end_leg(trans, |block| owner_kept(leg, block));

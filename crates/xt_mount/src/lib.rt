@@ -19,6 +19,7 @@ mod log;
 mod machine;
 pub mod mount;
 mod open_trans;
+mod opened;
 mod read;
 mod relse;
 mod roll;

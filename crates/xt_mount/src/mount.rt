@@ -10,6 +10,7 @@ ghost use Rattle.xt_base.specs.Order.{is_there};
 ghost use Rattle.xt_base.specs.State.{mount_of};
 ghost use Rattle.xt_base.specs.declared.steps.Errno.TheVariants.{NoMemory};
 ghost use Rattle.xt_frames.specs.Shares.{no_contents};
+ghost use Rattle.xt_mount.specs.Accounts.{IsUnchanged};
 ghost use Rattle.xt_mount.specs.Come.{new_refusals, owed_name, read_block};
 ghost use Rattle.xt_mount.specs.Machines.{IsSameMount};
 ghost use Rattle.xt_mount.specs.Stages.{stage_of};
@@ -263,21 +264,23 @@ impl Mount {
 
     /// The blocks that a flush writes home now, 0 to 8, in the order of their writes (`xfsaild_push`): those of the active list
     /// with the least (number, block) that are neither committed nor in flight and that nobody owns. Each has a committed
-    /// content. A plan of no block, as on a shut mount, means that nothing is offered. It takes no memory and is never refused.
+    /// content, and no open transaction has changed it. A plan of no block, as on a shut mount, means that nothing is offered. It takes no memory and is never refused.
     pub fn flush_plan(&self) -> Result<FlushPlan, Errno>
         ensures plan { result ≡ Ok (flush_plan self.now) }
         ensures committed { IfOk result (λ plan. All (λ b. is_in b self.now.frames.committed ≡ true) plan) }
+        ensures unchanged { IfOk result (λ plan. All (λ b. IsUnchanged b self.now.transactions) plan) }
     {
         Ok(self.machine.flush_plan())
     }
 
-    /// The committed content of a block, 4,096 bytes: what a flush writes home. None where the mount keeps none, as of a block
-    /// that is not busy.
+    /// The committed content of a block that no open transaction has changed, 4,096 bytes: what a flush writes home. None where the mount
+    /// keeps none, as of a block that is not busy.
     pub fn committed(&self, block: Block) -> Option<&[u8]>
+        requires { IsUnchanged block self.now.transactions }
         ensures value { option_copied result ≡ at block self.now.frames.committed }
         ensures whole { IfSome result (λ bytes. length bytes.now ≡ BLOCK_BYTES) }
     {
-        match self.machine.accounts.frames().content(block.0) {
+        match self.machine.accounts.committed(block.0) {
             Some(content) => Some(content.bytes()),
             None => None,
         }

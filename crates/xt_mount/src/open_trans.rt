@@ -1,25 +1,35 @@
 //! An open transaction: its ticket, and what its present leg did.
 
-ghost use Rattle.std.specs.Prelude.{◌≡◌, ◌+◌, ◌*◌, ◌<◌, ◌≤◌, ◌&&◌, [], false, is_none, length, nat_le, sum_by, true};
+ghost use Rattle.std.specs.Prelude.{◌≡◌, ◌+◌, ◌*◌, ◌<◌, ◌≤◌, ◌&&◌, ℕ, [], IfOk, IfSome, OnErr, OnOk, Some, false, is_none, is_some, length, nat_le, sum_by, true};
 ghost use Rattle.xt_base.specs.Calls.{edited, invalidated, legs_after, without_hold};
-ghost use Rattle.xt_base.specs.Legs.{clean_leg, is_dirty, with_marks};
-ghost use Rattle.xt_base.specs.Maps.{has, is_in, with_member};
+ghost use Rattle.xt_base.specs.Chunks.{marks};
+ghost use Rattle.xt_base.specs.Legs.{change_of, clean_leg, is_dirty, with_marks};
+ghost use Rattle.xt_base.specs.Maps.{at, has, is_in, with_member};
+ghost use Rattle.xt_base.specs.Sound.{IsRising};
 ghost use Rattle.xt_base.specs.Space.{change_cost, charge, cost};
-ghost use Rattle.xt_journal.specs.Keeping.{changes_kept, leg_lost};
+ghost use Rattle.xt_frames.specs.Contents.{contents_of};
+ghost use Rattle.xt_frames.specs.Kept.{IsClean};
+ghost use Rattle.xt_journal.specs.Keeping.{edits_kept, leg_lost, marks_kept};
+ghost use Rattle.xt_journal.specs.Over.{changes_over, leg_over};
 ghost use Rattle.xt_mount.specs.Accounts.{opened_with};
+ghost use Rattle.xt_mount.specs.Shown.{HasFrames, IsStep, goes_in_place, has_in_place, shown_logged};
 ghost use Rattle.xt_resv.specs.Ledgers.{charged_with, is_fitting, is_no_room, regranted, ungranted};
 ghost use Rattle.xt_resv.specs.Mounts.{grant_of};
+ghost use Rattle.xt_vectors.specs.Edits.{own_edit};
 
+use std::alloc::{AllocError, Global};
 use std::marker::Model;
 use xt_base::chunks::Chunks;
+use xt_base::content::{Content, Data};
 use xt_base::form::Form;
 use xt_base::names::Block;
 use xt_base::newly::Newly;
-use xt_base::sizes::{CHUNKS, ROOM};
+use xt_base::sizes::{BLOCK_BYTES, CHUNKS, ROOM};
 use xt_journal::journal::Journal;
 use xt_resv::space::{LogSpace, Ticket};
 use xt_trans::trans::TransRec;
 use xt_vectors::edit::Edit;
+use xt_vectors::vector::VectorRoom;
 
 /// An open transaction: its ticket, which is charged what the leg's blocks and chunks are, and the leg. Like its ticket it can't be let go.
 #[derive(Debug)]
@@ -100,19 +110,202 @@ impl OpenTrans {
         LogSpace::fits(form, &self.ticket, self.leg.newly_invalidated(block.0))
     }
 
-    /// A block has these bytes in the leg, and these chunks are marked and charged too.
-    pub fn log(&mut self, form: Form, block: u64, edit: Edit, marked: Chunks)
+    // ---- bytes written
+    /// Writes bytes of a block from `first` on, and marks and charges their chunks: over the leg's own bytes, if it has some; else in
+    /// the block's frame, unless the leg sees zeros of it; else in a content of the leg's own. The one error is want of memory, and then
+    /// nothing changes.
+    pub fn log(
+        &mut self,
+        journal: &mut Journal,
+        alloc: Global,
+        block: u64,
+        first: u32,
+        bytes: &Data,
+    ) -> Result<(), AllocError>
+        requires few { is_in block self.old.leg.changes ≡ false → length self.old.leg.changes + length self.old.leg.holds < ROOM }
+        requires fits { charge journal.old.form.ends (edited block [] (marks first (length bytes.now)) self.old.leg).changes ≤ self.old.unit }
+        requires within { first + length bytes.now ≤ BLOCK_BYTES }
+        requires some { 0 < length bytes.now }
+        requires framed { has_in_place block self.old.leg ≡ true → is_in block journal.old.frames.frames ≡ true }
+        requires clean { has_in_place block self.old.leg ≡ false → IfSome (at block journal.old.frames.frames) IsClean }
+        ensures ok { OnOk result (IsStep block (shown_logged block first bytes.now journal.old self.old.leg) journal.new journal.old self.new self.old) }
+        ensures trans { OnErr result (self.new ≡ self.old) }
+        ensures journal { OnErr result (journal.new ≡ journal.old) }
+    {
+        if self.has_own(block) {
+            self.log_over(journal, block, first, bytes);
+            return Ok(());
+        }
+        if self.goes_in_place(journal, block) {
+            return self.log_in_place(journal, alloc, block, first, bytes);
+        }
+        self.log_own(journal, alloc, block, first, bytes)
+    }
+
+    /// Whether the leg has bytes of its own of a block.
+    fn has_own(&self, block: u64) -> bool
+        ensures { result ≡ is_some (own_edit (change_of block self.now.leg).edit) }
+    {
+        self.leg.edit(block).is_some()
+    }
+
+    /// Whether bytes that the leg writes of a block, of which it has none of its own, go into the block's frame.
+    fn goes_in_place(&self, journal: &Journal, block: u64) -> bool
+        ensures { result ≡ goes_in_place block self.now.leg journal.now.frames }
+    {
+        let frames = journal.frames();
+        let leg = &self.leg;
+        frames.frame(block).is_some()
+            && (leg.is_in_place(block) || !(frames.is_fresh(block) || leg.is_stale(block)))
+    }
+
+    /// Writes bytes over the leg's own bytes of a block. It takes no memory.
+    fn log_over(&mut self, journal: &Journal, block: u64, first: u32, bytes: &Data)
+        requires own { is_some (own_edit (change_of block self.old.leg).edit) ≡ true }
+        requires fits { charge journal.now.form.ends (edited block [] (marks first (length bytes.now)) self.old.leg).changes ≤ self.old.unit }
+        requires within { first + length bytes.now ≤ BLOCK_BYTES }
+        requires some { 0 < length bytes.now }
+        requires clean { has_in_place block self.old.leg ≡ false → IfSome (at block journal.now.frames.frames) IsClean }
+        ensures { IsStep block (shown_logged block first bytes.now journal.now self.old.leg) journal.now journal.now self.new self.old }
+    {
+        let marked = Chunks::mark(first, bytes.len() as u32);
+        self.leg.changes_rise();
+        pay_logged(journal.form(), &mut self.ticket, &self.leg, block, marked);
+        self.leg.write(block, first as usize, bytes, marked);
+    }
+
+    /// Writes bytes of a block in its frame. The one error is want of memory, and then nothing changes.
+    fn log_in_place(
+        &mut self,
+        journal: &mut Journal,
+        alloc: Global,
+        block: u64,
+        first: u32,
+        bytes: &Data,
+    ) -> Result<(), AllocError>
+        requires none { is_some (own_edit (change_of block self.old.leg).edit) ≡ false }
+        requires goes { goes_in_place block self.old.leg journal.old.frames ≡ true }
+        requires few { is_in block self.old.leg.changes ≡ false → length self.old.leg.changes + length self.old.leg.holds < ROOM }
+        requires fits { charge journal.old.form.ends (edited block [] (marks first (length bytes.now)) self.old.leg).changes ≤ self.old.unit }
+        requires within { first + length bytes.now ≤ BLOCK_BYTES }
+        requires some { 0 < length bytes.now }
+        requires clean { has_in_place block self.old.leg ≡ false → IfSome (at block journal.old.frames.frames) IsClean }
+        ensures ok { OnOk result (IsStep block (shown_logged block first bytes.now journal.old self.old.leg) journal.new journal.old self.new self.old) }
+        ensures trans { OnErr result (self.new ≡ self.old) }
+        ensures journal { OnErr result (journal.new ≡ journal.old) }
+    {
+        let room = self.room_of(journal, alloc, block)?;
+        self.changes_rise();
+        journal.frames().frames_rise();
+        journal.log_in_place(alloc, block, first, bytes)?;
+        let marked = Chunks::mark(first, bytes.len() as u32);
+        self.mark(journal.form(), block, room, marked);
+        Ok(())
+    }
+
+    /// Room for the log vector of a block that is to be changed in place; none where the block has it. The one error is want of memory.
+    fn room_of(
+        &self,
+        journal: &mut Journal,
+        alloc: Global,
+        block: u64,
+    ) -> Result<Option<VectorRoom>, AllocError>
+        ensures room { IfOk result (λ room. is_none room ≡ true → has_in_place block self.now.leg ≡ true) }
+        ensures journal { journal.new ≡ journal.old }
+    {
+        if self.leg.is_in_place(block) {
+            return Ok(None);
+        }
+        let room = VectorRoom::or_new(journal.take_room(), alloc)?;
+        Ok(Some(room))
+    }
+
+    /// Chunks of a block that is changed in place are marked and charged, with this room, or that which the block has. It takes no memory.
+    fn mark(&mut self, form: Form, block: u64, room: Option<VectorRoom>, marked: Chunks)
+        requires room { is_none room ≡ true → has_in_place block self.old.leg ≡ true }
+        requires few { is_in block self.old.leg.changes ≡ false → length self.old.leg.changes + length self.old.leg.holds < ROOM }
+        requires fits { charge form.ends (edited block [] marked self.old.leg).changes ≤ self.old.unit }
+        ensures { self.new ≡ record self.old { leg = edited block [] marked self.old.leg } }
+    {
+        match room {
+            Some(room) => self.keep_edit(form, block, Edit::in_place(room), marked),
+            None => self.mark_more(form, block, marked),
+        }
+    }
+
+    /// More chunks of a block that is changed in place are marked and charged. It takes no memory.
+    fn mark_more(&mut self, form: Form, block: u64, marked: Chunks)
+        requires there { has_in_place block self.old.leg ≡ true }
+        requires fits { charge form.ends (edited block [] marked self.old.leg).changes ≤ self.old.unit }
+        ensures { self.new ≡ record self.old { leg = edited block [] marked self.old.leg } }
+    {
+        pay_logged(form, &mut self.ticket, &self.leg, block, marked);
+        self.leg.mark(block, marked);
+    }
+
+    /// Writes bytes of a block of which the leg sees zeros in a content of the leg's own. The one error is want of memory, and then
+    /// nothing changes.
+    fn log_own(
+        &mut self,
+        journal: &mut Journal,
+        alloc: Global,
+        block: u64,
+        first: u32,
+        bytes: &Data,
+    ) -> Result<(), AllocError>
+        requires none { is_some (own_edit (change_of block self.old.leg).edit) ≡ false }
+        requires goes { goes_in_place block self.old.leg journal.old.frames ≡ false }
+        requires few { is_in block self.old.leg.changes ≡ false → length self.old.leg.changes + length self.old.leg.holds < ROOM }
+        requires fits { charge journal.old.form.ends (edited block [] (marks first (length bytes.now)) self.old.leg).changes ≤ self.old.unit }
+        requires within { first + length bytes.now ≤ BLOCK_BYTES }
+        requires some { 0 < length bytes.now }
+        requires framed { has_in_place block self.old.leg ≡ true → is_in block journal.old.frames.frames ≡ true }
+        requires clean { has_in_place block self.old.leg ≡ false → IfSome (at block journal.old.frames.frames) IsClean }
+        ensures ok { OnOk result (IsStep block (shown_logged block first bytes.now journal.old self.old.leg) journal.new journal.old self.new self.old) }
+        ensures trans { OnErr result (self.new ≡ self.old) }
+        ensures journal { OnErr result (journal.new ≡ journal.old) }
+    {
+        let mut content = Content::zeros(alloc, journal.form())?;
+        let room = VectorRoom::or_new(journal.take_room(), alloc)?;
+        content.write_data(first as usize, bytes);
+        let marked = Chunks::mark(first, bytes.len() as u32);
+        self.changes_rise();
+        self.keep_edit(journal.form(), block, Edit::own(content, room), marked);
+        Ok(())
+    }
+
+    /// The blocks that the leg changed or invalidated rise: for a proof, at run time nothing.
+    fn changes_rise(&self)
+        ensures { IsRising self.now.leg.changes }
+    {
+        self.leg.changes_rise();
+    }
+
+    /// A block has these bytes in the leg, and these chunks are marked and charged too. It takes no memory.
+    fn keep_edit(&mut self, form: Form, block: u64, edit: Edit, marked: Chunks)
         requires few { is_in block self.old.leg.changes ≡ false → length self.old.leg.changes + length self.old.leg.holds < ROOM }
         requires fits { charge form.ends (edited block [] marked self.old.leg).changes ≤ self.old.unit }
         ensures { self.new ≡ record self.old { leg = edited block edit marked self.old.leg } }
     {
-        let newly = self.leg.newly_logged(block, marked);
-        pay(form, &mut self.ticket, newly);
+        pay_logged(form, &mut self.ticket, &self.leg, block, marked);
         self.leg.log(block, edit, marked);
     }
 
-    /// The leg invalidates a block.
-    pub fn inval(&mut self, form: Form, block: u64)
+    // ---- other changes of the leg
+    /// The leg invalidates a block: what it changed of it in place is put back. It takes no memory.
+    pub fn inval(&mut self, journal: &mut Journal, block: u64)
+        requires few { is_in block self.old.leg.changes ≡ false → length self.old.leg.changes + length self.old.leg.holds < ROOM }
+        requires fits { charge journal.old.form.ends (invalidated block self.old.leg).changes ≤ self.old.unit }
+        ensures { IsStep block (invalidated block (leg_over journal.old.frames.frames self.old.leg)) journal.new journal.old self.new self.old }
+    {
+        journal.frames().frames_rise();
+        journal.undo(block);
+        self.changes_rise();
+        self.mark_stale(journal.form(), block);
+    }
+
+    /// The leg invalidates a block that it did not change in place, or of which that was put back. It takes no memory.
+    fn mark_stale(&mut self, form: Form, block: u64)
         requires few { is_in block self.old.leg.changes ≡ false → length self.old.leg.changes + length self.old.leg.holds < ROOM }
         requires fits { charge form.ends (invalidated block self.old.leg).changes ≤ self.old.unit }
         ensures { self.new ≡ record self.old { leg = invalidated block self.old.leg } }
@@ -139,16 +332,22 @@ impl OpenTrans {
 
     /// The leg is committed, and the next one begins. It takes no memory.
     pub fn roll(&mut self, journal: &mut Journal, space: &mut LogSpace)
-        requires contents { length journal.old.frames.committed + length self.old.leg.changes ≤ ROOM }
+        requires framed { HasFrames journal.old.frames.frames self.old.leg }
+        requires frames { length journal.old.frames.frames + length self.old.leg.changes ≤ ROOM }
         requires cil { length journal.old.lists.cil + length self.old.leg.changes ≤ ROOM }
         requires granted { self.old.unit * self.old.legs ≤ space.old.granted }
         requires legs { 1 ≤ self.old.legs }
         requires paid { cost journal.old.form.ends (with_marks self.old.leg.changes journal.old.lists.cil) ≤ space.old.cil + self.old.unit }
         requires room { is_no_room (grant_of self.old) (cost journal.old.form.ends (with_marks self.old.leg.changes journal.old.lists.cil)) space.old ≡ false }
         ensures trans { self.new ≡ record self.old { legs = legs_after self.old.legs; leg = clean_leg } }
-        ensures journal { journal.new ≡ changes_kept self.old.leg.changes journal.old }
+        ensures lists { journal.new.lists ≡ marks_kept (changes_over journal.old.frames.frames self.old.leg.changes) journal.old.lists }
+        ensures contents { contents_of journal.new.frames ≡ edits_kept (changes_over journal.old.frames.frames self.old.leg.changes) (contents_of journal.old.frames) }
+        ensures others { (b : ℕ) → is_in b self.old.leg.changes ≡ false → at b journal.new.frames.frames ≡ at b journal.old.frames.frames }
+        ensures clean { (b : ℕ) → is_in b self.old.leg.changes ≡ true → IfSome (at b journal.new.frames.frames) IsClean }
+        ensures rest { journal.new ≡ record journal.old { lists = journal.new.lists; frames = journal.new.frames } }
         ensures space { space.new ≡ regranted (grant_of self.old) (cost journal.old.form.ends (with_marks self.old.leg.changes journal.old.lists.cil)) space.old }
     {
+        self.leg.changes_rise();
         journal.keep_changes(&mut self.leg);
         self.leg.next_leg();
         match space.next_leg(&mut self.ticket, journal.cil_cost()) {
@@ -163,13 +362,26 @@ impl OpenTrans {
         requires fresh { length journal.old.frames.fresh + length self.old.leg.changes ≤ ROOM }
         requires granted { self.old.unit * self.old.legs ≤ space.old.granted }
         ensures trans { self.new ≡ record self.old { legs = 0; leg = clean_leg } }
-        ensures journal { journal.new ≡ record journal.old { frames = leg_lost self.old.leg journal.old.frames } }
+        ensures contents { contents_of journal.new.frames ≡ leg_lost self.old.leg (contents_of journal.old.frames) }
+        ensures others { (b : ℕ) → is_in b self.old.leg.changes ≡ false → at b journal.new.frames.frames ≡ at b journal.old.frames.frames }
+        ensures clean { (b : ℕ) → is_in b self.old.leg.changes ≡ true → IfSome (at b journal.new.frames.frames) IsClean }
+        ensures rest { journal.new ≡ record journal.old { frames = journal.new.frames } }
         ensures space { space.new ≡ ungranted (grant_of self.old) space.old.cil space.old }
     {
         journal.lose_leg(&mut self.leg);
         self.leg.next_leg();
         space.give_up(&mut self.ticket);
     }
+}
+
+/// Charges a ticket, whose unit has the room, these chunks of a block of a leg.
+fn pay_logged(form: Form, ticket: &mut Ticket, leg: &TransRec, block: u64, marked: Chunks)
+    requires charged { ticket.old.charged ≡ sum_by change_cost leg.now.changes }
+    requires fits { charge form.ends (edited block [] marked leg.now).changes ≤ ticket.old.unit }
+    ensures { ticket.new ≡ record ticket.old { charged = sum_by change_cost (edited block [] marked leg.now).changes } }
+{
+    let newly = leg.newly_logged(block, marked);
+    pay(form, ticket, newly);
 }
 
 /// Charges a ticket, whose unit has the room.

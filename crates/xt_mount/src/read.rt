@@ -14,23 +14,22 @@ ghost use Rattle.xt_mount.specs.Reads.{IsAnswered, is_given};
 
 use crate::get::is_at_end;
 use crate::machine::Machine;
+use crate::opened::LegSeen;
 use std::alloc::AllocError;
 use xt_base::content::Content;
 use xt_base::names::{Block, TransNo};
 use xt_base::steps::{Answer, Errno, Reason, Reply, Request};
-use xt_trans::trans::TransRec;
 
 impl Machine {
     /// Whether a block is the transaction's own, and fresh or stale.
-    fn is_unreadable(&self, leg: &TransRec, trans: TransNo, block: Block) -> bool
+    fn is_unreadable(&self, leg: &LegSeen<'_>, trans: TransNo, block: Block) -> bool
         ensures { result ≡ (is_own (state_of self.now) trans block && (is_fresh (state_of self.now) block || is_stale block leg.now)) }
     {
-        self.is_own(trans, block)
-            && (self.accounts.frames().is_fresh(block.0) || leg.is_stale(block.0))
+        self.is_own(trans, block) && (self.accounts.is_fresh(block.0) || leg.is_stale(block.0))
     }
 
     /// What refuses a read before its device is asked.
-    fn read_refusal(&self, leg: &TransRec, trans: TransNo, block: Block) -> Option<Errno>
+    fn read_refusal(&self, leg: &LegSeen<'_>, trans: TransNo, block: Block) -> Option<Errno>
         ensures refusal { result ≡ first_of (read_refusals trans block leg.now (state_of self.now)) }
         ensures room { result ≡ None → at_end (own_count trans (at block self.now.locks)) ≡ false }
         ensures free { result ≡ None → is_elsewhere (state_of self.now) trans block ≡ false }
@@ -51,8 +50,7 @@ impl Machine {
     fn is_resident(&self, block: Block) -> bool
         ensures { result ≡ is_resident (state_of self.now) block }
     {
-        (self.is_busy(block) && !self.accounts.frames().is_fresh(block.0))
-            || self.accounts.frames().is_idle(block.0)
+        (self.is_busy(block) && !self.accounts.is_fresh(block.0)) || self.accounts.is_idle(block.0)
     }
 
     /// Whether a block is neither the transaction's own nor resident.
@@ -80,7 +78,9 @@ impl Machine {
         ensures block { IfSome result (λ asked. asked ≡ block) }
     {
         let opened = self.accounts.get(trans.0)?;
-        if self.read_refusal(opened.leg(), trans, block).is_none() && self.is_absent(trans, block) {
+        if self.read_refusal(&opened.leg(), trans, block).is_none()
+            && self.is_absent(trans, block)
+        {
             Some(block)
         } else {
             None
@@ -140,7 +140,7 @@ impl Machine {
         let Some(opened) = self.accounts.get(trans.0) else {
             return Ok(Reply::Refused(Errno::Invalid));
         };
-        if let Some(errno) = self.read_refusal(opened.leg(), trans, block) {
+        if let Some(errno) = self.read_refusal(&opened.leg(), trans, block) {
             return Ok(Reply::Refused(errno));
         }
         if self.is_absent(trans, block) {

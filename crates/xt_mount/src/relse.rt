@@ -1,21 +1,24 @@
 //! Giving blocks back.
 
-ghost use Rattle.std.specs.Prelude.{◌≡◌, [], true, IfSome};
-ghost use Rattle.xt_base.specs.Calls.{gives, relse as relse_step, unowned, with_leg, with_trans, without_hold};
+ghost use Rattle.std.specs.Prelude.{◌≡◌, [], false, true, IfSome};
+ghost use Rattle.xt_base.specs.Calls.{gives, is_own, relse as relse_step, unowned, with_leg, with_trans, without_hold};
 ghost use Rattle.xt_base.specs.Maps.{at, is_in};
 ghost use Rattle.xt_base.specs.Settle.{settled};
 ghost use Rattle.xt_base.specs.Sound.{AreKept, IsSound};
 ghost use Rattle.xt_base.specs.Space.{is_busy};
 ghost use Rattle.xt_mount.specs.Machines.{state_of};
+ghost use Rattle.xt_mount.specs.Settling.{AreChangedBusy};
 
 use crate::machine::Machine;
 use xt_base::names::{Block, TransNo};
 use xt_base::steps::{Errno, Reply};
 
 impl Machine {
-    /// A block has no owner any more, and settles; each other block that has a content or a fresh mark is busy.
+    /// A block that no open transaction has changed has no owner any more, and settles; each other block that has a content or a fresh
+    /// mark is busy.
     pub fn free(&mut self, block: Block)
-        requires { AreKept (is_busy (state_of self.old)) (state_of self.old).frames }
+        requires kept { AreKept (is_busy (state_of self.old)) (state_of self.old).frames }
+        requires changed { AreChangedBusy (is_busy (unowned block (state_of self.old))) (state_of self.old).transactions }
         ensures { state_of self.new ≡ settled [] (unowned block (state_of self.old)) }
     {
         self.locks.unlock(block);
@@ -26,6 +29,8 @@ impl Machine {
     fn give_back(&mut self, trans: TransNo, block: Block)
         requires there { is_in trans self.old.accounts.transactions ≡ true }
         requires sound { IsSound (state_of self.old) }
+        requires own { is_own (state_of self.old) trans block ≡ true }
+        requires unchanged { IfSome (at trans self.old.accounts.transactions) (λ t. is_in block t.leg.changes ≡ false) }
         ensures { IfSome (at trans self.old.accounts.transactions) (λ t. state_of self.new ≡ settled [] (unowned block (with_leg trans t (without_hold block t.leg) (state_of self.old)))) }
     {
         self.mark_unheld(trans, block);

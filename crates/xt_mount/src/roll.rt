@@ -34,7 +34,7 @@ impl Machine {
         if self.is_shut() {
             return self.roll_shut(trans);
         }
-        if self.accounts.finds_no_room(opened) {
+        if self.accounts.finds_no_room(&opened) {
             self.ask_space();
             return Ok(Reply::Refused(Errno::Again));
         }

@@ -6,7 +6,7 @@ ghost use Rattle.xt_base.specs.Sound.{IsRising};
 ghost use Rattle.xt_base.specs.Space.{is_busy};
 ghost use Rattle.xt_frames.specs.Settling.{AreOthersBusy};
 ghost use Rattle.xt_mount.specs.Machines.{state_of};
-ghost use Rattle.xt_mount.specs.Settling.{is_busy_in};
+ghost use Rattle.xt_mount.specs.Settling.{AreChangedBusy, is_busy_in};
 
 use crate::machine::Machine;
 use xt_base::names::Block;
@@ -15,6 +15,7 @@ impl Machine {
     /// Contents of blocks that are no longer busy go, on a live mount to the front of the idle list,
     /// ascending by block; their fresh marks go. It takes no memory.
     pub fn settle(&mut self)
+        requires { AreChangedBusy (is_busy (state_of self.old)) (state_of self.old).transactions }
         ensures { state_of self.new ≡ settled [] (state_of self.old) }
     {
         self.accounts.settle(&self.locks);
@@ -24,6 +25,7 @@ impl Machine {
     pub fn settle_block(&mut self, block: Block)
         requires rising { IsRising self.old.accounts.frames.committed }
         requires others { AreOthersBusy (is_busy_in self.old.locks self.old.accounts.items) block self.old.accounts.frames }
+        requires changed { AreChangedBusy (is_busy_in self.old.locks self.old.accounts.items) self.old.accounts.transactions }
         ensures { state_of self.new ≡ settled [] (state_of self.old) }
     {
         self.accounts.settle_block(&self.locks, block.0);
@@ -33,6 +35,7 @@ impl Machine {
     pub fn settle_unless(&mut self, stays: bool)
         requires rising { IsRising (state_of self.old).frames.committed }
         requires others { stays ≡ true → AreOthersBusy (is_busy (state_of self.old)) 0 (state_of self.old).frames }
+        requires changed { AreChangedBusy (is_busy (state_of self.old)) (state_of self.old).transactions }
         ensures { state_of self.new ≡ settled [] (state_of self.old) }
     {
         if stays {

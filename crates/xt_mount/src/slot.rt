@@ -13,7 +13,7 @@ ghost use Rattle.xt_base.specs.declared.steps.Reply.{Reply as AReply};
 ghost use Rattle.xt_base.specs.declared.steps.Step.{Step as AStep};
 ghost use Rattle.xt_frames.specs.Shares.{no_contents};
 ghost use Rattle.xt_mount.specs.Come.{new_refusals, read_block};
-ghost use Rattle.xt_mount.specs.Slots.{contents_in, form_in, life_in, owed_in, pieces_in, plan_in, stage_in, share_left, unused, IsAnsweredUnlessMemory, IsServed, IsServedUnlessMemory};
+ghost use Rattle.xt_mount.specs.Slots.{contents_in, form_in, life_in, owed_in, pieces_in, plan_in, stage_in, share_left, unused, IsAnsweredUnlessMemory, IsServed, IsServedUnlessMemory, IsUnchangedIn};
 
 use crate::mount::{Mount, Stage};
 use crate::state::SlotState;
@@ -181,10 +181,11 @@ impl MountSlot {
     }
 
     /// The blocks that a flush writes home now, 0 to 8, in the order of their writes; none in an empty slot. Each has a committed
-    /// content. It takes no memory.
+    /// content, and no open transaction has changed it. It takes no memory.
     pub fn flush_plan(&self) -> FlushPlan
         ensures plan { result ≡ plan_in self.now.mounted }
         ensures committed { All (λ b. is_in b (contents_in self.now.mounted) ≡ true) result }
+        ensures unchanged { All (λ b. IsUnchangedIn b self.now.mounted) result }
     {
         match &self.mount {
             Some(mount) => match mount.flush_plan() {
@@ -195,8 +196,10 @@ impl MountSlot {
         }
     }
 
-    /// The committed content of a block, 4,096 bytes: what a flush writes home. None where the mount keeps none.
+    /// The committed content of a block that no open transaction has changed, 4,096 bytes: what a flush writes home. None where the mount
+    /// keeps none.
     pub fn committed(&self, block: Block) -> Option<&[u8]>
+        requires { IsUnchangedIn block self.now.mounted }
         ensures value { option_copied result ≡ at block (contents_in self.now.mounted) }
         ensures whole { IfSome result (λ bytes. length bytes.now ≡ BLOCK_BYTES) }
     {

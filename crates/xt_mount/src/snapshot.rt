@@ -6,17 +6,16 @@ ghost use Rattle.xt_mount.specs.Machines.{state_of};
 use crate::accounts::Accounts;
 use crate::ckpt::shared_pieces;
 use crate::machine::Machine;
-use crate::open_trans::OpenTrans;
+use crate::opened::Opened;
 use crate::state::{FlightState, FramesState, ItemsState, State, TransState};
 use std::alloc::{AllocError, Global};
-use xt_frames::frames::Frames;
 
 impl Machine {
     /// The mount as a plain value. The one error is want of memory.
     pub fn snapshot(&self) -> Result<State, AllocError>
         ensures { IfOk result (λ state. state ≡ state_of self.now) }
     {
-        let frames = frames_copy(self.alloc, self.accounts.frames())?;
+        let frames = frames_copy(self.alloc, &self.accounts)?;
         let owners = copies_of(self.alloc, self.locks.owners())?;
         let transactions = transactions_copy(self.alloc, &self.accounts)?;
         let items = items_copy(self.alloc, &self.accounts)?;
@@ -46,12 +45,12 @@ pub(crate) fn copies_of<T: Copy>(alloc: Global, values: &[T]) -> Result<Vec<T>, 
 }
 
 /// The contents that a mount keeps, copied. The one error is want of memory.
-fn frames_copy(alloc: Global, frames: &Frames) -> Result<FramesState, AllocError>
-    ensures { IfOk result (λ copy. copy ≡ frames.now) }
+fn frames_copy(alloc: Global, accounts: &Accounts) -> Result<FramesState, AllocError>
+    ensures { IfOk result (λ copy. copy ≡ accounts.now.frames) }
 {
-    let committed = frames.committed(alloc)?;
-    let fresh = frames.fresh(alloc)?;
-    let idle = frames.idle(alloc)?;
+    let committed = accounts.committed_copies(alloc)?;
+    let fresh = accounts.fresh_copies(alloc)?;
+    let idle = accounts.idle_copies(alloc)?;
     Ok(FramesState {
         committed,
         fresh,
@@ -60,13 +59,13 @@ fn frames_copy(alloc: Global, frames: &Frames) -> Result<FramesState, AllocError
 }
 
 /// An open transaction, copied. The one error is want of memory.
-fn trans_copy(alloc: Global, opened: &OpenTrans) -> Result<TransState, AllocError>
+fn trans_copy(alloc: Global, opened: &Opened<'_>) -> Result<TransState, AllocError>
     ensures { IfOk result (λ copy. copy ≡ opened.now) }
 {
     let changes = opened.leg().changes(alloc)?;
     let holds = opened.leg().holds(alloc)?;
     Ok(TransState {
-        unit: opened.ticket().unit(),
+        unit: opened.unit(),
         legs: opened.legs(),
         perm: opened.perm(),
         changes,
@@ -82,8 +81,10 @@ fn transactions_copy(
     ensures { IfOk result (λ copies. copies.items ≡ accounts.now.transactions) }
 {
     let mut copies = Vec::new(alloc);
-    for e in accounts.transactions() {
-        copies.push((e.0, trans_copy(alloc, &e.1)?))?;
+    let mut index = 0;
+    while let Some((number, opened)) = accounts.opened_at(index) {
+        copies.push((number, trans_copy(alloc, &opened)?))?;
+        index += 1;
     }
     Ok(copies)
 }

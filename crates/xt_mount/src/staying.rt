@@ -8,11 +8,11 @@ ghost use Rattle.xt_mount.specs.Machines.{state_of};
 ghost use Rattle.xt_mount.specs.Settling.{has_cancel, has_unchanged};
 
 use crate::machine::Machine;
+use crate::opened::LegSeen;
 use xt_base::chunks::Chunks;
 use xt_base::names::TransNo;
 use xt_base::steps::Owner;
 use xt_locks::locks::Locks;
-use xt_trans::trans::TransRec;
 
 /// Whether an owner is this transaction.
 fn is_of(owner: &Owner, trans: TransNo) -> bool
@@ -22,7 +22,7 @@ fn is_of(owner: &Owner, trans: TransNo) -> bool
 }
 
 /// Whether a transaction has a block that its leg did not change: it settles where the leg is committed, unless it is listed or held.
-fn has_unchanged(locks: &Locks, trans: TransNo, leg: &TransRec) -> bool
+fn has_unchanged(locks: &Locks, trans: TransNo, leg: &LegSeen<'_>) -> bool
     ensures { result ≡ has_unchanged trans leg.now locks.now }
 {
     locks.owners().iter().any(|(block, owner)| is_of(owner, trans) && !leg.is_changed(*block))
@@ -43,7 +43,7 @@ impl Machine {
         let Some(opened) = self.accounts.get(trans.0) else {
             return false;
         };
-        !has_unchanged(&self.locks, trans, opened.leg())
+        !has_unchanged(&self.locks, trans, &opened.leg())
     }
 
     /// Whether the mount is live and has a flight that cancels no block.

@@ -15,6 +15,7 @@ use Rattle.xt_base.specs.State.{Change, Leg}
 use Rattle.xt_base.specs.Views.{key_if, viewed}
 use Rattle.xt_trans.specs.LegItems.{AreItems, IsFit, IsItem, IsKept, blank, change_if, change_in, change_seen, is_item_dirty, is_item_held, item_at, leg_of, no_change}
 use Rattle.xt_trans.specs.declared.trans.BufItem.{BufItem}
+use Rattle.xt_vectors.specs.Edits.{is_in_place, own_edit}
 
 -- a leg of these changes and holds
 abbrev leg : List (ℕ × Change) → List ℕ → Leg
@@ -201,6 +202,19 @@ pub room_held : (b : ℕ) (es : List (ℕ × BufItem)) → AreItems es → (has 
 room_held b es are room absent =
     let blank_there = item_absent b es absent in
     omega (arith, length_items es are.kept, room (hold_is b es are ∙ ap is_item_held blank_there))
+
+-- a block with bytes of its own has an entry
+pub room_own : (b : ℕ) (es : List (ℕ × BufItem)) → is_some (own_edit (item_at b es).edit) ≡ true → is_in b es ≡ false → length es < 128
+room_own b es own absent = absurd (false≢true (sym (ap (λ (i : BufItem). is_some (own_edit i.edit)) (item_absent b es absent)) ∙ own))
+
+-- one that is changed in place has one too, and no bytes
+pub in_place_is : (o : Option (List ℕ)) → is_in_place o ≡ true → o ≡ Some []
+in_place_is None here = absurd (false≢true here)
+in_place_is (Some []) here = refl
+in_place_is (Some (x ∷ xs)) here = absurd (false≢true here)
+
+pub room_in_place : (b : ℕ) (es : List (ℕ × BufItem)) → is_in_place (item_at b es).edit ≡ true → is_in b es ≡ false → length es < 128
+room_in_place b es here absent = absurd (false≢true (sym (ap (λ (i : BufItem). is_in_place i.edit) (item_absent b es absent)) ∙ here))
 
 -- ---- what stays true of the entries
 or_true : (b : Bool) → (b || true) ≡ true

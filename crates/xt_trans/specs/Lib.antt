@@ -1,1 +1,2 @@
+pub mod ChangeMarks
 pub mod LegItems

@@ -5,4 +5,4 @@
 mod tests;
 pub mod trans;
 
-pub use trans::{Change, ChangeState, TransRec};
+pub use trans::{Change, ChangeMarks, ChangeState, TransRec};

@@ -20,10 +20,10 @@ fn memory_refused(rt: HostRuntime) {
         return;
     };
     leg.hold(7);
-    leg.log(7, Edit::new(content, room), Chunks::mark(0, 1));
-    let is_seen = leg.seen(alloc, Form::one(), None, 7, false, None).is_ok();
+    leg.log(7, Edit::own(content, room), Chunks::mark(0, 1));
+    let is_listed = leg.changes(alloc).is_ok();
     let is_told = leg.held(alloc).is_ok();
-    assert!(rt; is_seen || is_told);
-    assert!(rt; leg.is_held(7) && leg.is_changed(7));
+    assert!(rt; is_listed || is_told);
+    assert!(rt; leg.is_held(7) && leg.is_changed(7) && !leg.is_in_place(7));
     assert_eq!(rt; leg.newly_logged(7, Chunks::mark(0, 200)).chunks, 1);
 }

@@ -1,27 +1,28 @@
 //! What the present leg of a transaction did to its blocks: the bytes written, the chunks marked and charged, and which blocks
 //! are invalidated or stay locked when the leg ends.
 
-ghost use Rattle.std.specs.Prelude.{ℕ, ◌≡◌, ◌+◌, ◌*◌, ◌<◌, ◌≤◌, ◌==◌, ◌∷◌, [], Some, None, false, true, if◌then◌else◌, length, option_copied, option_map, sum_by, unwrap_or, IfOk, OnErr, IfSome, MatchOption, is_none};
-ghost use Rattle.xt_base.specs.Calls.{edited, held_of, invalidated as invalidated_leg, seen_with, without_hold};
+ghost use Rattle.std.specs.Prelude.{ℕ, ◌≡◌, ◌+◌, ◌*◌, ◌<◌, ◌≤◌, ◌==◌, ◌∷◌, [], Some, None, false, true, if◌then◌else◌, length, option_copied, option_map, sum_by, unwrap_or, IfOk, OnErr, IfSome, MatchOption, is_none, is_some};
+ghost use Rattle.xt_base.specs.Calls.{edited, held_of, invalidated as invalidated_leg, overwritten, without_hold};
 ghost use Rattle.xt_base.specs.Chunks.{union as either};
 ghost use Rattle.xt_base.specs.Legs.{change_of, clean_leg, is_dirty, is_stale, joined_marks, with_marks};
 ghost use Rattle.xt_base.specs.Maps.{at, has, is_in, with_member, without};
 ghost use Rattle.xt_base.specs.Marks.{marks_of, no_marks};
 ghost use Rattle.xt_base.specs.Sound.{IsRising};
 ghost use Rattle.xt_base.specs.Space.{charge, cost, item_cost};
-ghost use Rattle.xt_base.specs.Text.{zeros};
+ghost use Rattle.xt_trans.specs.ChangeMarks.{change_marks, marks_in};
 ghost use Rattle.xt_trans.specs.LegItems.{AreItems, blank, change_in, gain_in, item_at, item_gain, item_loss, leg_of, loss_in, no_change};
+ghost use Rattle.xt_vectors.specs.Edits.{is_in_place, own_edit};
 
 use std::alloc::{AllocError, Global};
 use std::marker::Model;
 use xt_base::chunks::Chunks;
-use xt_base::content::{Content, HeldBlocks};
+use xt_base::content::{Content, Data, HeldBlocks};
 use xt_base::form::Form;
 use xt_base::map::NumberMap;
 use xt_base::marks::ItemMarks;
 use xt_base::names::Block;
 use xt_base::newly::Newly;
-use xt_base::sizes::{BUSY_BLOCKS, CHUNK_COST, CHUNKS, ITEM_COST, MOST_ENDS, ROOM};
+use xt_base::sizes::{BLOCK_BYTES, BUSY_BLOCKS, CHUNK_COST, CHUNKS, ITEM_COST, MOST_ENDS, ROOM};
 use xt_vectors::edit::Edit;
 
 /// What a leg did to one block, after `xfs_buf_log_item`: its marks, the bytes, if it was changed, the chunks marked, and
@@ -34,7 +35,7 @@ struct BufItem {
     charged: Chunks,
 }
 
-/// What a leg did to a block that it changed or invalidated: its bytes (none where it was invalidated), the chunks marked, and
+/// What a leg did to a block that it changed or invalidated: its edit (none where it was invalidated), the chunks marked, and
 /// the chunks charged.
 #[derive(Debug, Drop)]
 pub struct Change {
@@ -51,7 +52,15 @@ impl Model for Change {
     ghost view = { λ c. record { edit = c.edit; marks = c.marks; charged = c.charged } };
 }
 
-/// The same as a plain value, with no room for what its commit makes.
+/// What a leg did to such a block, without its bytes: whether it was invalidated, the chunks marked, and the chunks charged.
+#[derive(Clone, Copy, Debug)]
+pub struct ChangeMarks {
+    pub is_stale: bool,
+    pub marks: Chunks,
+    pub charged: Chunks,
+}
+
+/// What a leg did to such a block as a plain value, with no room for what its commit makes.
 #[derive(Debug, Drop)]
 pub struct ChangeState {
     pub edit: Option<Content>,
@@ -68,8 +77,7 @@ impl Model for ChangeState {
 }
 
 /// What the present leg of a transaction did, with room for the blocks of a mount: one entry for each block that it changed,
-/// invalidated or holds. Clauses see the leg. No call but `new`, `seen`, `held`, `changes` and `holds` takes
-/// memory.
+/// invalidated or holds. Clauses see the leg. No call but `new`, `held`, `changes` and `holds` takes memory.
 #[derive(Debug, Drop)]
 pub struct TransRec {
     items: NumberMap<BufItem>,
@@ -130,9 +138,9 @@ impl TransRec {
         }
     }
 
-    /// The leg's bytes of a block.
+    /// The leg's own bytes of a block, if it has some: none of one that is changed in place.
     pub fn edit(&self, block: u64) -> Option<&Content>
-        ensures { option_copied result ≡ (change_of block self.now).edit }
+        ensures { option_copied result ≡ own_edit (change_of block self.now).edit }
     {
         match self.changed(block) {
             Some(item) => content_of(&item.edit),
@@ -140,29 +148,13 @@ impl TransRec {
         }
     }
 
-    /// A copy of what the leg sees of a block, which is fresh or not and has this committed content, if any: its edit, else zeros
-    /// where it is fresh or stale, else the committed content. The copy may take the place of a spare content. The one error is
-    /// want of memory.
-    pub fn seen(
-        &self,
-        alloc: Global,
-        form: Form,
-        spare: Option<Content>,
-        block: u64,
-        is_fresh: bool,
-        committed: Option<&Content>,
-    ) -> Result<Content, AllocError>
-        ensures { IfOk result (λ content. content ≡ seen_with form.size block self.now is_fresh (unwrap_or (option_copied committed.entry) (zeros form.size))) }
+    /// Whether the leg changes a block in place: without bytes of its own.
+    pub fn is_in_place(&self, block: u64) -> bool
+        ensures { result ≡ is_in_place (change_of block self.now).edit }
     {
-        if let Some(edit) = self.edit(block) {
-            return edit.copy_over(alloc, spare);
-        }
-        if is_fresh || self.is_stale(block) {
-            return Content::zeros(alloc, form);
-        }
-        match committed {
-            Some(content) => content.copy_over(alloc, spare),
-            None => Content::zeros(alloc, form),
+        match self.changed(block) {
+            Some(item) => has_no_content(&item.edit),
+            None => false,
         }
     }
 
@@ -235,9 +227,10 @@ impl TransRec {
         HeldBlocks::of(alloc, blocks)
     }
 
-    /// Copies of what the leg did to the blocks that it changed or invalidated, by rising block. The one error is want of memory.
-    pub fn changes(&self, alloc: Global) -> Result<Vec<(u64, ChangeState)>, AllocError>
-        ensures { IfOk result (λ changes. changes.items ≡ self.now.changes) }
+    /// What the leg did to the blocks that it changed or invalidated, without their bytes, by rising block. The one error is want
+    /// of memory.
+    pub fn changes(&self, alloc: Global) -> Result<Vec<(u64, ChangeMarks)>, AllocError>
+        ensures { IfOk result (λ changes. changes.items ≡ change_marks self.now.changes) }
     {
         changes_of(alloc, self.items.entries())
     }
@@ -249,13 +242,35 @@ impl TransRec {
         held_blocks(alloc, self.items.entries())
     }
 
-    /// A block has these bytes in the leg, and these chunks are marked and charged too. One that was invalidated is so no more.
+    /// A block has these bytes in the leg, none where it is changed in place, and these chunks are marked and charged too. One that was
+    /// invalidated is so no more.
     pub fn log(&mut self, block: u64, edit: Edit, marked: Chunks)
         requires { is_in block self.old.changes ≡ false → length self.old.changes + length self.old.holds < ROOM }
         ensures { self.new ≡ edited block edit marked self.old }
     {
         let item = take_item(&mut self.items, block);
         self.items.put(block, logged(item, edit, marked));
+    }
+
+    /// Bytes are written from `first` on over the leg's own bytes of a block, and these chunks are marked and charged too. It takes
+    /// no memory.
+    pub fn write(&mut self, block: u64, first: usize, bytes: &Data, marked: Chunks)
+        requires own { is_some (own_edit (change_of block self.old).edit) ≡ true }
+        requires within { first + length bytes.now ≤ BLOCK_BYTES }
+        ensures { self.new ≡ edited block (overwritten first bytes.now (unwrap_or (change_of block self.old).edit [])) marked self.old }
+    {
+        let item = take_item(&mut self.items, block);
+        let item = written(item, first, bytes);
+        self.items.put(block, marked_too(item, marked));
+    }
+
+    /// More chunks of a block that is changed in place are marked and charged. It takes no memory.
+    pub fn mark(&mut self, block: u64, marked: Chunks)
+        requires { is_in_place (change_of block self.old).edit ≡ true }
+        ensures { self.new ≡ edited block [] marked self.old }
+    {
+        let item = take_item(&mut self.items, block);
+        self.items.put(block, marked_too(item, marked));
     }
 
     /// A block is invalidated: its bytes, marks and hold mark go, and what it was charged stays.
@@ -306,6 +321,13 @@ impl TransRec {
         self.items.clear();
     }
 
+    /// The blocks that it changed or invalidated rise: for a proof, at run time nothing.
+    pub fn changes_rise(&self)
+        ensures { IsRising self.now.changes }
+    {
+        let _ = &self.items;
+    }
+
     /// The entry of a block that the leg changed or invalidated.
     fn changed(&self, block: u64) -> Option<&BufItem>
         ensures value { option_map change_in (option_copied result) ≡ at block self.now.changes }
@@ -331,13 +353,23 @@ impl TransRec {
     }
 }
 
-/// The bytes of an edit.
+/// The leg's own bytes in an edit, if there are some.
 fn content_of(edit: &Option<Edit>) -> Option<&Content>
-    ensures { option_copied result ≡ edit.now }
+    ensures { option_copied result ≡ own_edit edit.now }
 {
     match edit {
-        Some(edit) => Some(edit.content()),
+        Some(edit) => edit.content(),
         None => None,
+    }
+}
+
+/// Whether there is an edit without bytes of its own.
+fn has_no_content(edit: &Option<Edit>) -> bool
+    ensures { result ≡ is_in_place edit.now }
+{
+    match edit {
+        Some(edit) => edit.content().is_none(),
+        None => false,
     }
 }
 
@@ -426,36 +458,31 @@ fn held_blocks(alloc: Global, items: &[(u64, BufItem)]) -> Result<Vec<Block>, Al
     Ok(blocks)
 }
 
-/// Copies of the changes of the dirty entries.
+/// The changes of the dirty entries, without their bytes.
 fn changes_of(
     alloc: Global,
     items: &[(u64, BufItem)],
-) -> Result<Vec<(u64, ChangeState)>, AllocError>
-    ensures { IfOk result (λ changes. changes.items ≡ (leg_of items.now).changes) }
+) -> Result<Vec<(u64, ChangeMarks)>, AllocError>
+    ensures { IfOk result (λ changes. changes.items ≡ change_marks (leg_of items.now).changes) }
 {
     let mut changes = Vec::new(alloc);
     for e in items {
         if e.1.marks.is_dirty() {
-            let change = change_copy(alloc, &e.1)?;
-            changes.push((e.0, change))?;
+            changes.push((e.0, marks_of_change(&e.1)))?;
         }
     }
     Ok(changes)
 }
 
-/// A copy of an entry's change. The one error is want of memory.
-fn change_copy(alloc: Global, item: &BufItem) -> Result<ChangeState, AllocError>
-    ensures { IfOk result (λ change. change ≡ change_in item.now) }
+/// An entry's change, without its bytes.
+fn marks_of_change(item: &BufItem) -> ChangeMarks
+    ensures { result ≡ marks_in (change_in item.now) }
 {
-    let edit = match &item.edit {
-        Some(edit) => Some(edit.content().copy(alloc)?),
-        None => None,
-    };
-    Ok(ChangeState {
-        edit,
+    ChangeMarks {
+        is_stale: item.edit.is_none(),
         marks: item.chunks,
         charged: item.charged,
-    })
+    }
 }
 
 /// The block of the first dirty entry.
@@ -563,6 +590,30 @@ fn logged(item: BufItem, edit: Edit, marked: Chunks) -> BufItem
         chunks: item.chunks.union(marked),
         charged: item.charged.union(marked),
     }
+}
+
+/// An entry of a block of which these chunks are marked and charged too.
+fn marked_too(mut item: BufItem, marked: Chunks) -> BufItem
+    ensures marks { marks_of result.marks ≡ record (marks_of item.marks) { stale = false; dirty = true } }
+    ensures change { change_in result ≡ record { edit = item.edit; marks = either item.chunks marked; charged = either item.charged marked } }
+{
+    item.marks = item.marks.with(ItemMarks::DIRTY).without(ItemMarks::STALE);
+    item.chunks = item.chunks.union(marked);
+    item.charged = item.charged.union(marked);
+    item
+}
+
+/// An entry over whose own bytes others are written from `first` on.
+fn written(mut item: BufItem, first: usize, bytes: &Data) -> BufItem
+    requires own { is_some (own_edit item.edit) ≡ true }
+    requires within { first + length bytes.now ≤ BLOCK_BYTES }
+    ensures marks { result.marks ≡ item.marks }
+    ensures change { change_in result ≡ record (change_in item) { edit = Some (overwritten first bytes.now (unwrap_or item.edit [])) } }
+{
+    if let Some(edit) = &mut item.edit {
+        edit.write(first, bytes);
+    }
+    item
 }
 
 /// An entry whose block is invalidated.

@@ -1,10 +1,12 @@
 -- The chunks of a word of bits, one by one.
-use Rattle.std.proofs.Common.{◌≡◌, ◌∙◌, ◌+◌, ◌*◌, ◌≤◌, ℕ, List, [], ◌∷◌, ◌++◌, Bool, true, false, ap, refl, length, arith, filter, if◌then◌else◌, add-one, append-nil, length-append}
+use Rattle.std.proofs.Common.{◌≡◌, ◌∙◌, ◌+◌, ◌*◌, ◌≤◌, ℕ, List, [], ◌∷◌, ◌++◌, Bool, true, false, ap, refl, length, arith, filter, if◌then◌else◌, add-one, append-nil, length-append, suc, sym, take, zero}
+use Rattle.std.proofs.Math.Seq.{take-add, take-length}
 use Rattle.std.specs.Prelude.{◌==◌, flat_map}
 use Rattle.std.specs.Int.{bit_at}
 use Rattle.std.proofs.lemmas.List.Concat.{flat_map-append}
 use Rattle.std.proofs.lemmas.List.Elements.{filter-append}
 use Rattle.xt_base.specs.Chunks.{below, chunks_where, places_of}
+use Rattle.xt_base.specs.Text.{chunk, chunk_bytes}
 
 -- one number more below
 marked_one : (p : ℕ → Bool) (k : ℕ) → filter p (below (k + 1)) ≡ filter p (below k) ++ filter p (k ∷ [])
@@ -36,3 +38,24 @@ marked_all word k set low high is = ap (λ n. filter (λ i. bit_at word i == 1) 
 pub one_more : (b : Bool) → (if b then 128 else 0) ≤ 128
 one_more true = omega arith
 one_more false = omega arith
+
+-- a word of all bits has all numbers
+pub all_marked : places_of 4294967295 ≡ below 32
+unfolding chunks_where
+all_marked = refl
+
+-- the first n chunks of a content
+first_chunks : (n : ℕ) (xs : List ℕ) → flat_map (chunk xs) (below n) ≡ take (128 * n) xs
+first_chunks zero xs = refl
+first_chunks (suc n) xs =
+    let more : 128 * n + 128 ≡ 128 * suc n = omega arith in
+    flat_map-append (chunk xs) (below n) (n ∷ []) ∙ ap (λ ys. ys ++ flat_map (chunk xs) (n ∷ [])) (first_chunks n xs) ∙ ap (λ ys. take (128 * n) xs ++ ys) (append-nil (chunk xs n))
+    ∙ sym (take-add (128 * n) 128 xs) ∙ ap (λ m. take m xs) more
+
+-- all chunks of a content are its bytes
+pub whole_content : (word : ℕ) (set xs : List ℕ) → word ≡ 4294967295 → places_of word ≡ set → length xs ≡ 4096 → xs ≡ chunk_bytes xs set
+whole_content word set xs all is whole =
+    sym (take-length xs) ∙ ap (λ n. take n xs) whole ∙ sym (first_chunks 32 xs) ∙ ap (flat_map (chunk xs)) (sym all_marked ∙ ap places_of (sym all) ∙ is)
+
+pub whole_count : (word : ℕ) (set : List ℕ) → word ≡ 4294967295 → places_of word ≡ set → 4096 ≡ 128 * length set
+whole_count word set all is = ap (λ (xs : List ℕ). 128 * length xs) (sym all_marked ∙ ap places_of (sym all) ∙ is)

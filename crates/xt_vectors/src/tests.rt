@@ -12,10 +12,13 @@ use xt_base::form::Form;
 fn two_chunks(alloc: Global) -> Result<LogVector, AllocError> {
     let mut content = Content::zeros(alloc, Form::one())?;
     content.write(130, &[7]);
-    let edit = Edit::new(content, VectorRoom::new(alloc)?);
-    let (content, room) = edit.into_parts();
+    let edit = Edit::own(content, VectorRoom::new(alloc)?);
     let chunks = Chunks::mark(130, 1).union(Chunks::mark(400, 1));
-    Ok(room.filled(&content, chunks))
+    let (content, room) = edit.into_parts();
+    match content {
+        Some(content) => Ok(room.filled(&content, chunks)),
+        None => Ok(LogVector::none()),
+    }
 }
 
 /// A vector has the bytes of its chunks, or its room was refused: run it with each allocation failing in turn.

@@ -2,6 +2,7 @@
 
 ghost use Rattle.std.specs.Int.{bit_at};
 ghost use Rattle.std.specs.Prelude.{◌≡◌, ◌+◌, ◌*◌, ◌≤◌, ◌<◌, ◌++◌, ◌==◌, [], IfOk, if◌then◌else◌, length, vec_capacity};
+ghost use Rattle.xt_base.specs.Chunks.{places_of};
 ghost use Rattle.xt_base.specs.Text.{chunk, chunk_bytes};
 ghost use Rattle.xt_vectors.specs.Vectors.{no_vector, vector};
 
@@ -21,13 +22,13 @@ pub struct LogVector {
 impl Model for LogVector {
     ghost use Rattle.std.specs.Prelude.{◌≡◌, ◌*◌, length};
     ghost use Rattle.xt_base.specs.declared.sizes.TheConstants.{CHUNK_BYTES};
-    ghost use Rattle.xt_vectors.specs.Vectors.{Vector, bytes_in};
+    ghost use Rattle.xt_vectors.specs.Vectors.{HasRoom, Vector, bytes_in};
 
     ghost Value = { Vector };
 
     ghost view = { λ v. record { chunks = v.chunks; bytes = bytes_in v.bytes } };
 
-    ghost invariant = { λ v. length (bytes_in v.bytes) ≡ CHUNK_BYTES * length v.chunks };
+    ghost invariant = { λ v. (length (bytes_in v.bytes) ≡ CHUNK_BYTES * length v.chunks) × HasRoom v.bytes };
 }
 
 impl LogVector {
@@ -46,6 +47,15 @@ impl LogVector {
         ensures { result ≡ self.now.chunks }
     {
         self.chunks
+    }
+
+    /// The room that it had, if it had some, for a later one. It takes no memory.
+    pub fn into_room(self) -> Option<VectorRoom> {
+        let LogVector { bytes, .. } = self;
+        match bytes {
+            Some(bytes) => Some(emptied(bytes)),
+            None => None,
+        }
     }
 
     /// The bytes of its chunks.
@@ -85,6 +95,14 @@ impl VectorRoom {
         Ok(VectorRoom { bytes })
     }
 
+    /// A room that nobody needs any more, if there is one, else a new one. The one error is want of memory.
+    pub fn or_new(spare: Option<VectorRoom>, alloc: Global) -> Result<Self, AllocError> {
+        match spare {
+            Some(room) => Ok(room),
+            None => VectorRoom::new(alloc),
+        }
+    }
+
     /// The log vector of some chunks of a content, in this room. It takes no memory.
     pub fn filled(self, content: &Content, chunks: Chunks) -> LogVector
         ensures { result ≡ vector content.now chunks }
@@ -98,14 +116,49 @@ impl VectorRoom {
     }
 }
 
+/// Room without bytes.
+fn emptied(mut bytes: Vec<u8>) -> VectorRoom
+    requires { BLOCK_BYTES ≤ vec_capacity bytes }
+{
+    bytes.clear();
+    VectorRoom { bytes }
+}
+
 /// Appends the bytes of some chunks of a content, one after another, to none.
 fn push_chunks(out: &mut Vec<u8>, content: &Content, chunks: Chunks)
     requires none { out.old.items ≡ [] }
     requires room { BLOCK_BYTES ≤ vec_capacity out.old }
     ensures bytes { out.new.items ≡ chunk_bytes content.now chunks }
     ensures form { length out.new.items ≡ CHUNK_BYTES * length chunks }
+    ensures capacity { BLOCK_BYTES ≤ vec_capacity out.new }
 {
     let word = chunks.word();
+    if word == u32::MAX {
+        push_block(out, content);
+    } else {
+        push_marked(out, content, word);
+    }
+}
+
+/// Appends all bytes of a content to none.
+fn push_block(out: &mut Vec<u8>, content: &Content)
+    requires none { out.old.items ≡ [] }
+    requires room { BLOCK_BYTES ≤ vec_capacity out.old }
+    ensures bytes { out.new.items ≡ content.now }
+    ensures form { length out.new.items ≡ BLOCK_BYTES }
+    ensures capacity { BLOCK_BYTES ≤ vec_capacity out.new }
+{
+    out.extend_from_slice(content.bytes()).unwrap();
+}
+
+/// Appends the bytes of the chunks that a word has, one after another, to none.
+fn push_marked(out: &mut Vec<u8>, content: &Content, word: u32)
+    requires none { out.old.items ≡ [] }
+    requires room { BLOCK_BYTES ≤ vec_capacity out.old }
+    ensures bytes { out.new.items ≡ chunk_bytes content.now (places_of word) }
+    ensures form { length out.new.items ≡ CHUNK_BYTES * length (places_of word) }
+    ensures capacity { BLOCK_BYTES ≤ vec_capacity out.new }
+{
     for k in 0..CHUNKS {
         push_if_marked(out, content, word, k);
     }

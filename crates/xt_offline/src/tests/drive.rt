@@ -5,6 +5,7 @@ ghost use Rattle.xt_base.specs.Calls.{asks};
 ghost use Rattle.xt_base.specs.Jobs.{fits_plan, flush_plan, is_begun, is_waiting};
 ghost use Rattle.xt_base.specs.Maps.{is_in};
 ghost use Rattle.xt_base.specs.Order.{is_answer, is_there};
+ghost use Rattle.xt_mount.specs.Accounts.{IsUnchanged};
 
 use crate::lines::parse_script;
 use std::alloc::Global;
@@ -204,6 +205,7 @@ fn end(mount: &mut Mount, log: &mut dyn LogDevice, name: JobName) -> Result<Repl
 fn write_at<'a>(mount: &'a Mount, blocks: &[Block], place: usize) -> (Block, &'a [u8])
     requires some { 0 < length blocks.now }
     requires committed { All (λ b. is_in b mount.now.frames.committed ≡ true) blocks.now }
+    requires unchanged { All (λ b. IsUnchanged b mount.now.transactions) blocks.now }
     ensures { length result.1.now ≡ 4096 }
 {
     let block = blocks[place.min(blocks.len() - 1)];
@@ -217,6 +219,7 @@ fn write_at<'a>(mount: &'a Mount, blocks: &[Block], place: usize) -> (Block, &'a
 fn written_blocks(mount: &Mount, home: &mut dyn HomeDevice, blocks: &[Block]) -> HomeAnswers
     requires few { length blocks.now ≤ 8 }
     requires committed { All (λ b. is_in b mount.now.frames.committed ≡ true) blocks.now }
+    requires unchanged { All (λ b. IsUnchanged b mount.now.transactions) blocks.now }
     ensures { result.count ≡ length blocks.now }
 {
     if blocks.is_empty() {

@@ -1,25 +1,10 @@
-use Rattle.std.proofs.Common.{◌*◌, ◌∙◌, ◌++◌, [], ℕ, List, ap, sym, length, arith, if◌then◌else◌}
-use Rattle.std.specs.Prelude.{◌==◌, flat_map, Bool}
-use Rattle.std.specs.Int.{bit_at}
-use Rattle.xt_base.specs.Text.{chunk}
-use Rattle.xt_vectors.proofs.ChunkLemmas.{marked_step, marked_count, marked_all, one_more}
+use Rattle.std.proofs.Common.{◌∙◌, ap, length, sym}
+use Rattle.xt_vectors.proofs.ChunkLemmas.{whole_content, whole_count}
 use Rattle.xt_vectors.proofs.vector.push_chunks.Goals as goal
 
-pub loop-k-preserved : goal.loop-k-preserved
-loop-k-preserved c =
-    let marked : ℕ → Bool = λ k. bit_at c.word-word.result k == 1 in
-    let bytes : ℕ → List ℕ = chunk c.args.content.now in
-    record {
-      bytes = c.push_if_marked.ensures.bytes ∙ ap (λ xs. xs ++ (if marked c.loop-k.k then bytes c.loop-k.k else [])) c.loop-k.invariant.bytes ∙ sym (marked_step bytes marked c.loop-k.k);
-      form = omega (arith, c.push_if_marked.ensures.count, c.loop-k.invariant.form, marked_count marked c.loop-k.k);
-      within = omega (arith, c.push_if_marked.ensures.count, c.loop-k.invariant.within, one_more (marked c.loop-k.k));
-      room = omega (arith, c.push_if_marked.ensures.capacity, c.loop-k.invariant.room);
-    }
+pub returns-then-word-clause-bytes : goal.returns-then-word-clause-bytes
+returns-then-word-clause-bytes c =
+    c.push_block.ensures.bytes ∙ whole_content c.word-word.result c.args.chunks c.args.content.now c.if-word.true c.word-word.ensures.back (sym (ap length c.push_block.ensures.bytes) ∙ c.push_block.ensures.form)
 
-pub returns-clause-bytes : goal.returns-clause-bytes
-returns-clause-bytes c =
-    c.loop-k.invariant.bytes ∙ ap (flat_map (chunk c.args.content.now)) (marked_all c.word-word.result c.loop-k.k c.args.chunks c.loop-k-test.false c.loop-k.auto.k-end c.word-word.ensures.back)
-
-pub returns-clause-form : goal.returns-clause-form
-returns-clause-form c =
-    c.loop-k.invariant.form ∙ ap (λ xs. 128 * length xs) (marked_all c.word-word.result c.loop-k.k c.args.chunks c.loop-k-test.false c.loop-k.auto.k-end c.word-word.ensures.back)
+pub returns-then-word-clause-form : goal.returns-then-word-clause-form
+returns-then-word-clause-form c = c.push_block.ensures.form ∙ whole_count c.word-word.result c.args.chunks c.if-word.true c.word-word.ensures.back

@@ -1,11 +1,11 @@
 use Rattle.std.proofs.Common.{◌≡◌, ◌+◌, ◌-◌, Bool, length, ℕ}
-use Rattle.xt_frames.specs.Settling.{contents_from, fresh_from, settled_by}
+use Rattle.xt_frames.specs.Settling.{frames_from, fresh_from, bufs_settled_by}
 use Rattle.xt_frames.proofs.frames.Frames.settle.Given as goal
 
 abbrev pub invariant-loop-block : goal.invariant-loop-block
 invariant-loop-block g l =
     (busy : ℕ → Bool) → ((near : _) → (b : ℕ) → (r : Bool) → (after : _) → goal.F-post g l.fn.is_busy near b r after → r ≡ busy b)
-    → fresh_from busy l.mark (contents_from busy l.is_kept l.content l.self) ≡ settled_by busy l.is_kept l.fn.self
+    → fresh_from busy l.mark (frames_from busy l.is_kept l.frame l.self) ≡ bufs_settled_by busy l.is_kept l.fn.self
 
 abbrev pub decreases-loop-block : goal.decreases-loop-block
-decreases-loop-block g l = (length l.self.committed - l.content) + (length l.self.fresh - l.mark)
+decreases-loop-block g l = (length l.self.frames - l.frame) + (length l.self.fresh - l.mark)

@@ -8,5 +8,5 @@ pub invariant_of-self : goal.invariant_of-self
 invariant_of-self c =
     let block = c.args.block in
     let cil = c.self.inside.cil in
-    ap chunks_of c.put-2.ensures ∙ chunks_put block c.args.vector c.self.inside.vectors ∙ ap (put block c.args.vector.chunks) c.self.invariant
+    ap chunks_of c.exchange-before.ensures.map ∙ chunks_put block c.args.vector c.self.inside.vectors ∙ ap (put block c.args.vector.chunks) c.self.invariant
     ∙ sym (c.put.ensures ∙ ap (λ chunks. put block chunks cil) c.chunks.ensures)

@@ -1,3 +1,5 @@
+use Rattle.xt_base.specs.State.{State}
+use Rattle.xt_mount.proofs.ChangedLemmas.{busy_alike}
 use Rattle.std.proofs.Common.{◌∙◌, [], ap, length}
 use Rattle.xt_base.specs.Calls.{gives}
 use Rattle.xt_base.specs.Jobs.{finished, gone, renewed}
@@ -18,3 +20,8 @@ returns c =
     ∙ ap (gives (Reply.Flushed (length (gone c.args.plan.now answers)))) (c.settle.ensures ∙ ap (settled []) (c.renew_asking.ensures
     ∙ ap (λ (t : Table). renewed answers (state_of (record machine { accounts = c.flush_done-count.new.self; jobs = t }))) c.finish.ensures
     ∙ ap (λ (j : AccountsState). renewed answers (finished JobKind.Flush (state_of (record machine { accounts = j })))) c.flush_done-count.ensures.accounts))
+
+pub settle-requires : goal.settle-requires
+settle-requires c =
+    busy_alike (state_of c.args.self.now) c.requires.sound (state_of c.renew_asking.new.self) (ap (λ (s : State). s.owners) c.renew_asking.ensures)
+    (ap (λ (s : State). s.transactions) c.renew_asking.ensures ∙ ap (λ (a : AccountsState). a.transactions) c.flush_done-count.ensures.accounts)

@@ -10,5 +10,5 @@ hold-requires-clause-few c =
     let s = state_of c.args.self.now in
     let own : is_own s c.args.trans c.args.block ≡ true = sym c.is_own.ensures ∙ c.if-not-is_own.false in
     as_named s.transactions _ (sym c.trans-2.view_is)
-    (room_held s c.args.trans c.block.inside.0 c.in-Some.opened.now c.requires (named s.transactions c.in-Some.ensures c.trans.view_is)
+    (room_held s c.args.trans c.block.inside.0 c.in-Some.opened c.requires (named s.transactions c.in-Some.ensures c.trans.view_is)
     (subst (λ b. is_own s c.args.trans b ≡ true) (sym c.block.view_is) own))

@@ -1,3 +1,4 @@
+use Rattle.xt_mount.proofs.ChangedLemmas.{busy_landed}
 use Rattle.std.proofs.Common.{◌∙◌, [], ap, arith, refl}
 use Rattle.xt_base.proofs.BusyLemmas.{few_active, few_flying}
 use Rattle.xt_base.specs.Settle.{settled}
@@ -25,3 +26,7 @@ returns c =
     let machine : Machine = c.args.self.now in
     landed_is s c.args.number c.free_stale.new.self c.land.new.self _ (state_of c.settle_unless.new.self) c.requires.flying c.free_stale.ensures c.land.ensures refl
     (c.settle_unless.ensures ∙ ap (λ (t : Table). settled [] (state_of (record machine { locks = c.free_stale.new.self; accounts = c.land.new.self; jobs = t }))) c.finish.ensures)
+
+pub settle_unless-requires-clause-changed : goal.settle_unless-requires-clause-changed
+settle_unless-requires-clause-changed c =
+    busy_landed (state_of c.args.self.now) c.requires.sound c.args.number c.free_stale.new.self c.land.new.self c.requires.flying c.free_stale.ensures c.land.ensures
