@@ -7,6 +7,7 @@ pub mod RunLemmas
 pub mod StruckLemmas
 pub mod HostLemmas
 pub mod HostRunLemmas
+pub mod ToldLemmas
 pub mod CellLemmas
 pub mod PlaceLemmas
 pub mod OfferLemmas

@@ -1,5 +1,5 @@
 -- Runs of the host: what they told of each slot, beside what `Tells` and `BreaksAt` have.
-use Rattle.std.specs.Prelude.{List, [], false, if◌then◌else◌, take, true, ℕ, ◌<◌, ◌≡◌}
+use Rattle.std.specs.Prelude.{List, [], false, if◌then◌else◌, take, true, ℕ, ◌<◌, ◌++◌, ◌∷◌, ◌≡◌}
 use Rattle.xt_base.specs.Alone.{Said, alone, reason_of}
 use Rattle.xt_base.specs.Isolation.{BreaksAt, Tells, Told, is_no_memory, is_refused, shut_in, told_then, turns_of}
 use Rattle.xt_base.specs.Order.{orderly}
@@ -8,7 +8,7 @@ use Rattle.xt_base.specs.declared.outcomes.RunFault.{RunFault}
 use Rattle.xt_base.specs.declared.outcomes.RunFault.TheVariants.{Disorder, Memory}
 use Rattle.xt_base.specs.declared.sizes.TheConstants.{SLOTS}
 use Rattle.xt_base.specs.declared.steps.Step.{Step}
-use Rattle.xt_core.specs.Host.{Host, IsStepped, lone_of}
+use Rattle.xt_core.specs.Host.{Host, IsNew, IsStepped, lone_of}
 
 -- the steps of each slot that was not refused memory are orderly by themselves
 abbrev pub AreStruckOrderly : List Step → Told → Type 0
@@ -45,6 +45,11 @@ pub record IsSaid (x : Step) (t : Said) (new old : Host) : Type 0 where
   pub place : t.slot ≡ slot_of x
   pub log : t.log ≡ (if is_no_memory t.reply then [] else (alone x (lone_of old (slot_of x))).log)
   pub home : t.home ≡ (if is_no_memory t.reply then [] else (alone x (lone_of old (slot_of x))).home)
+
+-- steps led to a host and told these turns, one after another: at first it was new, and each step was taken or answered ENOMEM
+pub data IsToldBy : List Step → List Said → Host → Type 0 where
+  none : (host : Host) → IsNew host → IsToldBy [] [] host
+  more : (xs : List Step) (turns : List Said) (x : Step) (t : Said) (new old : Host) → IsToldBy xs turns old → slot_of x < SLOTS → IsSaid x t new old → IsToldBy (xs ++ x ∷ []) (turns ++ t ∷ []) new
 
 -- its turn was told
 abbrev pub IsMore : Step → Host → Host → Told → Told → Type 0

@@ -1,14 +1,15 @@
 //! The pure host: sixteen slots, one queue of names, and the hands of eight workers.
 
-ghost use Rattle.std.specs.Prelude.{◌≡◌, ◌<◌, ◌∷◌, ◌++◌, List, [], None, false, true, IfErr, IfOk, OnOk, is_ok};
-ghost use Rattle.xt_base.specs.Alone.{reason_of};
+ghost use Rattle.std.specs.Prelude.{◌≡◌, ◌↔◌, ◌<◌, ◌∷◌, ◌++◌, List, [], None, false, true, IfErr, IfOk, OnErr, OnOk, is_ok};
+ghost use Rattle.xt_base.specs.Alone.{reason_of, Said};
 ghost use Rattle.xt_base.specs.Isolation.{is_no_memory, told_then};
 ghost use Rattle.xt_base.specs.Order.{fits, post_of, told, Event};
 ghost use Rattle.xt_base.specs.Steps.{slot_of};
 ghost use Rattle.xt_base.specs.declared.steps.Step.{Step as AStep};
+ghost use Rattle.xt_core.specs.declared.host.TurnFault.{TurnFault as ATurnFault};
 ghost use Rattle.xt_core.specs.Host.{happened, lone_of, may_come, was_refused, IsAfter, IsNew, IsStepped};
 ghost use Rattle.xt_core.specs.InPlace.{AreUnused};
-ghost use Rattle.xt_core.specs.Runs.{IsMore, IsSaid};
+ghost use Rattle.xt_core.specs.Runs.{IsMore, IsSaid, IsToldBy};
 
 use crate::cell::SlotCell;
 use crate::turns::Turns;
@@ -38,6 +39,15 @@ impl Model for HostCore {
     ghost view = { λ h. record { cells = h.cells.items; queue = h.turns.queue; hands = h.turns.hands } };
 
     ghost invariant = { λ h. AreInPlace h.cells.items };
+}
+
+/// Why a step told no turn.
+#[derive(Clone, Copy, Debug, PartialEq, Eq)]
+pub enum TurnFault {
+    /// It may not come now.
+    Disorder,
+    /// What it offered could not be copied.
+    Memory,
 }
 
 /// The slot of a number below sixteen.
@@ -156,7 +166,9 @@ impl HostCore {
     /// memory for the copy, and then nothing changes.
     fn take(&mut self, step: &Step) -> Result<Turn, AllocError>
         requires { may_come self.old step.now ≡ true }
-        ensures { IfOk result (λ turn. IsSaid step.now turn self.new self.old) }
+        ensures said { IfOk result (λ turn. IsSaid step.now turn self.new self.old) }
+        ensures range { IfOk result (λ _. slot_of step.now < SLOTS) }
+        ensures kept { OnErr result (self.new ≡ self.old) }
     {
         let slot = step.slot();
         let offers = self.cells[slot.index()].offers(self.alloc, step)?;
@@ -166,6 +178,22 @@ impl HostCore {
             return Ok(Turn { reply, offers });
         }
         Ok(Turn { reply, offers })
+    }
+
+    /// Takes one step, and tells its turn: its reply, which its slot alone would give, or ENOMEM, and what it offered, which is copied.
+    /// Where it may not come now, or the copy finds no memory, nothing changes.
+    ///
+    /// What steps tell one after another is what a run of them tells, so a turn need not be kept until the last step was taken.
+    pub fn tell(&mut self, step: &Step) -> Result<Turn, TurnFault>
+        ensures said { IfOk result (λ turn. IsSaid step.now turn self.new self.old) }
+        ensures told { (xs : List AStep) (turns : List Said) → IsToldBy xs turns self.old → IfOk result (λ turn. IsToldBy (xs ++ step.now ∷ []) (turns ++ turn ∷ []) self.new) }
+        ensures disorder { IfErr result (λ fault. (fault ≡ ATurnFault.Disorder) ↔ (may_come self.old step.now ≡ false)) }
+        ensures kept { OnErr result (self.new ≡ self.old) }
+    {
+        if !self.can_take(step) {
+            return Err(TurnFault::Disorder);
+        }
+        self.take(step).map_err(|_| TurnFault::Memory)
     }
 
     /// Takes a step that may come, and notes its turn. The one error is want of memory for what is told.

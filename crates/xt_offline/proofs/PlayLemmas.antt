@@ -1,19 +1,45 @@
 -- What a run of steps wrote.
-use Rattle.std.proofs.Common.{◌≡◌, ◌++◌, ◌≤◌, Bool, ℕ, List, length, Option, Some, None, false, inl, inr, refl, subst, sym, true≢false}
-use Rattle.std.specs.Prelude.{Err, IfErr, IfOk, IfSome, Ok, OnErr, Result}
+use Rattle.std.proofs.Common.{◌≡◌, ◌∙◌, ◌+◌, ◌++◌, ◌∷◌, ◌≤◌, ◌<◌, Bool, ℕ, List, [], ap, append_assoc, append-nil, cond, get_or, length, take, Option, Some, None, false, inl, inr, refl, subst, sym, true, true≢false}
+use Rattle.std.proofs.lemmas.Bool.{cases_Bool}
+use Rattle.std.proofs.lemmas.Grind.{flat_map-append}
+use Rattle.std.proofs.lemmas.List.Concat.{flat_map-cons}
+use Rattle.std.specs.Prelude.{Err, IfErr, IfOk, IfSome, MatchResult, Ok, OnErr, OnOk, Result, is_ok, ◌==◌}
 use Rattle.std.specs.Io.KnownBytes.{Appends, Keeps}
+use Rattle.xt_base.specs.Alone.{Said}
 use Rattle.xt_base.specs.Isolation.{BreaksAt, Tells, Told}
+use Rattle.xt_base.specs.Sound.{Each}
+use Rattle.xt_base.specs.Steps.{slot_of, strike}
 use Rattle.xt_base.specs.declared.steps.Step.{Step}
-use Rattle.xt_offline.proofs.AppendLemmas.{appends_kept, begins_all, begins_kept, keeps_same}
-use Rattle.xt_offline.specs.Printing.{Begins, disorder_text, turns_text}
+use Rattle.xt_base.specs.declared.steps.Step.TheVariants.{Begin, Call, End, Flush, Mount, Peek, Post, Show, Take}
+use Rattle.xt_core.proofs.ToldLemmas.{told_all, told_before, told_begins, told_next}
+use Rattle.xt_core.specs.Host.{Host, IsNew, may_come}
+use Rattle.xt_core.specs.Runs.{IsToldBy}
+use Rattle.xt_offline.proofs.AppendLemmas.{appends_kept, appends_more, appends_none, begins_all, begins_kept, begins_longer, begins_then, keeps_same}
+use Rattle.xt_offline.specs.Printing.{Begins, disorder_text, turn_text, turns_text}
 use Rattle.xt_offline.specs.Script.{is_of_script, picked, status_of, IsBegun, IsCutShort, IsFault, IsFaultIn, IsOutput, IsPlayed, IsPrinted, IsReported, IsRun, IsScript}
 use Rattle.xt_offline.specs.declared.fault.ScriptFault.{ScriptFault}
 use Rattle.xt_offline.specs.declared.fault.ScriptFault.TheVariants.{BadLine, Io, Memory, TooLong}
+use Rattle.xt_text.specs.Lines.{IsStep}
 
 -- a fact that holds whatever came about
 pub on_err : {T E : Type 0} (r : Result T E) (P : Type 0) → P → OnErr r P
 on_err (Ok x) P is = tt
 on_err (Err e) P is = is
+
+-- what holds if nothing failed
+pub on_ok : {T E : Type 0} (r : Result T E) (P : Type 0) → true ≡ is_ok r → OnOk r P → P
+on_ok (Ok x) P is held = held
+on_ok (Err e) P is held = absurd (true≢false is)
+
+-- the value of a result, if it has one
+abbrev value : {T E : Type 0} → T → Result T E → T
+value other (Ok x) = x
+value other (Err e) = other
+
+-- what holds of the value that a call gives, once its error was named anew
+pub if_ok : {T E D : Type 0} (r : Result T E) (q : Result T D) (x : T) (Q : E → Type 0) (P : T → Type 0) → q ≡ Ok x → MatchResult r (λ y. q ≡ Ok y) Q → true ≡ is_ok r → IfOk r P → P x
+if_ok (Ok y) q x Q P got cases is held = subst P (ap (value x) (sym cases ∙ got)) held
+if_ok (Err e) q x Q P got cases is held = absurd (true≢false is)
 
 -- what all steps said is what a run of them prints
 pub output_all : (steps : List Step) (told : Told) → Tells steps told → IsOutput steps (turns_text told.turns) 0
@@ -23,21 +49,90 @@ output_all steps told tells = inl (refl, (told, (tells, refl)))
 pub output_up_to : (steps : List Step) (at : ℕ) (told : Told) → BreaksAt at steps told → IsOutput steps (turns_text told.turns ++ disorder_text at) 3
 output_up_to steps at told breaks = inr (refl, (at, (told, (breaks, refl))))
 
--- all steps were run, and what they said was written
-pub printed_all : (steps : List Step) (told : Told) (old new : Option (List ℕ)) → Tells steps told → Appends old new (turns_text told.turns) → IsPrinted steps old new 0
-printed_all steps told old new tells text = (turns_text told.turns, (output_all steps told tells, text))
+-- ---- step by step
+-- steps led to a host, and what they told was written
+abbrev pub HasPrinted : List Step → Host → Option (List ℕ) → Option (List ℕ) → Type 0
+HasPrinted done host old new = (turns : List Said) × (IsToldBy done turns host × Appends old new (turns_text turns))
 
--- the steps before one that breaks order were run, and what they said was written, and the place of that one
-pub printed_up_to : (steps : List Step) (at : ℕ) (told : Told) (old new : Option (List ℕ)) → BreaksAt at steps told → Appends old new (turns_text told.turns ++ disorder_text at) → IsPrinted steps old new 3
-printed_up_to steps at told old new breaks text = (turns_text told.turns ++ disorder_text at, (output_up_to steps at told breaks, text))
+-- the lines of turns, one after another
+turns_then : (turns more : List Said) → turns_text (turns ++ more) ≡ turns_text turns ++ turns_text more
+turns_then turns more = flat_map-append turn_text turns more
 
--- all steps were run, and a beginning of what they said was written
-pub cut_all : (steps : List Step) (told : Told) (old new : Option (List ℕ)) → Tells steps told → Begins old new (turns_text told.turns) → IsCutShort steps old new
-cut_all steps told old new tells begun = inr (turns_text told.turns, (0, (output_all steps told tells, begun)))
+turns_one : (t : Said) (more : List Said) → turns_text (t ∷ more) ≡ turn_text t ++ turns_text more
+turns_one t more = flat_map-cons turn_text t more
 
--- the same of the steps before one that breaks order
-pub cut_up_to : (steps : List Step) (at : ℕ) (told : Told) (old new : Option (List ℕ)) → BreaksAt at steps told → Begins old new (turns_text told.turns ++ disorder_text at) → IsCutShort steps old new
-cut_up_to steps at told old new breaks begun = inr (turns_text told.turns ++ disorder_text at, (3, (output_up_to steps at told breaks, begun)))
+turns_last : (turns : List Said) (t : Said) → turns_text (turns ++ t ∷ []) ≡ turns_text turns ++ turn_text t
+turns_last turns t = turns_then turns (t ∷ []) ∙ ap (λ l. turns_text turns ++ l) (turns_one t [] ∙ append-nil (turn_text t))
+
+-- before the first step
+pub way_none : (host : Host) (old : Option (List ℕ)) → IsNew host → HasPrinted [] host old old
+way_none host old is = ([], (IsToldBy.none host is, appends_none old))
+
+-- each step names one of sixteen slots
+slot_small : (x : Step) → IsStep x → slot_of x < 16
+slot_small (Mount slot log_bytes blocks) is = is.0
+slot_small (Call slot life request answer) is = is.0
+slot_small (Post name) is = is.0
+slot_small (Take worker name) is = is.1.0
+slot_small (Begin worker name) is = is.1.0
+slot_small (End worker name answers) is = is.1.0
+slot_small (Flush worker name answers) is = is.1.0
+slot_small (Show slot) is = is
+slot_small (Peek slot) is = is
+
+slots_small : (steps : List Step) → Each IsStep steps → Each (λ x. slot_of x < 16) steps
+slots_small [] is = tt
+slots_small (x ∷ xs) is = (slot_small x is.0, slots_small xs is.1)
+
+module _ (steps : List Step) (at : ℕ) (host : Host) (old now : Option (List ℕ)) (way : HasPrinted (take at steps) host old now) where
+  -- all steps were run, and what they said was written
+  pub way_all : length steps ≤ at → IsPrinted steps old now 0
+  way_all over =
+      let told = told_all steps at way.0 host over way.1.0 in
+      (turns_text told.0.turns, (output_all steps told.0 told.1.1, subst (λ turns. Appends old now (turns_text turns)) (sym told.1.0) way.1.1))
+
+  -- a beginning of what the steps say was written
+  pub way_cut : Each IsStep steps → IsCutShort steps old now
+  way_cut are =
+      let told = told_begins steps at way.0 host (slots_small steps are) way.1.0 in
+      let text : turns_text told.0.turns ≡ turns_text way.0 ++ turns_text told.1.0 = ap turns_text told.1.1.0 ∙ turns_then way.0 told.1.0 in
+      inr (turns_text told.0.turns, (0, (output_all steps told.0 told.1.1.1, subst (Begins old now) (sym text) (begins_longer old now (turns_text way.0) (turns_text told.1.0) (begins_all old now (turns_text way.0) way.1.1)))))
+
+  module _ (x : Step) (new : Option (List ℕ)) (within : at < length steps) (is : x ≡ get_or steps at x) where
+    -- one more step said this
+    pub way_more : (t : Said) (next : Host) → ((xs : List Step) (turns : List Said) → IsToldBy xs turns host → IsToldBy (xs ++ x ∷ []) (turns ++ t ∷ []) next) → Appends now new (turn_text t) → HasPrinted (take (at + 1) steps) next old new
+    way_more t next more text =
+        (way.0 ++ t ∷ [], (told_next steps at way.0 x t next within is (more (take at steps) way.0 way.1.0), subst (Appends old new) (sym (turns_last way.0 t)) (appends_more old now new (turns_text way.0) (turn_text t) way.1.1 text)))
+
+    -- the same, and only a beginning of it was written
+    pub turn_cut : (t : Said) (next : Host) → ((xs : List Step) (turns : List Said) → IsToldBy xs turns host → IsToldBy (xs ++ x ∷ []) (turns ++ t ∷ []) next) → Begins now new (turn_text t) → Each IsStep steps → IsCutShort steps old new
+    turn_cut t next more begun are =
+        let told = told_begins steps (at + 1) (way.0 ++ t ∷ []) next (slots_small steps are) (told_next steps at way.0 x t next within is (more (take at steps) way.0 way.1.0)) in
+        let text : turns_text told.0.turns ≡ turns_text way.0 ++ (turn_text t ++ turns_text told.1.0) =
+        ap turns_text told.1.1.0 ∙ turns_then (way.0 ++ t ∷ []) told.1.0 ∙ ap (λ l. l ++ turns_text told.1.0) (turns_last way.0 t) ∙ append_assoc (turns_text way.0) (turn_text t) (turns_text told.1.0) in
+        inr (turns_text told.0.turns, (0, (output_all steps told.0 told.1.1.1, subst (Begins old new) (sym text) (begins_then old now new (turns_text way.0) (turn_text t ++ turns_text told.1.0) way.1.1 (begins_longer now new (turn_text t) (turns_text told.1.0) begun)))))
+
+    -- a step that breaks order, and its place was written
+    pub way_stop : may_come host x ≡ false → Appends now new (disorder_text at) → IsPrinted steps old new 3
+    way_stop cannot text =
+        let told = told_before steps at way.0 x host within is way.1.0 cannot in
+        (turns_text told.0.turns ++ disorder_text at, (output_up_to steps at told.0 told.1.1, subst (λ turns. Appends old new (turns_text turns ++ disorder_text at)) (sym told.1.0) (appends_more old now new (turns_text way.0) (disorder_text at) way.1.1 text)))
+
+    -- the same, and only a beginning of it was written
+    pub stop_cut : may_come host x ≡ false → Begins now new (disorder_text at) → IsCutShort steps old new
+    stop_cut cannot begun =
+        let told = told_before steps at way.0 x host within is way.1.0 cannot in
+        inr (turns_text told.0.turns ++ disorder_text at, (3, (output_up_to steps at told.0 told.1.1, subst (λ turns. Begins old new (turns_text turns ++ disorder_text at)) (sym told.1.0) (begins_then old now new (turns_text way.0) (disorder_text at) way.1.1 begun))))
+
+-- each of the steps of one slot is a step, as all are
+pub picked_steps : (only : Option ℕ) (steps : List Step) → Each IsStep steps → Each IsStep (picked only steps)
+picked_steps None steps are = are
+picked_steps (Some slot) [] are = tt
+picked_steps (Some slot) (x ∷ xs) are =
+    elim (cases_Bool (slot_of x == slot)) [
+      | inl own ↦ subst (λ b. Each IsStep (cond b (x ∷ strike xs slot) (strike xs slot))) (sym own) (are.0, picked_steps (Some slot) xs are.1)
+      | inr other ↦ subst (λ b. Each IsStep (cond b (x ∷ strike xs slot) (strike xs slot))) (sym other) (picked_steps (Some slot) xs are.1)
+    ]
 
 -- no step was run
 pub cut_none : (steps : List Step) (old : Option (List ℕ)) → IsCutShort steps old old

@@ -1,12 +1,11 @@
 //! What steps said, printed.
 
-ghost use Rattle.std.specs.Prelude.{◌<◌, ◌++◌, OnOk};
+ghost use Rattle.std.specs.Prelude.{◌<◌, OnOk};
 ghost use Rattle.std.specs.Io.KnownBytes.{Appends};
-ghost use Rattle.xt_offline.specs.Printing.{turn_text, turns_text, disorder_text, log_lines, home_lines, ended, held, Begins, FitsLine};
+ghost use Rattle.xt_offline.specs.Printing.{turn_text, disorder_text, log_lines, home_lines, ended, held, Begins, FitsLine};
 ghost use Rattle.xt_text.specs.Replies.{home_offer_text, log_offer_text, slot_reply_text};
 
 use crate::writing::{write_bytes, write_numbered};
-use std::alloc::Global;
 use std::io::{self, Write};
 use xt_base::names::Slot;
 use xt_base::outcomes::Turn;
@@ -14,21 +13,8 @@ use xt_base::steps::{HomeOffer, LogOffer};
 use xt_text::buffer::Text;
 use xt_text::print_reply::{print_home_offer, print_log_offer, print_slot_reply};
 
-/// Prints what steps said: for each its slot and reply, and a line for each of its offers.
-#[tactic(auto, using(crate::proofs::AppendLemmas::begins_all, crate::proofs::AppendLemmas::begins_at, crate::proofs::AppendLemmas::begins_same))]
-pub fn print_turns<W: Write>(alloc: Global, writer: &mut W, turns: &[Turn]) -> io::Result<()>
-    ensures all { OnOk result (Appends (W.contents writer.old) (W.contents writer.new) (turns_text turns.now)) }
-    ensures part { Begins (W.contents writer.old) (W.contents writer.new) (turns_text turns.now) }
-{
-    let mut text = Text::new(alloc)?;
-    for turn in turns {
-        print_turn(writer, &mut text, turn)?;
-    }
-    Ok(())
-}
-
-/// Prints what one step said.
-fn print_turn<W: Write>(writer: &mut W, text: &mut Text, turn: &Turn) -> io::Result<()>
+/// Prints what one step said: its slot and reply, and a line for each of its offers.
+pub fn print_turn<W: Write>(writer: &mut W, text: &mut Text, turn: &Turn) -> io::Result<()>
     ensures all { OnOk result (Appends (W.contents writer.old) (W.contents writer.new) (turn_text turn.now)) }
     ensures part { Begins (W.contents writer.old) (W.contents writer.new) (turn_text turn.now) }
 {
@@ -135,23 +121,8 @@ pub fn print_line<W: Write>(writer: &mut W, text: &mut Text) -> io::Result<()>
     write_bytes(writer, text.bytes())
 }
 
-/// Prints what the steps before one that breaks order said, and its place, counted from 1.
-pub fn print_broken<W: Write>(
-    alloc: Global,
-    writer: &mut W,
-    turns: &[Turn],
-    at: usize,
-) -> io::Result<()>
-    requires { at < 18446744073709551615 }
-    ensures all { OnOk result (Appends (W.contents writer.old) (W.contents writer.new) (turns_text turns.now ++ disorder_text at)) }
-    ensures part { Begins (W.contents writer.old) (W.contents writer.new) (turns_text turns.now ++ disorder_text at) }
-{
-    print_turns(alloc, writer, turns)?;
-    print_disorder(writer, at)
-}
-
 /// Prints which step breaks order, counted from 1.
-fn print_disorder<W: Write>(writer: &mut W, at: usize) -> io::Result<()>
+pub fn print_disorder<W: Write>(writer: &mut W, at: usize) -> io::Result<()>
     requires { at < 18446744073709551615 }
     ensures all { OnOk result (Appends (W.contents writer.old) (W.contents writer.new) (disorder_text at)) }
     ensures part { Begins (W.contents writer.old) (W.contents writer.new) (disorder_text at) }

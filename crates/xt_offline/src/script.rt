@@ -1,20 +1,23 @@
-//! `xth script` and `xth strike`: all lines are parsed, then run, or those of one slot, and each reply is printed, with the offers
-//! that its step made.
+//! `xth script` and `xth strike`: all lines are parsed, then run, or those of one slot, and each reply is printed as it is given, with
+//! the offers that its step made.
 
 ghost use Rattle.std.specs.Prelude.{◌≡◌, IfErr, IfOk, IfSome, OnErr, false};
+ghost use Rattle.xt_base.specs.Sound.{Each};
+ghost use Rattle.xt_text.specs.Lines.{IsStep};
 ghost use Rattle.xt_offline.specs.Script.{is_of_script, picked, IsCutShort, IsFault, IsPlayed, IsPrinted, IsReported, IsRun};
 
 use crate::fault::ScriptFault;
 use crate::lines::{parse_script, read_script};
-use crate::printing::{print_broken, print_turns};
+use crate::printing::{print_disorder, print_turn};
 use crate::writing::{write_bytes, write_numbered};
 use std::alloc::{AllocError, Global};
 use std::io::{self, Read, Write};
 use std::mem::ManuallyDrop;
 use xt_base::names::Slot;
-use xt_base::outcomes::RunFault;
 use xt_base::steps::Step;
 use xt_core::HostCore;
+use xt_core::host::TurnFault;
+use xt_text::buffer::Text;
 
 /// The steps that are run: all, or those of one slot.
 fn pick(alloc: Global, steps: Vec<Step>, only: Option<Slot>) -> Result<Vec<Step>, ScriptFault>
@@ -30,26 +33,27 @@ fn pick(alloc: Global, steps: Vec<Step>, only: Option<Slot>) -> Result<Vec<Step>
     }
 }
 
-/// Runs steps and prints what they said: the status is 0, or 3 where one breaks order. What was said is left to the end of the
-/// process, since to give back its parts one by one takes longer than to print some of them.
-#[tactic(auto, using(crate::proofs::PlayLemmas::printed_up_to, crate::proofs::PlayLemmas::printed_all, crate::proofs::PlayLemmas::cut_all, crate::proofs::PlayLemmas::cut_up_to, crate::proofs::PlayLemmas::cut_none))]
+/// Runs steps, and prints what each said as soon as it has said it: the status is 0, or 3 where one breaks order.
+#[tactic(auto, using(crate::proofs::PlayLemmas::cut_none))]
 fn play_steps<W: Write>(alloc: Global, writer: &mut W, steps: &[Step]) -> Result<u8, ScriptFault>
+    requires { Each IsStep steps.now }
     ensures printed { IfOk result (IsPrinted steps.now (W.contents writer.old) (W.contents writer.new)) }
     ensures cut { OnErr result (IsCutShort steps.now (W.contents writer.old) (W.contents writer.new)) }
     ensures fault { IfErr result (λ fault. is_of_script fault ≡ false) }
 {
-    match HostCore::run(alloc, steps) {
-        Ok(told) => {
-            print_turns(alloc, writer, told.turns()).map_err(ScriptFault::Io)?;
-            let _left = ManuallyDrop::new(told);
-            Ok(0)
+    let mut host = HostCore::new(alloc).map_err(ScriptFault::Memory)?;
+    let mut text = Text::new(alloc).map_err(ScriptFault::Memory)?;
+    for (at, step) in steps.iter().enumerate() {
+        match host.tell(step) {
+            Ok(turn) => print_turn(writer, &mut text, &turn).map_err(ScriptFault::Io)?,
+            Err(TurnFault::Disorder) => {
+                print_disorder(writer, at).map_err(ScriptFault::Io)?;
+                return Ok(3);
+            }
+            Err(TurnFault::Memory) => return Err(ScriptFault::Memory(AllocError)),
         }
-        Err(RunFault::Disorder { at, before }) => {
-            print_broken(alloc, writer, before.turns(), at).map_err(ScriptFault::Io)?;
-            Ok(3)
-        }
-        Err(RunFault::Memory) => Err(ScriptFault::Memory(AllocError)),
     }
+    Ok(0)
 }
 
 /// The same, with all that the writer holds back written too.
@@ -58,6 +62,7 @@ fn play_to_the_end<W: Write>(
     writer: &mut W,
     steps: &[Step],
 ) -> Result<u8, ScriptFault>
+    requires { Each IsStep steps.now }
     ensures printed { IfOk result (IsPrinted steps.now (W.contents writer.old) (W.contents writer.new)) }
     ensures cut { OnErr result (IsCutShort steps.now (W.contents writer.old) (W.contents writer.new)) }
     ensures fault { IfErr result (λ fault. is_of_script fault ≡ false) }

@@ -1,8 +1,15 @@
-use Rattle.std.proofs.Common.{subst}
+use Rattle.std.proofs.Common.{◌∙◌, subst, sym}
 use Rattle.std.specs.Prelude.{IfOk, OnErr}
-use Rattle.xt_offline.proofs.PlayLemmas.{played_late, played_whole}
+use Rattle.xt_offline.proofs.PlayLemmas.{picked_steps, played_late, played_whole}
+use Rattle.xt_base.specs.Sound.{Each}
+use Rattle.xt_text.specs.Lines.{IsStep}
 use Rattle.xt_offline.specs.Script.{IsCutShort, IsPrinted, IsScript}
 use Rattle.xt_offline.proofs.script.play.Goals as goal
+
+pub play_to_the_end-played-requires : goal.play_to_the_end-played-requires
+play_to_the_end-played-requires g c =
+    let valid : Each IsStep c.in_ok-parse_script.field-0.items = c.in_ok-parse_script.ensures.steps.valid in
+    subst (Each IsStep) (sym c.in_ok-steps.ensures.picked ∙ sym c.deref-2.ensures.value) (picked_steps c.args.only c.in_ok-parse_script.field-0.items valid)
 
 pub returns-clause-played : goal.returns-clause-played
 returns-clause-played g c = played_whole c.play_to_the_end-played.result (g.R.Read.remaining c.args.reader.now) c.args.only c.in_ok-script.script.items c.in_ok-parse_script.field-0.items c.in_ok-steps.steps.items

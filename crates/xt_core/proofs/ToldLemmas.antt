@@ -1,0 +1,90 @@
+-- What steps told one after another is what a run of them tells.
+use Rattle.std.proofs.Common.{◌≡◌, ◌∙◌, ◌+◌, ◌<◌, ◌≤◌, ◌++◌, ◌∷◌, List, Option, [], ap, append_assoc, drop, false, get_or, inl, inr, length, refl, subst, suc, sym, take, true≢false, zero, ℕ}
+use Rattle.std.proofs.lemmas.Bool.{cases_Bool}
+use Rattle.std.proofs.lemmas.List.{append-nil, take-append-drop, take_more}
+use Rattle.std.specs.Prelude.{Err, IfOk, MatchResult, Ok, Result, if◌then◌else◌, is_ok}
+use Rattle.xt_base.specs.Alone.{Said, reason_of}
+use Rattle.xt_base.specs.Isolation.{BreaksAt, Tells, Told, events, is_no_memory, told_refused, told_taken, told_then, untold}
+use Rattle.xt_base.specs.Order.{Event}
+use Rattle.xt_base.specs.Sound.{Each}
+use Rattle.xt_base.specs.State.{Lone}
+use Rattle.xt_base.specs.Steps.{slot_of}
+use Rattle.xt_base.specs.declared.names.JobName.{JobName}
+use Rattle.xt_base.specs.declared.steps.Errno.TheVariants.{NoMemory}
+use Rattle.xt_base.specs.declared.steps.Reason.{Reason}
+use Rattle.xt_base.specs.declared.steps.Reply.TheVariants.{Refused}
+use Rattle.xt_base.specs.declared.steps.Step.{Step}
+use Rattle.xt_core.proofs.HostRunLemmas.{IsHostRun, end_tells, host_more, host_none, stop}
+use Rattle.xt_core.proofs.RunLemmas.{IsAfter, after_refused, after_tells}
+use Rattle.xt_core.specs.Host.{Host, hand_at, lone_of, may_come}
+use Rattle.xt_core.specs.Runs.{IsSaid, IsToldBy}
+
+-- a run told these turns, and led to a host
+abbrev IsRunOf : List Step → List Said → Host → Type 0
+IsRunOf xs turns host = (o : Told) × ((o.turns ≡ turns) × IsHostRun xs o host)
+
+then_turns : (o : Told) (t : Said) (why : Option Reason) → (told_then o t why).turns ≡ o.turns ++ t ∷ []
+then_turns o t why =
+    elim (cases_Bool (is_no_memory t.reply)) [
+      | inl refused ↦ ap (λ b. (if b then told_refused o t why else told_taken o t why).turns) refused
+      | inr went ↦ ap (λ b. (if b then told_refused o t why else told_taken o t why).turns) went
+    ]
+
+-- what steps told one after another is what a run of them tells
+run_of : {xs : List Step} {turns : List Said} {host : Host} → IsToldBy xs turns host → IsRunOf xs turns host
+run_of (IsToldBy.none host is) = (untold, (refl, host_none host is))
+run_of (IsToldBy.more ys turns x t host old before small said) =
+    let b : IsRunOf ys turns old = run_of before in
+    let why : Option Reason = reason_of (lone_of host (slot_of x)).mounted in
+    (told_then b.0 t why, (then_turns b.0 t why ∙ ap (λ l. l ++ t ∷ []) b.1.0, host_more ys b.0 (told_then b.0 t why) host old x b.1.1 (t, (said, refl, small))))
+
+-- one more step, whose turn is passed on
+pub tell_more : {E D : Type 0} (r : Result Said E) (q : Result Said D) (Q : E → Type 0) (xs : List Step) (turns : List Said) (x : Step) (new old : Host) → is_ok q ≡ is_ok r → MatchResult r (λ t. q ≡ Ok t) Q
+    → IfOk r (λ t. IsSaid x t new old) → IfOk r (λ _. slot_of x < 16) → IsToldBy xs turns old → IfOk q (λ t. IsToldBy (xs ++ x ∷ []) (turns ++ t ∷ []) new)
+tell_more (Ok t) q Q xs turns x new old same cases said small told = subst (λ q. IfOk q (λ t. IsToldBy (xs ++ x ∷ []) (turns ++ t ∷ []) new)) (sym cases) (IsToldBy.more xs turns x t new old told small said)
+tell_more (Err e) (Ok t) Q xs turns x new old same cases said small told = absurd (true≢false same)
+tell_more (Err e) (Err d) Q xs turns x new old same cases said small told = tt
+
+-- ---- over a list
+-- one more step
+pub told_next : (steps : List Step) (at : ℕ) (turns : List Said) (x : Step) (t : Said) (host : Host) → at < length steps → x ≡ get_or steps at x → IsToldBy (take at steps ++ x ∷ []) (turns ++ t ∷ []) host → IsToldBy (take (at + 1) steps) (turns ++ t ∷ []) host
+told_next steps at turns x t host within is told = subst (λ xs. IsToldBy xs (turns ++ t ∷ []) host) (ap (λ y. take at steps ++ y ∷ []) is ∙ sym (take_more steps at x within)) told
+
+-- all steps were taken
+pub told_all : (steps : List Step) (at : ℕ) (turns : List Said) (host : Host) → length steps ≤ at → IsToldBy (take at steps) turns host → (o : Told) × ((o.turns ≡ turns) × Tells steps o)
+told_all steps at turns host over told =
+    let r : IsRunOf (take at steps) turns host = run_of told in
+    (r.0, (r.1.0, end_tells steps at r.0 host r.1.1 over))
+
+-- the next step may not come
+pub told_before : (steps : List Step) (at : ℕ) (turns : List Said) (x : Step) (host : Host) → at < length steps → x ≡ get_or steps at x → IsToldBy (take at steps) turns host → may_come host x ≡ false → (o : Told) × ((o.turns ≡ turns) × BreaksAt at steps o)
+told_before steps at turns x host within is told cannot =
+    let r : IsRunOf (take at steps) turns host = run_of told in
+    (r.0, (r.1.0, stop steps at r.0 host r.1.1 x within is cannot))
+
+-- ---- a beginning of a run
+-- a step was refused memory
+abbrev unserved : Step → Said
+unserved x = record { slot = slot_of x; reply = Refused NoMemory; log = []; home = [] }
+
+-- a run in which all further steps are refused memory goes on with these turns
+go_unserved : (rest done : List Step) (h : List Event) (o : Told) (queue : List JobName) (hand : ℕ → Option JobName) (lone : ℕ → Lone) → IsAfter done h o queue hand lone → Each (λ x. slot_of x < 16) rest
+    → (p : Told) × ((more : List Said) × ((p.turns ≡ o.turns ++ more) × Tells (done ++ rest) p))
+go_unserved [] done h o queue hand lone a small =
+    (o, ([], (sym (append-nil o.turns), subst (λ xs. Tells xs o) (sym (append-nil done)) (after_tells done h o queue hand lone a))))
+go_unserved (x ∷ xs) done h o queue hand lone a small =
+    let why : Option Reason = reason_of (lone (slot_of x)).mounted in
+    let next = go_unserved xs (done ++ x ∷ []) h (told_refused o (unserved x) why) queue hand lone (after_refused done h o queue hand lone x a (unserved x) why small.0 refl hand refl (λ w. refl) refl) small.1 in
+    (next.0, (unserved x ∷ next.1.0, (next.1.1.0 ∙ append_assoc o.turns (unserved x ∷ []) next.1.0, subst (λ ys. Tells ys next.0) (append_assoc done (x ∷ []) xs) next.1.1.1)))
+
+each_drop : (steps : List Step) (at : ℕ) → Each (λ x. slot_of x < 16) steps → Each (λ x. slot_of x < 16) (drop at steps)
+each_drop steps zero small = small
+each_drop [] (suc at) small = tt
+each_drop (x ∷ xs) (suc at) small = each_drop xs at small.1
+
+-- what some first steps told is the beginning of what a run of all tells
+pub told_begins : (steps : List Step) (at : ℕ) (turns : List Said) (host : Host) → Each (λ x. slot_of x < 16) steps → IsToldBy (take at steps) turns host → (o : Told) × ((more : List Said) × ((o.turns ≡ turns ++ more) × Tells steps o))
+told_begins steps at turns host small told =
+    let r : IsRunOf (take at steps) turns host = run_of told in
+    let e = go_unserved (drop at steps) (take at steps) (events (take at steps) r.0.turns) r.0 host.queue (hand_at host) (lone_of host) r.1.1.run (each_drop steps at small) in
+    (e.0, (e.1.0, (e.1.1.0 ∙ ap (λ l. l ++ e.1.0) r.1.0, subst (λ xs. Tells xs e.0) (take-append-drop at steps) e.1.1.1)))
