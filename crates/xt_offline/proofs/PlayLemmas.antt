@@ -14,9 +14,9 @@ use Rattle.xt_base.specs.declared.steps.Step.TheVariants.{Begin, Call, End, Flus
 use Rattle.xt_core.proofs.ToldLemmas.{told_all, told_before, told_begins, told_next}
 use Rattle.xt_core.specs.Host.{Host, IsNew, may_come}
 use Rattle.xt_core.specs.Runs.{IsToldBy}
-use Rattle.xt_offline.proofs.AppendLemmas.{appends_kept, appends_more, appends_none, begins_all, begins_kept, begins_longer, begins_then, keeps_same}
+use Rattle.xt_offline.proofs.AppendLemmas.{appends_kept, appends_more, appends_none, begins_all, begins_kept, begins_longer, begins_same, begins_then, keeps_same}
 use Rattle.xt_offline.specs.Printing.{Begins, disorder_text, turn_text, turns_text}
-use Rattle.xt_offline.specs.Script.{is_of_script, picked, status_of, IsBegun, IsCutShort, IsFault, IsFaultIn, IsOutput, IsPlayed, IsPrinted, IsReported, IsRun, IsScript}
+use Rattle.xt_offline.specs.Script.{is_of_script, picked, status_of, IsBegun, IsCutShort, IsFault, IsFaultIn, IsOutput, IsPlayed, IsPrinted, IsPutBehind, IsReported, IsRun, IsScript}
 use Rattle.xt_offline.specs.declared.fault.ScriptFault.{ScriptFault}
 use Rattle.xt_offline.specs.declared.fault.ScriptFault.TheVariants.{BadLine, Io, Memory, TooLong}
 use Rattle.xt_text.specs.Lines.{IsStep}
@@ -50,9 +50,13 @@ pub output_up_to : (steps : List Step) (at : ℕ) (told : Told) → BreaksAt at 
 output_up_to steps at told breaks = inr (refl, (at, (told, (breaks, refl))))
 
 -- ---- step by step
--- steps led to a host, and what they told was written
-abbrev pub HasPrinted : List Step → Host → Option (List ℕ) → Option (List ℕ) → Type 0
-HasPrinted done host old new = (turns : List Said) × (IsToldBy done turns host × Appends old new (turns_text turns))
+-- steps led to a host, and what they told was written, but for lines that wait
+pub record HasPrinted (done : List Step) (host : Host) (lines : List ℕ) (old new : Option (List ℕ)) : Type 0 where
+  pub turns : List Said
+  pub written : List ℕ
+  pub told : IsToldBy done turns host
+  pub appended : Appends old new written
+  pub text : turns_text turns ≡ written ++ lines
 
 -- the lines of turns, one after another
 turns_then : (turns more : List Said) → turns_text (turns ++ more) ≡ turns_text turns ++ turns_text more
@@ -65,8 +69,18 @@ turns_last : (turns : List Said) (t : Said) → turns_text (turns ++ t ∷ []) �
 turns_last turns t = turns_then turns (t ∷ []) ∙ ap (λ l. turns_text turns ++ l) (turns_one t [] ∙ append-nil (turn_text t))
 
 -- before the first step
-pub way_none : (host : Host) (old : Option (List ℕ)) → IsNew host → HasPrinted [] host old old
-way_none host old is = ([], (IsToldBy.none host is, appends_none old))
+pub way_none : (host : Host) (old : Option (List ℕ)) → IsNew host → HasPrinted [] host [] old old
+way_none host old is = record { turns = []; written = []; told = IsToldBy.none host is; appended = appends_none old; text = refl }
+
+-- the lines that waited were written
+pub way_written : (done : List Step) (host : Host) (lines none : List ℕ) (old now new : Option (List ℕ)) → HasPrinted done host lines old now → Appends now new lines → none ≡ [] → HasPrinted done host none old new
+way_written done host lines none old now new way more is = record {
+  turns = way.turns;
+  written = way.written ++ lines;
+  told = way.told;
+  appended = appends_more old now new way.written lines way.appended more;
+  text = way.text ∙ sym (append-nil (way.written ++ lines)) ∙ ap (λ l. (way.written ++ lines) ++ l) (sym is);
+}
 
 -- each step names one of sixteen slots
 slot_small : (x : Step) → IsStep x → slot_of x < 16
@@ -84,45 +98,51 @@ slots_small : (steps : List Step) → Each IsStep steps → Each (λ x. slot_of 
 slots_small [] is = tt
 slots_small (x ∷ xs) is = (slot_small x is.0, slots_small xs is.1)
 
-module _ (steps : List Step) (at : ℕ) (host : Host) (old now : Option (List ℕ)) (way : HasPrinted (take at steps) host old now) where
-  -- all steps were run, and what they said was written
-  pub way_all : length steps ≤ at → IsPrinted steps old now 0
-  way_all over =
-      let told = told_all steps at way.0 host over way.1.0 in
-      (turns_text told.0.turns, (output_all steps told.0 told.1.1, subst (λ turns. Appends old now (turns_text turns)) (sym told.1.0) way.1.1))
+module _ (steps : List Step) (at : ℕ) (host : Host) (lines : List ℕ) (old now : Option (List ℕ)) (way : HasPrinted (take at steps) host lines old now) where
+  -- all steps were run, and the lines that waited were written
+  pub way_all : (new : Option (List ℕ)) → length steps ≤ at → Appends now new lines → IsPrinted steps old new 0
+  way_all new over more =
+      let told = told_all steps at way.turns host over way.told in
+      let text : turns_text told.0.turns ≡ way.written ++ lines = ap turns_text told.1.0 ∙ way.text in
+      (turns_text told.0.turns, (output_all steps told.0 told.1.1, subst (Appends old new) (sym text) (appends_more old now new way.written lines way.appended more)))
 
   -- a beginning of what the steps say was written
+  pub way_begun : (new : Option (List ℕ)) → Each IsStep steps → Begins now new lines → IsCutShort steps old new
+  way_begun new are begun =
+      let told = told_begins steps at way.turns host (slots_small steps are) way.told in
+      let text : turns_text told.0.turns ≡ way.written ++ (lines ++ turns_text told.1.0) =
+      ap turns_text told.1.1.0 ∙ turns_then way.turns told.1.0 ∙ ap (λ l. l ++ turns_text told.1.0) way.text ∙ append_assoc way.written lines (turns_text told.1.0) in
+      inr (turns_text told.0.turns, (0, (output_all steps told.0 told.1.1.1, subst (Begins old new) (sym text) (begins_then old now new way.written (lines ++ turns_text told.1.0) way.appended (begins_longer now new lines (turns_text told.1.0) begun)))))
+
+  -- and of the lines that wait nothing
   pub way_cut : Each IsStep steps → IsCutShort steps old now
-  way_cut are =
-      let told = told_begins steps at way.0 host (slots_small steps are) way.1.0 in
-      let text : turns_text told.0.turns ≡ turns_text way.0 ++ turns_text told.1.0 = ap turns_text told.1.1.0 ∙ turns_then way.0 told.1.0 in
-      inr (turns_text told.0.turns, (0, (output_all steps told.0 told.1.1.1, subst (Begins old now) (sym text) (begins_longer old now (turns_text way.0) (turns_text told.1.0) (begins_all old now (turns_text way.0) way.1.1)))))
+  way_cut are = way_begun now are (begins_same now lines)
 
-  module _ (x : Step) (new : Option (List ℕ)) (within : at < length steps) (is : x ≡ get_or steps at x) where
-    -- one more step said this
-    pub way_more : (t : Said) (next : Host) → ((xs : List Step) (turns : List Said) → IsToldBy xs turns host → IsToldBy (xs ++ x ∷ []) (turns ++ t ∷ []) next) → Appends now new (turn_text t) → HasPrinted (take (at + 1) steps) next old new
-    way_more t next more text =
-        (way.0 ++ t ∷ [], (told_next steps at way.0 x t next within is (more (take at steps) way.0 way.1.0), subst (Appends old new) (sym (turns_last way.0 t)) (appends_more old now new (turns_text way.0) (turn_text t) way.1.1 text)))
+  module _ (x : Step) (within : at < length steps) (is : x ≡ get_or steps at x) where
+    -- one more step was taken, and what it said waits
+    pub way_more : (next : Host) (longer : List ℕ) → IsPutBehind x next host longer lines → HasPrinted (take (at + 1) steps) next longer old now
+    way_more next longer put = record {
+      turns = way.turns ++ put.0 ∷ [];
+      written = way.written;
+      told = told_next steps at way.turns x put.0 next within is (put.1.0 (take at steps) way.turns way.told);
+      appended = way.appended;
+      text = turns_last way.turns put.0 ∙ ap (λ l. l ++ turn_text put.0) way.text ∙ append_assoc way.written lines (turn_text put.0) ∙ ap (λ l. way.written ++ l) (sym put.1.1);
+    }
 
-    -- the same, and only a beginning of it was written
-    pub turn_cut : (t : Said) (next : Host) → ((xs : List Step) (turns : List Said) → IsToldBy xs turns host → IsToldBy (xs ++ x ∷ []) (turns ++ t ∷ []) next) → Begins now new (turn_text t) → Each IsStep steps → IsCutShort steps old new
-    turn_cut t next more begun are =
-        let told = told_begins steps (at + 1) (way.0 ++ t ∷ []) next (slots_small steps are) (told_next steps at way.0 x t next within is (more (take at steps) way.0 way.1.0)) in
-        let text : turns_text told.0.turns ≡ turns_text way.0 ++ (turn_text t ++ turns_text told.1.0) =
-        ap turns_text told.1.1.0 ∙ turns_then (way.0 ++ t ∷ []) told.1.0 ∙ ap (λ l. l ++ turns_text told.1.0) (turns_last way.0 t) ∙ append_assoc (turns_text way.0) (turn_text t) (turns_text told.1.0) in
-        inr (turns_text told.0.turns, (0, (output_all steps told.0 told.1.1.1, subst (Begins old new) (sym text) (begins_then old now new (turns_text way.0) (turn_text t ++ turns_text told.1.0) way.1.1 (begins_longer now new (turn_text t) (turns_text told.1.0) begun)))))
+    broken : (o : Told) → o.turns ≡ way.turns → turns_text o.turns ++ disorder_text at ≡ way.written ++ (lines ++ disorder_text at)
+    broken o same = ap (λ l. l ++ disorder_text at) (ap turns_text same ∙ way.text) ∙ append_assoc way.written lines (disorder_text at)
 
-    -- a step that breaks order, and its place was written
-    pub way_stop : may_come host x ≡ false → Appends now new (disorder_text at) → IsPrinted steps old new 3
-    way_stop cannot text =
-        let told = told_before steps at way.0 x host within is way.1.0 cannot in
-        (turns_text told.0.turns ++ disorder_text at, (output_up_to steps at told.0 told.1.1, subst (λ turns. Appends old new (turns_text turns ++ disorder_text at)) (sym told.1.0) (appends_more old now new (turns_text way.0) (disorder_text at) way.1.1 text)))
+    -- a step breaks order, and the lines that waited and its place were written
+    pub way_stop : (new : Option (List ℕ)) → may_come host x ≡ false → Appends now new (lines ++ disorder_text at) → IsPrinted steps old new 3
+    way_stop new cannot more =
+        let told = told_before steps at way.turns x host within is way.told cannot in
+        (turns_text told.0.turns ++ disorder_text at, (output_up_to steps at told.0 told.1.1, subst (Appends old new) (sym (broken told.0 told.1.0)) (appends_more old now new way.written (lines ++ disorder_text at) way.appended more)))
 
-    -- the same, and only a beginning of it was written
-    pub stop_cut : may_come host x ≡ false → Begins now new (disorder_text at) → IsCutShort steps old new
-    stop_cut cannot begun =
-        let told = told_before steps at way.0 x host within is way.1.0 cannot in
-        inr (turns_text told.0.turns ++ disorder_text at, (3, (output_up_to steps at told.0 told.1.1, subst (λ turns. Begins old new (turns_text turns ++ disorder_text at)) (sym told.1.0) (begins_then old now new (turns_text way.0) (disorder_text at) way.1.1 begun))))
+    -- the same, and only a beginning of them was written
+    pub stop_cut : (new : Option (List ℕ)) → may_come host x ≡ false → Begins now new (lines ++ disorder_text at) → IsCutShort steps old new
+    stop_cut new cannot begun =
+        let told = told_before steps at way.turns x host within is way.told cannot in
+        inr (turns_text told.0.turns ++ disorder_text at, (3, (output_up_to steps at told.0 told.1.1, subst (Begins old new) (sym (broken told.0 told.1.0)) (begins_then old now new way.written (lines ++ disorder_text at) way.appended begun))))
 
 -- each of the steps of one slot is a step, as all are
 pub picked_steps : (only : Option ℕ) (steps : List Step) → Each IsStep steps → Each IsStep (picked only steps)

@@ -2,13 +2,16 @@
 use Rattle.std.specs.Prelude.{Bool, List, Option, None, Some, [], false, flat_map, length, not, true, ℕ, ◌+◌, ◌++◌, ◌≡◌, ◌≢◌, ◌∷◌, ◌==◌, ◌<◌, ◌≤◌, ◌⊎◌}
 use Rattle.std.specs.List.{list_all}
 use Rattle.std.specs.Io.KnownBytes.{Appends, Keeps}
+use Rattle.xt_base.specs.Alone.{Said}
 use Rattle.xt_base.specs.Isolation.{BreaksAt, Tells, Told}
 use Rattle.xt_base.specs.Sound.{Each}
 use Rattle.xt_base.specs.Steps.{strike}
 use Rattle.xt_base.specs.declared.steps.Step.{Step}
+use Rattle.xt_core.specs.Host.{Host}
+use Rattle.xt_core.specs.Runs.{IsToldBy}
 use Rattle.xt_offline.specs.declared.fault.ScriptFault.{ScriptFault}
 use Rattle.xt_offline.specs.declared.fault.ScriptFault.TheVariants.{BadLine, TooLong}
-use Rattle.xt_offline.specs.Printing.{Begins, bad_line_text, disorder_text, ended, too_long_text, turns_text}
+use Rattle.xt_offline.specs.Printing.{Begins, bad_line_text, disorder_text, ended, too_long_text, turn_text, turns_text}
 use Rattle.xt_text.specs.Lines.{IsStep, line_of}
 
 -- the lines of steps
@@ -50,10 +53,18 @@ abbrev pub picked : Option ℕ → List Step → List Step
 picked None steps = steps
 picked (Some slot) steps = strike steps slot
 
+-- a step led from a host to another and told this turn: what led to the one and was told there leads, with it, to the other
+abbrev pub IsTold : Step → Said → Host → Host → Type 0
+IsTold x t new old = (xs : List Step) (turns : List Said) → IsToldBy xs turns old → IsToldBy (xs ++ x ∷ []) (turns ++ t ∷ []) new
+
 -- what a run of these steps prints, whole, and its status: 0 where all were run, 3 where one breaks order
 abbrev pub IsOutput : List Step → List ℕ → ℕ → Type 0
 IsOutput steps text status = ((status ≡ 0) × ((told : Told) × (Tells steps told × (text ≡ turns_text told.turns))))
     ⊎ ((status ≡ 3) × ((at : ℕ) × ((told : Told) × (BreaksAt at steps told × (text ≡ turns_text told.turns ++ disorder_text at)))))
+
+-- a step led from a host to another, and what it said was put behind these lines
+abbrev pub IsPutBehind : Step → Host → Host → List ℕ → List ℕ → Type 0
+IsPutBehind x new old lines_new lines_old = (t : Said) × (IsTold x t new old × (lines_new ≡ lines_old ++ turn_text t))
 
 -- a run of these steps was printed
 abbrev pub IsPrinted : List Step → Option (List ℕ) → Option (List ℕ) → ℕ → Type 0

@@ -1,11 +1,12 @@
 //! What steps said, printed.
 
-ghost use Rattle.std.specs.Prelude.{◌<◌, OnOk};
+ghost use Rattle.std.specs.Prelude.{◌≡◌, ◌<◌, ◌++◌, [], OnOk};
 ghost use Rattle.std.specs.Io.KnownBytes.{Appends};
 ghost use Rattle.xt_offline.specs.Printing.{turn_text, disorder_text, log_lines, home_lines, ended, held, Begins, FitsLine};
 ghost use Rattle.xt_text.specs.Replies.{home_offer_text, log_offer_text, slot_reply_text};
 
 use crate::writing::{write_bytes, write_numbered};
+use std::alloc::AllocError;
 use std::io::{self, Write};
 use xt_base::names::Slot;
 use xt_base::outcomes::Turn;
@@ -13,102 +14,78 @@ use xt_base::steps::{HomeOffer, LogOffer};
 use xt_text::buffer::Text;
 use xt_text::print_reply::{print_home_offer, print_log_offer, print_slot_reply};
 
-/// Prints what one step said: its slot and reply, and a line for each of its offers.
-pub fn print_turn<W: Write>(writer: &mut W, text: &mut Text, turn: &Turn) -> io::Result<()>
-    ensures all { OnOk result (Appends (W.contents writer.old) (W.contents writer.new) (turn_text turn.now)) }
-    ensures part { Begins (W.contents writer.old) (W.contents writer.new) (turn_text turn.now) }
+/// Puts what one step said behind lines that wait to be written: its slot and reply, and a line for each of its offers. The one
+/// error is want of memory, and then a part of it may stand there.
+pub fn put_turn(lines: &mut Vec<u8>, text: &mut Text, turn: &Turn) -> Result<(), AllocError>
+    ensures { OnOk result (lines.new.items ≡ lines.old.items ++ turn_text turn.now) }
 {
-    print_reply(writer, text, turn)?;
-    print_log(writer, text, turn)?;
-    print_home(writer, text, turn)
+    put_reply(lines, text, turn)?;
+    put_log_lines(lines, text, turn.slot(), turn.offers.log())?;
+    put_home_lines(lines, text, turn.slot(), turn.offers.home())
 }
 
-/// Prints the offers to a log device.
-fn print_log_lines<W: Write>(
-    writer: &mut W,
-    text: &mut Text,
-    slot: Slot,
-    offers: &[LogOffer],
-) -> io::Result<()>
-    ensures all { OnOk result (Appends (W.contents writer.old) (W.contents writer.new) (log_lines slot offers.now)) }
-    ensures part { Begins (W.contents writer.old) (W.contents writer.new) (log_lines slot offers.now) }
-{
-    for offer in offers {
-        print_log_line(writer, text, slot, offer)?;
-    }
-    Ok(())
-}
-
-/// Prints the offers to a home device.
-fn print_home_lines<W: Write>(
-    writer: &mut W,
-    text: &mut Text,
-    slot: Slot,
-    offers: &[HomeOffer],
-) -> io::Result<()>
-    ensures all { OnOk result (Appends (W.contents writer.old) (W.contents writer.new) (home_lines slot offers.now)) }
-    ensures part { Begins (W.contents writer.old) (W.contents writer.new) (home_lines slot offers.now) }
-{
-    for offer in offers {
-        print_home_line(writer, text, slot, offer)?;
-    }
-    Ok(())
-}
-
-/// Prints the slot of a step and its reply.
-fn print_reply<W: Write>(writer: &mut W, text: &mut Text, turn: &Turn) -> io::Result<()>
-    ensures all { OnOk result (Appends (W.contents writer.old) (W.contents writer.new) (ended (slot_reply_text turn.now.slot turn.now.reply))) }
-    ensures part { Begins (W.contents writer.old) (W.contents writer.new) (ended (slot_reply_text turn.now.slot turn.now.reply)) }
+/// Puts the slot of a step and its reply.
+fn put_reply(lines: &mut Vec<u8>, text: &mut Text, turn: &Turn) -> Result<(), AllocError>
+    ensures { OnOk result (lines.new.items ≡ lines.old.items ++ ended (slot_reply_text turn.now.slot turn.now.reply)) }
 {
     text.clear();
     print_slot_reply(turn.slot(), &turn.reply, text);
-    print_line(writer, text)
+    put_line(lines, text)
 }
 
-/// Prints what a step offered to a log device.
-fn print_log<W: Write>(writer: &mut W, text: &mut Text, turn: &Turn) -> io::Result<()>
-    ensures all { OnOk result (Appends (W.contents writer.old) (W.contents writer.new) (log_lines turn.now.slot turn.now.log)) }
-    ensures part { Begins (W.contents writer.old) (W.contents writer.new) (log_lines turn.now.slot turn.now.log) }
-{
-    print_log_lines(writer, text, turn.slot(), turn.offers.log())
-}
-
-/// Prints what a step offered to a home device.
-fn print_home<W: Write>(writer: &mut W, text: &mut Text, turn: &Turn) -> io::Result<()>
-    ensures all { OnOk result (Appends (W.contents writer.old) (W.contents writer.new) (home_lines turn.now.slot turn.now.home)) }
-    ensures part { Begins (W.contents writer.old) (W.contents writer.new) (home_lines turn.now.slot turn.now.home) }
-{
-    print_home_lines(writer, text, turn.slot(), turn.offers.home())
-}
-
-/// Prints an offer to a log device.
-fn print_log_line<W: Write>(
-    writer: &mut W,
+/// Puts the offers to a log device.
+fn put_log_lines(
+    lines: &mut Vec<u8>,
     text: &mut Text,
     slot: Slot,
-    offer: &LogOffer,
-) -> io::Result<()>
-    ensures all { OnOk result (Appends (W.contents writer.old) (W.contents writer.new) (ended (log_offer_text slot offer.now))) }
-    ensures part { Begins (W.contents writer.old) (W.contents writer.new) (ended (log_offer_text slot offer.now)) }
+    offers: &[LogOffer],
+) -> Result<(), AllocError>
+    ensures { OnOk result (lines.new.items ≡ lines.old.items ++ log_lines slot offers.now) }
 {
-    text.clear();
-    print_log_offer(slot, offer, text);
-    print_line(writer, text)
+    for offer in offers {
+        text.clear();
+        print_log_offer(slot, offer, text);
+        put_line(lines, text)?;
+    }
+    Ok(())
 }
 
-/// Prints an offer to a home device.
-fn print_home_line<W: Write>(
-    writer: &mut W,
+/// Puts the offers to a home device.
+fn put_home_lines(
+    lines: &mut Vec<u8>,
     text: &mut Text,
     slot: Slot,
-    offer: &HomeOffer,
-) -> io::Result<()>
-    ensures all { OnOk result (Appends (W.contents writer.old) (W.contents writer.new) (ended (home_offer_text slot offer.now))) }
-    ensures part { Begins (W.contents writer.old) (W.contents writer.new) (ended (home_offer_text slot offer.now)) }
+    offers: &[HomeOffer],
+) -> Result<(), AllocError>
+    ensures { OnOk result (lines.new.items ≡ lines.old.items ++ home_lines slot offers.now) }
 {
-    text.clear();
-    print_home_offer(slot, offer, text);
-    print_line(writer, text)
+    for offer in offers {
+        text.clear();
+        print_home_offer(slot, offer, text);
+        put_line(lines, text)?;
+    }
+    Ok(())
+}
+
+/// Puts what the buffer holds, and a newline.
+fn put_line(lines: &mut Vec<u8>, text: &mut Text) -> Result<(), AllocError>
+    requires { FitsLine text.old }
+    ensures { OnOk result (lines.new.items ≡ lines.old.items ++ ended (held text.old)) }
+{
+    text.push(b'\n');
+    lines.extend_from_slice(text.bytes())?;
+    Ok(())
+}
+
+/// Writes the lines that wait, and then none waits.
+pub fn write_lines<W: Write>(writer: &mut W, lines: &mut Vec<u8>) -> io::Result<()>
+    ensures all { OnOk result (Appends (W.contents writer.old) (W.contents writer.new) lines.old.items) }
+    ensures none { OnOk result (lines.new.items ≡ []) }
+    ensures part { Begins (W.contents writer.old) (W.contents writer.new) lines.old.items }
+{
+    write_bytes(writer, lines)?;
+    lines.clear();
+    Ok(())
 }
 
 /// Prints what the buffer holds, and a newline.
@@ -121,11 +98,12 @@ pub fn print_line<W: Write>(writer: &mut W, text: &mut Text) -> io::Result<()>
     write_bytes(writer, text.bytes())
 }
 
-/// Prints which step breaks order, counted from 1.
-pub fn print_disorder<W: Write>(writer: &mut W, at: usize) -> io::Result<()>
+/// Writes the lines that wait, and which step breaks order, counted from 1.
+pub fn print_broken<W: Write>(writer: &mut W, lines: &[u8], at: usize) -> io::Result<()>
     requires { at < 18446744073709551615 }
-    ensures all { OnOk result (Appends (W.contents writer.old) (W.contents writer.new) (disorder_text at)) }
-    ensures part { Begins (W.contents writer.old) (W.contents writer.new) (disorder_text at) }
+    ensures all { OnOk result (Appends (W.contents writer.old) (W.contents writer.new) (lines.now ++ disorder_text at)) }
+    ensures part { Begins (W.contents writer.old) (W.contents writer.new) (lines.now ++ disorder_text at) }
 {
+    write_bytes(writer, lines)?;
     write_numbered(writer, b"disorder ", at + 1)
 }

@@ -1,14 +1,16 @@
 //! `xth script` and `xth strike`: all lines are parsed, then run, or those of one slot, and each reply is printed as it is given, with
 //! the offers that its step made.
 
-ghost use Rattle.std.specs.Prelude.{◌≡◌, IfErr, IfOk, IfSome, OnErr, false};
+ghost use Rattle.std.specs.Prelude.{◌≡◌, IfErr, IfOk, IfSome, OnErr, OnOk, false};
 ghost use Rattle.xt_base.specs.Sound.{Each};
+ghost use Rattle.xt_core.specs.Host.{may_come};
+ghost use Rattle.xt_core.specs.declared.host.TurnFault.{TurnFault as ATurnFault};
 ghost use Rattle.xt_text.specs.Lines.{IsStep};
-ghost use Rattle.xt_offline.specs.Script.{is_of_script, picked, IsCutShort, IsFault, IsPlayed, IsPrinted, IsReported, IsRun};
+ghost use Rattle.xt_offline.specs.Script.{is_of_script, picked, IsCutShort, IsFault, IsPlayed, IsPrinted, IsPutBehind, IsReported, IsRun};
 
 use crate::fault::ScriptFault;
 use crate::lines::{parse_script, read_script};
-use crate::printing::{print_disorder, print_turn};
+use crate::printing::{print_broken, put_turn, write_lines};
 use crate::writing::{write_bytes, write_numbered};
 use std::alloc::{AllocError, Global};
 use std::io::{self, Read, Write};
@@ -18,6 +20,9 @@ use xt_base::steps::Step;
 use xt_core::HostCore;
 use xt_core::host::TurnFault;
 use xt_text::buffer::Text;
+
+/// How many bytes of lines wait at most for the next step, before they are written.
+const LINES_BYTES: usize = 32_768;
 
 /// The steps that are run: all, or those of one slot.
 fn pick(alloc: Global, steps: Vec<Step>, only: Option<Slot>) -> Result<Vec<Step>, ScriptFault>
@@ -33,7 +38,21 @@ fn pick(alloc: Global, steps: Vec<Step>, only: Option<Slot>) -> Result<Vec<Step>
     }
 }
 
-/// Runs steps, and prints what each said as soon as it has said it: the status is 0, or 3 where one breaks order.
+/// Takes a step, and puts what it said behind the lines that wait to be written.
+fn put_step(
+    host: &mut HostCore,
+    lines: &mut Vec<u8>,
+    text: &mut Text,
+    step: &Step,
+) -> Result<(), TurnFault>
+    ensures put { OnOk result (IsPutBehind step.now host.new host.old lines.new.items lines.old.items) }
+    ensures disorder { IfErr result (λ fault. fault ≡ ATurnFault.Disorder → (may_come host.old step.now ≡ false) × (lines.new.items ≡ lines.old.items)) }
+{
+    let turn = host.tell(step)?;
+    put_turn(lines, text, &turn).map_err(|_| TurnFault::Memory)
+}
+
+/// Runs steps, and prints what each said, many lines at once: the status is 0, or 3 where one breaks order.
 #[tactic(auto, using(crate::proofs::PlayLemmas::cut_none))]
 fn play_steps<W: Write>(alloc: Global, writer: &mut W, steps: &[Step]) -> Result<u8, ScriptFault>
     requires { Each IsStep steps.now }
@@ -43,16 +62,21 @@ fn play_steps<W: Write>(alloc: Global, writer: &mut W, steps: &[Step]) -> Result
 {
     let mut host = HostCore::new(alloc).map_err(ScriptFault::Memory)?;
     let mut text = Text::new(alloc).map_err(ScriptFault::Memory)?;
+    let mut lines = Vec::new(alloc);
     for (at, step) in steps.iter().enumerate() {
-        match host.tell(step) {
-            Ok(turn) => print_turn(writer, &mut text, &turn).map_err(ScriptFault::Io)?,
+        match put_step(&mut host, &mut lines, &mut text, step) {
+            Ok(()) => {}
             Err(TurnFault::Disorder) => {
-                print_disorder(writer, at).map_err(ScriptFault::Io)?;
+                print_broken(writer, &lines, at).map_err(ScriptFault::Io)?;
                 return Ok(3);
             }
             Err(TurnFault::Memory) => return Err(ScriptFault::Memory(AllocError)),
         }
+        if lines.len() >= LINES_BYTES {
+            write_lines(writer, &mut lines).map_err(ScriptFault::Io)?;
+        }
     }
+    write_bytes(writer, &lines).map_err(ScriptFault::Io)?;
     Ok(0)
 }
 

@@ -1,0 +1,6 @@
+use Rattle.std.proofs.Common.{take, ◌≡◌, ◌++◌}
+use Rattle.xt_offline.specs.Printing.{home_lines}
+use Rattle.xt_offline.proofs.printing.put_home_lines.Given as goal
+
+abbrev pub invariant-loop-offer : goal.invariant-loop-offer
+invariant-loop-offer l = l.lines.items ≡ l.fn.lines.items ++ home_lines l.slot (take l.offer-index l.offers)
