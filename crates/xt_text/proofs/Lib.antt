@@ -1,4 +1,5 @@
 pub mod BufferLemmas
+pub mod DataStrict
 pub mod HomeAgain
 pub mod Lengths
 pub mod OneLine
@@ -6,4 +7,5 @@ pub mod ParseLemmas
 pub mod ReadAgain
 pub mod RunLemmas
 pub mod StepAgain
+pub mod StrictLemmas
 pub mod WordsAgain

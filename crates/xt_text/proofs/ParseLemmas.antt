@@ -1,5 +1,5 @@
 -- What follows where a line is the line of a step.
-use Rattle.std.proofs.Common.{Bool, Err, true, false, leb, List, None, Option, Some, ap, arith, length, refl, subst, sym, ℕ, ◌<◌, ◌∙◌, ◌≡◌, ◌≤◌, [], cond}
+use Rattle.std.proofs.Common.{Bool, Err, true, false, leb, List, None, Option, Result, Some, ap, arith, length, refl, subst, sym, ℕ, ◌<◌, ◌∙◌, ◌≡◌, ◌≤◌, [], cond}
 use Rattle.std.proofs.lemmas.Bool.{false_from_ne_true, le-leb, lt-leb}
 use Rattle.std.proofs.lemmas.Option.{same_Some}
 use Rattle.std.proofs.lemmas.Slice.Eq.{bytes_eq-Decides}
@@ -22,10 +22,6 @@ line_gives line step is e = ap step_of e ∙ step_again step is
 pub line_not_long : (line : List ℕ) (step : Step) → IsStep step → line ≡ line_of step → 8400 < length line → ⊥
 line_not_long line step is e long = omega (arith, ap length e, line_fits step is)
 
--- where a reader failed at the line of a step, it was for want of memory
-pub error_gives : (line : List ℕ) (step : Step) (e : BadLine) → IsStep step → line ≡ line_of step → Gives (Err e) (step_of line) → Gives (Err e) (Some step)
-error_gives line step e is same gives = subst (λ o. Gives (Err e) o) (line_gives line step is same) gives
-
 -- a line that is not too long is what is put into an empty buffer
 pub line_is_printed : (line text : List ℕ) → length line ≤ 8400 → line ≡ text → put (Some []) text ≡ Some line
 line_is_printed line text short e =
@@ -40,10 +36,6 @@ printed_when line text false e = cc
 -- the same by the definition of put
 pub printed_is_line : (line text : List ℕ) → put (Some []) text ≡ Some line → line ≡ text
 printed_is_line line text e = printed_when line text (leb (length text) 8448) e
-
--- a line that is read as a step and is the line of some step is the line of the step read
-pub other_line : (line : List ℕ) (step read : Step) → IsStep step → line ≡ line_of step → step_of line ≡ Some read → line ≡ line_of read
-other_line line step read is e gives = e ∙ ap line_of (same_Some step read (sym (line_gives line step is e) ∙ gives))
 
 -- ---- what a line is parsed as
 -- a line that is too long is parsed as no step
@@ -75,3 +67,7 @@ other_parsed line step short gives other =
 -- a step that has a line is parsed from it
 pub parsed_again : (step : Step) → IsStep step → parsed (line_of step) ≡ Some step
 parsed_again step is = same_parsed (line_of step) step (line_fits step is) (step_again step is) refl
+
+-- where a reader answers as a line is parsed, it answers so of the line of a step
+pub gives_own : (line : List ℕ) (step : Step) (r : Result Step BadLine) → IsStep step → line ≡ line_of step → Gives r (parsed line) → Gives r (Some step)
+gives_own line step r is e gives = subst (λ o. Gives r o) (ap parsed e ∙ parsed_again step is) gives

@@ -12,8 +12,9 @@ use Rattle.xt_base.specs.declared.steps.Request.TheVariants.{Alloc, Cancel, Comm
 use Rattle.xt_base.specs.declared.steps.Step.{Step}
 use Rattle.xt_base.specs.declared.steps.Step.TheVariants.{Begin, Call, End, Flush, Mount, Peek, Post, Show, Take}
 use Rattle.xt_text.proofs.HomeAgain.{home_again}
+use Rattle.xt_text.proofs.DataStrict.{spelled_again}
 use Rattle.xt_text.proofs.ReadAgain.{data_again}
-use Rattle.xt_text.proofs.WordsAgain.{before_joined, before_whole, behind_joined, behind_whole, below_again, decimal_lacks, lacks_joined, name_again, name_lacks, number_again, perm_again, sync_again, trans_again, u32_again}
+use Rattle.xt_text.proofs.WordsAgain.{before_joined, before_whole, behind_joined, behind_whole, below_again, decimal_lacks, lacks_joined, lettered_again, name_again, name_lacks, number_again, perm_again, sync_again, trans_again, u32_again}
 use Rattle.xt_text.specs.DataReading.{read_content, read_data}
 use Rattle.xt_text.specs.DataText.{IsData, spelling}
 use Rattle.xt_text.specs.LineReading.{alloc_of, answer_of, asked_of, before, begin_of, behind, call_of, drop_of, end_of, flush_of, log_of, mount_of, mount_request, own_of, own_request, peek_of, post_of, read_of, request_of, show_of, step_of, take_of, trans_request, words_step}
@@ -74,7 +75,7 @@ request_again (Log first trans block bytes) is other =
       trans_again trans is.0,
       number_again block is.1,
       u32_again first is.2,
-      data_again bytes is.3,
+      spelled_again bytes is.3,
     )
     refl
 request_again (Hold trans block) is other = rw (own_again trans block is.0 is.1) refl
@@ -87,7 +88,7 @@ request_again (Commit trans) is other = rw (trans_again trans is) refl
 request_again (Roll trans) is other = rw (trans_again trans is) refl
 request_again (Cancel trans) is other = rw (trans_again trans is) refl
 request_again Force is other = refl
-request_again (ForceTo number) is other = rw (trans_again number is) refl
+request_again (ForceTo number) is other = rw (lettered_again 99 number is) refl
 request_again Push is other = refl
 request_again Shutdown is other = refl
 request_again Freeze is other = refl

@@ -1,9 +1,9 @@
 -- Words of a line, read, give their values back.
-use Rattle.std.proofs.Common.{Bool, List, None, Option, Some, [], ap, append_assoc, arith, eqb, false, lt-ltb, one-add, append-nil, refl, suc, sym, true, ℕ, ◌++◌, ◌+◌, ◌/◌, ◌<◌, ◌%◌, ◌^◌, ◌∙◌, ◌≡◌, ◌∷◌}
+use Rattle.std.proofs.Common.{Bool, List, None, Option, Some, [], ap, append_assoc, arith, eqb, false, get_or, lt-ltb, one-add, append-nil, refl, suc, sym, true, zero, ℕ, ◌++◌, ◌+◌, ◌/◌, ◌<◌, ◌%◌, ◌^◌, ◌∙◌, ◌≡◌, ◌∷◌}
 use Rattle.std.specs.Fmt.{decimal}
 use Rattle.std.specs.List.{AllByRecursion, position_or_len}
 use Rattle.std.proofs.lemmas.Bool.{eq-eqb, ne_eqb}
-use Rattle.std.proofs.lemmas.Fmt.{decimal_by_steps}
+use Rattle.std.proofs.lemmas.Fmt.{decimal_by_steps, decimal_digit, first_decimal}
 use Rattle.xt_base.specs.declared.names.JobKind.{JobKind}
 use Rattle.xt_base.specs.declared.names.JobKind.TheVariants.{Ckpt, Flush}
 use Rattle.xt_base.specs.declared.names.JobName.{JobName}
@@ -13,7 +13,7 @@ use Rattle.xt_base.specs.declared.steps.Request.TheVariants.{Read}
 use Rattle.xt_text.proofs.ReadAgain.{number_on_digit}
 use Rattle.xt_text.specs.LineReading.{before, behind, kind_of, lettered, name_of, perm_of, sync_of, u32_of}
 use Rattle.xt_text.specs.Lines.{IsAnswerTo, IsName, kind_text, name_text, perm_text, sync_text, trans_text, ◌·◌}
-use Rattle.xt_text.specs.Reading.{below, number_of, number_with}
+use Rattle.xt_text.specs.Reading.{below, is_plain, number_of, number_with}
 
 -- ---- cutting at a separator
 -- a text without a character
@@ -71,9 +71,20 @@ digits_again n more small =
     ∙ rw (number_on_digit (m / 10) (m % 10) (omega arith) (omega arith)) (ap (λ k. number_with k rest) (omega arith)))
     n (omega arith) small more
 
+-- a word that begins with a digit above 0 is plain
+plain_first : (word : List ℕ) → 48 < get_or word 0 0 → is_plain word ≡ true
+plain_first [] high = absurd (omega (arith, high))
+plain_first (c ∷ []) high = refl
+plain_first (c ∷ d ∷ cs) high = rw (ne_eqb c 48 (λ e. omega (arith, high, e))) refl
+
+-- and so is a number
+pub decimal_plain : (n : ℕ) → n < 18446744073709551616 → is_plain (decimal n) ≡ true
+decimal_plain zero small = ap is_plain (decimal_digit 0 (omega arith))
+decimal_plain (suc n) small = plain_first (decimal (suc n)) (first_decimal (suc n) (omega arith) small)
+
 -- a number gives itself
 pub number_again : (n : ℕ) → n < 2 ^ 64 → number_of (decimal n) ≡ Some n
-number_again n small = ap number_of (sym (append-nil (decimal n))) ∙ digits_again n [] (omega arith)
+number_again n small = rw (decimal_plain n (omega arith)) (ap (number_with 0) (sym (append-nil (decimal n))) ∙ digits_again n [] (omega arith))
 
 -- a number below a limit gives itself
 pub below_again : (limit n : ℕ) → n < limit → n < 2 ^ 64 → below limit (decimal n) ≡ Some n
@@ -83,9 +94,13 @@ below_again limit n low small = rw (number_again n small, lt-ltb n limit low) re
 pub u32_again : (n : ℕ) → n < 2 ^ 32 → u32_of (decimal n) ≡ Some n
 u32_again n low = below_again 4294967296 n low (omega arith)
 
+-- a number behind a letter gives itself
+pub lettered_again : (letter n : ℕ) → n < 2 ^ 64 → lettered letter (letter ∷ decimal n) ≡ Some n
+lettered_again letter n small = rw (eq-eqb letter letter refl) (number_again n small)
+
 -- the number of a transaction gives itself
-pub trans_again : (n : ℕ) → n < 2 ^ 64 → lettered (trans_text n) ≡ Some n
-trans_again n small = number_again n small
+pub trans_again : (n : ℕ) → n < 2 ^ 64 → lettered 116 (trans_text n) ≡ Some n
+trans_again n small = lettered_again 116 n small
 
 -- ---- words that stand for a choice
 -- what a job does gives itself

@@ -2,6 +2,7 @@
 use Rattle.std.specs.Prelude.{Bool, List, None, Option, Some, [], false, if◌then◌else◌, length, nat_le, replicate, ℕ, ◌&&◌, ◌*◌, ◌++◌, ◌+◌, ◌-◌, ◌==◌, ◌∷◌}
 use Rattle.std.specs.Str.{bytes_eq}
 use Rattle.xt_base.specs.declared.sizes.TheConstants.{BLOCK_BYTES, DATA_BYTES}
+use Rattle.xt_text.specs.DataText.{spelling}
 use Rattle.xt_text.specs.Reading.{number_on, ◌>>=◌}
 use Rattle.xt_text.specs.declared.data_text.TheConstants.{DIGITS}
 use Rattle.xt_text.specs.declared.data_text.Place.{Place}
@@ -54,6 +55,10 @@ reads bytes place (c ∷ cs) = next bytes place c >>= λ p. reads p.0 p.1 cs
 -- what a text gives; a dash alone gives no bytes
 abbrev pub read_data : List ℕ → Option (List ℕ)
 read_data text = if bytes_eq text (45 ∷ []) then Some [] else reads [] Front text
+
+-- the bytes that a text spells in their one spelling
+abbrev pub spelled_data : List ℕ → Option (List ℕ)
+spelled_data text = read_data text >>= λ bytes. if bytes_eq text (spelling bytes) then Some bytes else None
 
 -- what a text gives where it gives the content of a block
 abbrev pub read_content : List ℕ → Option (List ℕ)

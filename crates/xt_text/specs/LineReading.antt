@@ -1,4 +1,4 @@
--- Lines read loosely: more lines are read than are lines of steps, and the line of each step gives that step.
+-- Lines read: the line of each step gives that step. Where answers are spelled, or a verb stands alone, other lines may give it too.
 use Rattle.std.specs.List.{after_first, before_first}
 use Rattle.std.specs.Prelude.{Bool, List, None, Option, Some, [], codes, false, if◌then◌else◌, length, nat_le, true, ℕ, ◌==◌, ◌∷◌}
 use Rattle.std.specs.Str.{bytes_eq}
@@ -13,7 +13,7 @@ use Rattle.xt_base.specs.declared.steps.Step.{Step}
 use Rattle.xt_base.specs.declared.steps.Step.TheVariants.{Begin, Call, End, Flush, Mount, Peek, Post, Show, Take}
 use Rattle.xt_text.specs.declared.parse.TheConstants.{LINE_BYTES}
 use Rattle.xt_text.specs.declared.words.TheConstants.{BLANK}
-use Rattle.xt_text.specs.DataReading.{read_content, read_data}
+use Rattle.xt_text.specs.DataReading.{read_content, spelled_data}
 use Rattle.xt_text.specs.HomeReading.{home_of}
 use Rattle.xt_text.specs.Lines.{line_of}
 use Rattle.xt_text.specs.Reading.{below, number_of, ◌>>=◌}
@@ -31,10 +31,10 @@ behind separator text = after_first (λ c. c == separator) text
 abbrev pub u32_of : List ℕ → Option ℕ
 u32_of word = below 4294967296 word
 
--- a number behind a letter, whichever it is
-abbrev pub lettered : List ℕ → Option ℕ
-lettered [] = None
-lettered (c ∷ cs) = number_of cs
+-- a number behind a letter
+abbrev pub lettered : ℕ → List ℕ → Option ℕ
+lettered letter [] = None
+lettered letter (c ∷ cs) = if c == letter then number_of cs else None
 
 -- what a job does
 unfoldable pub kind_of : List ℕ → Option JobKind
@@ -76,7 +76,7 @@ alloc_of words =
 -- TRANS BLOCK
 unfoldable pub own_of : List ℕ → Option (ℕ × ℕ)
 own_of words =
-    lettered (before BLANK words) >>= λ trans.
+    lettered 116 (before BLANK words) >>= λ trans.
     number_of (behind BLANK words) >>= λ block.
     Some (trans, block)
 
@@ -85,10 +85,10 @@ unfoldable pub log_of : List ℕ → Option Request
 log_of words =
     let a = behind BLANK words in
     let b = behind BLANK a in
-    lettered (before BLANK words) >>= λ trans.
+    lettered 116 (before BLANK words) >>= λ trans.
     number_of (before BLANK a) >>= λ block.
     u32_of (before BLANK b) >>= λ first.
-    read_data (behind BLANK b) >>= λ bytes.
+    spelled_data (behind BLANK b) >>= λ bytes.
     Some (Log first trans block bytes)
 
 -- BLOCK
@@ -99,7 +99,7 @@ drop_of words = number_of words >>= λ block. Some (Release block)
 unfoldable pub mount_request : List ℕ → List ℕ → Option Request
 mount_request verb words =
     if bytes_eq verb (codes "force") then Some Force
-    else if bytes_eq verb (codes "forceto") then (lettered words >>= λ number. Some (ForceTo number))
+    else if bytes_eq verb (codes "forceto") then (lettered 99 words >>= λ number. Some (ForceTo number))
     else if bytes_eq verb (codes "push") then Some Push
     else if bytes_eq verb (codes "shutdown") then Some Shutdown
     else if bytes_eq verb (codes "freeze") then Some Freeze
@@ -110,9 +110,9 @@ mount_request verb words =
 -- a request of a transaction, or of the mount as a whole: its verb, and what stands behind it
 unfoldable pub trans_request : List ℕ → List ℕ → Option Request
 trans_request verb words =
-    if bytes_eq verb (codes "commit") then (lettered words >>= λ trans. Some (Commit trans))
-    else if bytes_eq verb (codes "roll") then (lettered words >>= λ trans. Some (Roll trans))
-    else if bytes_eq verb (codes "cancel") then (lettered words >>= λ trans. Some (Cancel trans))
+    if bytes_eq verb (codes "commit") then (lettered 116 words >>= λ trans. Some (Commit trans))
+    else if bytes_eq verb (codes "roll") then (lettered 116 words >>= λ trans. Some (Roll trans))
+    else if bytes_eq verb (codes "cancel") then (lettered 116 words >>= λ trans. Some (Cancel trans))
     else mount_request verb words
 
 -- a request of a transaction's block: its verb, and what stands behind it
@@ -164,7 +164,7 @@ mount_of words =
 unfoldable pub read_of : ℕ → ℕ → List ℕ → Option Step
 read_of slot life words =
     let a = behind BLANK words in
-    lettered (before BLANK words) >>= λ trans.
+    lettered 116 (before BLANK words) >>= λ trans.
     number_of (before BLANK a) >>= λ block.
     answer_of (behind BLANK a) >>= λ answer.
     Some (Call slot life (Read trans block) answer)
@@ -238,6 +238,23 @@ unfoldable pub step_of : List ℕ → Option Step
 step_of line = words_step (before BLANK line) (behind BLANK line)
 
 -- ---- parsing
+-- whether no line but its own gives a request: not a read, behind which an answer stands, nor a verb that stands alone
+abbrev pub is_strict_request : Request → Bool
+is_strict_request (Read trans block) = false
+is_strict_request Force = false
+is_strict_request Push = false
+is_strict_request Shutdown = false
+is_strict_request Freeze = false
+is_strict_request Thaw = false
+is_strict_request Unmount = false
+is_strict_request other = true
+
+-- whether no line but its own gives a step: not where answers are spelled
+abbrev pub is_strict : Step → Bool
+is_strict (Call slot life request answer) = is_strict_request request
+is_strict (Flush worker name answers) = false
+is_strict other = true
+
 -- the step that a line is parsed as: the one that it gives, if this is that step's own line, and not too long
 unfoldable pub parsed : List ℕ → Option Step
 parsed line = if nat_le (length line) LINE_BYTES then (step_of line >>= λ step. if bytes_eq line (line_of step) then Some step else None) else None

@@ -1,5 +1,5 @@
 -- What a reader answers, and the reading of numbers.
-use Rattle.std.specs.Prelude.{Err, List, None, Ok, Option, Result, Some, [], if◌then◌else◌, nat_le, nat_lt, ℕ, ◌&&◌, ◌*◌, ◌+◌, ◌-◌, ◌≡◌, ◌∷◌}
+use Rattle.std.specs.Prelude.{Bool, Err, List, None, Ok, Option, Result, Some, [], false, if◌then◌else◌, nat_le, nat_lt, not, true, ℕ, ◌&&◌, ◌==◌, ◌*◌, ◌+◌, ◌-◌, ◌≡◌, ◌∷◌}
 use Rattle.xt_text.specs.declared.bad_line.BadLine.{BadLine}
 use Rattle.xt_text.specs.declared.bad_line.BadLine.TheVariants.{Memory, Spelling}
 
@@ -30,9 +30,15 @@ abbrev pub number_with : ℕ → List ℕ → Option ℕ
 number_with number [] = Some number
 number_with number (c ∷ cs) = number_on number c >>= λ more. number_with more cs
 
--- the number of some digits, loosely: zeros may lead, and no digit is 0
+-- whether there is a first character, and no other behind a zero
+abbrev pub is_plain : List ℕ → Bool
+is_plain [] = false
+is_plain (c ∷ []) = true
+is_plain (c ∷ d ∷ cs) = not (c == 48)
+
+-- the number of some digits, where no zero leads
 abbrev pub number_of : List ℕ → Option ℕ
-number_of word = number_with 0 word
+number_of word = if is_plain word then number_with 0 word else None
 
 -- a number below a limit
 abbrev pub below : ℕ → List ℕ → Option ℕ

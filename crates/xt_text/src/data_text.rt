@@ -1,10 +1,10 @@
 //! Data as text, both ways. A list of bytes is cut into maximal runs of equal bytes. A run of four or more is
 //! `XX*N`, shorter ones are plain digits, and a dot stands between neighbours unless both are short; no bytes are `-`.
 
-ghost use Rattle.std.specs.Prelude.{◌≡◌, ◌==◌, ◌<◌, ◌≤◌, ◌++◌, ◌∷◌, List, [], ℕ, length, drop, replicate, None, Some, IfErr, IsErrOf, IfSome, IfOk};
+ghost use Rattle.std.specs.Prelude.{◌≡◌, ◌==◌, ◌<◌, ◌≤◌, ◌↔◌, ◌++◌, ◌∷◌, IsTrue, List, [], ℕ, length, drop, replicate, None, Some, IfErr, IsErrOf, IfSome, IfOk};
 ghost use Rattle.std.specs.List.{All, prefix_len};
 ghost use Rattle.xt_text.specs.Buffer.{put};
-ghost use Rattle.xt_text.specs.DataReading.{at_end, byte_value, front_at, hex_value, is_count, next, read_content, read_data, reads, with_run};
+ghost use Rattle.xt_text.specs.DataReading.{at_end, byte_value, front_at, hex_value, is_count, next, read_content, read_data, reads, spelled_data, with_run};
 ghost use Rattle.xt_text.specs.Reading.{Gives, GivesAs};
 ghost use Rattle.xt_text.specs.Lines.{IsContent};
 ghost use Rattle.xt_text.specs.declared.bad_line.BadLine.TheVariants.{Memory, Spelling};
@@ -13,7 +13,7 @@ ghost use Rattle.xt_text.specs.DataText.{IsData, hex, hex_digit, is_short, run_t
 
 use crate::bad_line::BadLine;
 use crate::buffer::Text;
-use crate::numbers::{number_on, put_number};
+use crate::numbers::{number_of, number_on, put_number};
 use std::alloc::Global;
 use xt_base::content::{Content, Data};
 use xt_base::sizes::{BLOCK_BYTES, DATA_BYTES};
@@ -231,32 +231,59 @@ fn with_end(mut bytes: Vec<u8>, place: Place) -> Result<Vec<u8>, BadLine>
     Ok(bytes)
 }
 
-/// The run that a text spells, where that is all that it spells: nothing stands before it.
-fn only_run(bytes: &[u8], place: Place) -> Option<Run>
-    ensures value { IfSome result (λ run. at_end bytes.now place ≡ Some (replicate run.count run.byte)) }
+/// The run that a text spells with a count in its one spelling, where that is all that it spells.
+#[tactic(auto, using(crate::proofs::DataStrict::counted_strict, crate::proofs::DataStrict::byte_small))]
+fn counted_run(text: &[u8]) -> Option<Run>
+    ensures value { IfSome result (λ run. text.now ≡ spelling (replicate run.count run.byte)) }
     ensures short { IfSome result (λ run. run.count ≤ DATA_BYTES) }
     ensures range { IfSome result (λ run. run.byte < 256) }
 {
-    match place {
-        Place::Count(byte, count) if bytes.is_empty() && count <= DATA_BYTES as u64 => Some(Run {
-            byte,
-            count: count as usize,
-        }),
-        _ => None,
+    let [high, low, star, digits @ ..] = text else {
+        return None;
+    };
+    let byte = byte_value(*high, *low).ok()?;
+    let count = number_of(digits).ok()? as usize;
+    if *star != b'*' || count < COUNTED || count > DATA_BYTES {
+        return None;
     }
+    Some(Run { byte, count })
 }
 
 /// Reads what a request carries from its text, loosely.
-pub(crate) fn read_data(alloc: Global, text: &[u8]) -> Result<Data, BadLine>
+fn read_data(alloc: Global, text: &[u8]) -> Result<Data, BadLine>
     ensures value { Gives result (read_data text.now) }
     ensures valid { IfOk result IsData }
 {
     let (bytes, place) = read_parts(alloc, text)?;
-    if let Some(run) = only_run(&bytes, place) {
-        return Ok(Data::of_repeated(alloc, run.byte, run.count)?.unwrap());
-    }
     let bytes = with_end(bytes, place)?;
     Ok(Data::of_vec(alloc, bytes)?.unwrap())
+}
+
+/// Whether a text is the one spelling of some data.
+#[tactic(auto, using(crate::proofs::DataStrict::printed_whole))]
+fn is_spelling(text: &[u8], bytes: &Data, out: &mut Text) -> bool
+    ensures { IsTrue result ↔ (text.now ≡ spelling bytes.now) }
+{
+    out.clear();
+    put_data(out, bytes);
+    out.holds(text)
+}
+
+/// Reads what a request carries from its one spelling: what is read of it is printed to tell, where it is more than one run.
+#[tactic(auto, using(crate::proofs::DataStrict::counted_again))]
+pub(crate) fn spelled_data(alloc: Global, text: &[u8], out: &mut Text) -> Result<Data, BadLine>
+    ensures value { Gives result (spelled_data text.now) }
+    ensures valid { IfOk result IsData }
+{
+    if let Some(run) = counted_run(text) {
+        return Ok(Data::of_repeated(alloc, run.byte, run.count)?.unwrap());
+    }
+    let data = read_data(alloc, text)?;
+    if is_spelling(text, &data, out) {
+        Ok(data)
+    } else {
+        Err(BadLine::Spelling)
+    }
 }
 
 /// Reads the content of a block from its text, loosely; a text of more or fewer bytes is a bad spelling.

@@ -3,7 +3,7 @@
 ghost use Rattle.std.specs.Fmt.{decimal};
 ghost use Rattle.std.specs.Prelude.{◌≡◌, ◌<◌, ◌≤◌, length, IfErr, IfOk};
 ghost use Rattle.xt_text.specs.Buffer.{put};
-ghost use Rattle.xt_text.specs.Reading.{Gives, below, number_of, number_on};
+ghost use Rattle.xt_text.specs.Reading.{Gives, below, is_plain, number_of, number_on};
 ghost use Rattle.xt_text.specs.declared.bad_line.BadLine.TheVariants.{Spelling};
 
 use crate::bad_line::BadLine;
@@ -23,11 +23,26 @@ pub(crate) fn number_on(number: u64, digit: u8) -> Result<u64, BadLine>
         .ok_or(BadLine::Spelling)
 }
 
-/// The number of some digits, loosely: leading zeros are let through, and no digit is 0.
+/// Whether a word has a first character, and no other behind a zero.
+#[inline(always)]
+fn is_plain(word: &[u8]) -> bool
+    ensures { result ≡ is_plain word.now }
+{
+    match word {
+        [] => false,
+        [_] => true,
+        [first, ..] => *first != b'0',
+    }
+}
+
+/// The number of some digits: at least one, and none behind a zero that leads.
 pub(crate) fn number_of(word: &[u8]) -> Result<u64, BadLine>
     ensures value { Gives result (number_of word.now) }
     ensures spelling { IfErr result (λ e. e ≡ Spelling) }
 {
+    if !is_plain(word) {
+        return Err(BadLine::Spelling);
+    }
     let mut number = 0;
     for digit in word {
         number = number_on(number, *digit)?;

@@ -1,8 +1,8 @@
 //! Lines parsed as steps.
 
-ghost use Rattle.std.specs.Prelude.{◌≡◌, ◌≤◌, ◌↔◌, length, IfOk, IsErrOf, IsTrue, OnOk, Some};
+ghost use Rattle.std.specs.Prelude.{◌≡◌, ◌≤◌, ◌↔◌, length, IfOk, IsErrOf, IsFalse, IsTrue, None, OnOk, Some};
 ghost use Rattle.xt_base.specs.declared.steps.Step.{Step as AnyStep};
-ghost use Rattle.xt_text.specs.LineReading.{parsed};
+ghost use Rattle.xt_text.specs.LineReading.{is_strict, is_strict_request, parsed, step_of};
 ghost use Rattle.xt_text.specs.Lines.{IsStep, line_of};
 ghost use Rattle.xt_text.specs.Reading.{Gives};
 ghost use Rattle.xt_text.specs.SessionLines.{takes_memory};
@@ -13,20 +13,66 @@ use crate::buffer::Text;
 use crate::print_step::print_step;
 use crate::read_line::step_of;
 use std::alloc::Global;
-use xt_base::steps::Step;
+use xt_base::steps::{Request, Step};
 
 /// The most bytes of a line, without its newline.
 pub const LINE_BYTES: usize = 8400;
 
-/// Whether a line is that of a step, which is printed to tell.
-#[tactic(auto, using(crate::proofs::ParseLemmas::line_is_printed, crate::proofs::ParseLemmas::printed_is_line))]
+/// Whether no line but its own gives a request: not a read, behind which an answer stands, nor a verb that stands alone.
+fn is_strict_request(request: &Request) -> bool
+    ensures { result ≡ is_strict_request request.now }
+{
+    !matches!(
+        request,
+        Request::Read { .. }
+            | Request::Force
+            | Request::Push
+            | Request::Shutdown
+            | Request::Freeze
+            | Request::Thaw
+            | Request::Unmount
+    )
+}
+
+/// Whether no line but its own gives a step: not where answers are spelled.
+fn is_strict(step: &Step) -> bool
+    ensures { result ≡ is_strict step.now }
+{
+    match step {
+        Step::Call { request, .. } => is_strict_request(request),
+        Step::Flush { .. } => false,
+        _ => true,
+    }
+}
+
+/// Whether a line that gives a step is the line of that step: it is printed to tell, where other lines may give it too.
+#[tactic(auto, using(crate::proofs::ParseLemmas::line_is_printed, crate::proofs::ParseLemmas::printed_is_line, crate::proofs::StrictLemmas::step_strict))]
 fn is_line_of(line: &[u8], step: &Step, text: &mut Text) -> bool
-    requires { length line.now ≤ 8400 }
+    requires short { length line.now ≤ 8400 }
+    requires given { step_of line.now ≡ Some step.now }
     ensures { IsTrue result ↔ (line.now ≡ line_of step.now) }
 {
+    if is_strict(step) {
+        return true;
+    }
     text.clear();
     print_step(step, text);
     text.holds(line)
+}
+
+/// Whether what a line gives is the step of another line.
+#[tactic(auto, using(crate::proofs::ParseLemmas::error_parsed, crate::proofs::ParseLemmas::other_parsed, crate::proofs::ParseLemmas::same_parsed))]
+fn is_of_other(line: &[u8], read: &Result<Step, BadLine>, text: &mut Text) -> bool
+    requires short { length line.now ≤ 8400 }
+    requires given { Gives read.now (step_of line.now) }
+    ensures other { IsTrue result → parsed line.now ≡ None }
+    ensures parsed { IsFalse result → Gives read.now (parsed line.now) }
+    ensures found { IsFalse result → IfOk read.now (λ step. line.now ≡ line_of step) }
+{
+    match read {
+        Ok(step) => !is_line_of(line, step, text),
+        Err(_) => false,
+    }
 }
 
 /// The step that a line spells, without its newline. A line that is not the one spelling of a step is a bad line, and
@@ -54,10 +100,9 @@ pub fn parse_line_in(alloc: Global, line: &[u8], text: &mut Text) -> Result<Step
     if line.len() > LINE_BYTES {
         return Err(BadLine::Spelling);
     }
-    let step = step_of(alloc, line)?;
-    if is_line_of(line, &step, text) {
-        Ok(step)
-    } else {
-        Err(BadLine::Spelling)
+    let read = step_of(alloc, line, text);
+    if is_of_other(line, &read, text) {
+        return Err(BadLine::Spelling);
     }
+    read
 }

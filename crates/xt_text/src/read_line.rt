@@ -1,4 +1,5 @@
-//! Lines read loosely: the line of each step gives that step, and other lines may give some step too.
+//! Lines read: the line of each step gives that step; a line with answers, or a verb that stands alone, is read loosely, and other lines
+//! may give its step too.
 
 ghost use Rattle.std.specs.Prelude.{◌≡◌, ◌<◌, ◌^◌, IfErr, IfOk, IsErrOf, IsTrue};
 ghost use Rattle.xt_text.specs.LineReading.{alloc_of, answer_of, asked_of, before, begin_of, behind, call_of, drop_of, end_of, flush_of, log_of, mount_of, mount_request, own_of, own_request, peek_of, post_of, read_of, request_of, show_of, step_of, take_of, trans_request, words_step};
@@ -8,7 +9,8 @@ ghost use Rattle.xt_text.specs.SessionLines.{takes_data, takes_words};
 ghost use Rattle.xt_text.specs.declared.bad_line.BadLine.TheVariants.{Memory, Spelling};
 
 use crate::bad_line::BadLine;
-use crate::data_text::{read_content, read_data};
+use crate::buffer::Text;
+use crate::data_text::{read_content, spelled_data};
 use crate::home_answers::home_of;
 use crate::numbers::number_of;
 use crate::words::{
@@ -49,7 +51,7 @@ fn own_of(words: &[u8]) -> Result<(TransNo, Block), BadLine>
 
 /// TRANS BLOCK FIRST DATA.
 #[tactic(auto, unfolding(crate::specs::LineReading::log_of))]
-fn log_of(alloc: Global, words: &[u8]) -> Result<Request, BadLine>
+fn log_of(alloc: Global, words: &[u8], text: &mut Text) -> Result<Request, BadLine>
     ensures value { Gives result (log_of words.now) }
     ensures valid { IfOk result IsRequest }
 {
@@ -59,7 +61,7 @@ fn log_of(alloc: Global, words: &[u8]) -> Result<Request, BadLine>
     let trans = trans_of(trans)?;
     let block = block_of(block)?;
     let first = u32_of(first)?;
-    let bytes = read_data(alloc, bytes)?;
+    let bytes = spelled_data(alloc, bytes, text)?;
     Ok(Request::Log {
         first,
         trans,
@@ -162,7 +164,7 @@ fn own_request(verb: &[u8], words: &[u8]) -> Result<Request, BadLine>
 
 /// A request other than a read: its verb, and what stands behind it.
 #[tactic(auto, unfolding(crate::specs::LineReading::request_of))]
-fn request_of(alloc: Global, verb: &[u8], words: &[u8]) -> Result<Request, BadLine>
+fn request_of(alloc: Global, verb: &[u8], words: &[u8], text: &mut Text) -> Result<Request, BadLine>
     ensures value { Gives result (request_of verb.now words.now) }
     ensures valid { IfOk result IsRequest }
     ensures memory { IsErrOf result Memory → IsTrue (takes_data verb.now) }
@@ -170,7 +172,7 @@ fn request_of(alloc: Global, verb: &[u8], words: &[u8]) -> Result<Request, BadLi
     if is_word(verb, b"alloc") {
         alloc_of(words)
     } else if is_word(verb, b"log") {
-        log_of(alloc, words)
+        log_of(alloc, words, text)
     } else if is_word(verb, b"drop") {
         drop_of(words)
     } else {
@@ -264,6 +266,7 @@ fn asked_of(
     life: Life,
     verb: &[u8],
     words: &[u8],
+    text: &mut Text,
 ) -> Result<Step, BadLine>
     ensures value { Gives result (asked_of slot life verb.now words.now) }
     ensures valid { IfOk result IsStep }
@@ -272,7 +275,7 @@ fn asked_of(
     if is_word(verb, b"read") {
         return read_of(alloc, slot, life, words);
     }
-    let request = request_of(alloc, verb, words)?;
+    let request = request_of(alloc, verb, words, text)?;
     Ok(Step::Call {
         slot,
         life,
@@ -283,7 +286,7 @@ fn asked_of(
 
 /// A call: SLOT.LIFE, and the request.
 #[tactic(auto, unfolding(crate::specs::LineReading::call_of))]
-fn call_of(alloc: Global, mount: &[u8], words: &[u8]) -> Result<Step, BadLine>
+fn call_of(alloc: Global, mount: &[u8], words: &[u8], text: &mut Text) -> Result<Step, BadLine>
     ensures value { Gives result (call_of mount.now words.now) }
     ensures valid { IfOk result IsStep }
     ensures memory { IsErrOf result Memory → IsTrue (takes_data (before BLANK words.now)) }
@@ -292,7 +295,7 @@ fn call_of(alloc: Global, mount: &[u8], words: &[u8]) -> Result<Step, BadLine>
     let (verb, words) = cut(words, BLANK);
     let slot = slot_of(slot)?;
     let life = life_of(life)?;
-    asked_of(alloc, slot, life, verb, words)
+    asked_of(alloc, slot, life, verb, words, text)
 }
 
 /// NAME.
@@ -373,7 +376,7 @@ fn flush_of(alloc: Global, words: &[u8]) -> Result<Step, BadLine>
 
 /// A step: its first word, and what stands behind it.
 #[tactic(auto, unfolding(crate::specs::LineReading::words_step))]
-fn words_step(alloc: Global, word: &[u8], words: &[u8]) -> Result<Step, BadLine>
+fn words_step(alloc: Global, word: &[u8], words: &[u8], text: &mut Text) -> Result<Step, BadLine>
     ensures value { Gives result (words_step word.now words.now) }
     ensures valid { IfOk result IsStep }
     ensures memory { IsErrOf result Memory → IsTrue (takes_words word.now words.now) }
@@ -395,17 +398,17 @@ fn words_step(alloc: Global, word: &[u8], words: &[u8]) -> Result<Step, BadLine>
     } else if is_word(word, b"peek") {
         peek_of(words)
     } else {
-        call_of(alloc, word, words)
+        call_of(alloc, word, words, text)
     }
 }
 
-/// Reads a line loosely.
+/// Reads a line, loosely where answers or a verb alone stand in it. The buffer may hold anything: what is printed to compare goes into it.
 #[tactic(auto, unfolding(crate::specs::LineReading::step_of))]
-pub(crate) fn step_of(alloc: Global, line: &[u8]) -> Result<Step, BadLine>
+pub(crate) fn step_of(alloc: Global, line: &[u8], text: &mut Text) -> Result<Step, BadLine>
     ensures value { Gives result (step_of line.now) }
     ensures valid { IfOk result IsStep }
     ensures memory { IsErrOf result Memory → IsTrue (takes_words (before BLANK line.now) (behind BLANK line.now)) }
 {
     let (word, words) = cut(line, BLANK);
-    words_step(alloc, word, words)
+    words_step(alloc, word, words, text)
 }

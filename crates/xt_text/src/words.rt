@@ -1,5 +1,5 @@
 //! The words of a line, read: numbers with their letters, names of jobs, and words that stand for a choice.
-//! Words are read loosely; the line that is printed of what was read tells whether each was spelled right.
+//! Each gives a value in its one spelling alone.
 
 ghost use Rattle.std.specs.List.{position_or_len};
 ghost use Rattle.std.specs.Prelude.{◌≡◌, ◌==◌, ◌<◌, ◌^◌, IfErr, IfOk};
@@ -96,33 +96,33 @@ pub(crate) fn block_of(word: &[u8]) -> Result<Block, BadLine>
 }
 
 /// A number behind a letter.
-pub(crate) fn lettered(word: &[u8]) -> Result<u64, BadLine>
-    ensures value { Gives result (lettered word.now) }
+fn lettered(letter: u8, word: &[u8]) -> Result<u64, BadLine>
+    ensures value { Gives result (lettered letter word.now) }
     ensures spelling { IfErr result (λ e. e ≡ Spelling) }
 {
     match word {
-        [_, digits @ ..] => number_of(digits),
-        [] => Err(BadLine::Spelling),
+        [first, digits @ ..] if *first == letter => number_of(digits),
+        _ => Err(BadLine::Spelling),
     }
 }
 
 /// The number of a transaction.
 pub(crate) fn trans_of(word: &[u8]) -> Result<TransNo, BadLine>
-    ensures value { Gives result (lettered word.now) }
+    ensures value { Gives result (lettered 116 word.now) }
     ensures range { IfOk result (λ trans. trans < 2 ^ 64) }
     ensures spelling { IfErr result (λ e. e ≡ Spelling) }
 {
-    let number = lettered(word)?;
+    let number = lettered(b't', word)?;
     Ok(TransNo(number))
 }
 
 /// The number of a checkpoint.
 pub(crate) fn ckpt_of(word: &[u8]) -> Result<CkptNo, BadLine>
-    ensures value { Gives result (lettered word.now) }
+    ensures value { Gives result (lettered 99 word.now) }
     ensures range { IfOk result (λ number. number < 2 ^ 64) }
     ensures spelling { IfErr result (λ e. e ≡ Spelling) }
 {
-    let number = lettered(word)?;
+    let number = lettered(b'c', word)?;
     Ok(CkptNo(number))
 }
 
