@@ -206,18 +206,13 @@ impl<H: House, const S: u8> SlotBook<H, S> {
 
     /// Serves a request to one life of the slot, and books it with its receipt; or it is refused memory, and nothing changes.
     #[tactic(auto, using(crate::proofs::BookLemmas::few_events))]
-    pub(crate) fn call(
-        &mut self,
-        seat: &mut HostSeat<H>,
-        step: Twin<Step>,
-        rooms: &mut Rooms,
-    ) -> Reply
+    pub(crate) fn call(&mut self, seat: &mut HostSeat<H>, step: Twin<Step>, rooms: Rooms) -> Reply
     where
         Shares<H>: Counts<H, S>,
         requires slot { slot_of step.booked ≡ S }
         requires call { is_call step.booked ≡ true }
         requires suits { suits step.booked (lone_with 0 None self.old.state) ≡ true }
-        requires ready { may_hold step.booked ≡ true → AreReady rooms.old }
+        requires ready { may_hold step.booked ≡ true → AreReady rooms }
         requires room { 1 ≤ self.old.room }
         requires seat { 1 ≤ seat.old.room }
         ensures booked { is_no_memory result ≡ false → IsBooked S step.booked result self.old self.new seat.old seat.new }
@@ -399,12 +394,12 @@ fn serve(
     slot: &mut MountSlot,
     alloc: Global,
     step: &Step,
-    rooms: &mut Rooms,
+    rooms: Rooms,
 ) -> Result<(Reply, Twin<Reply>), Errno>
     requires slot { slot_of step.now ≡ slot.old.slot }
     requires call { is_call step.now ≡ true }
     requires suits { suits step.now (lone_with 0 None slot.old) ≡ true }
-    requires ready { may_hold step.now ≡ true → AreReady rooms.old }
+    requires ready { may_hold step.now ≡ true → AreReady rooms }
     ensures served { IfOk result (λ told. IsServed step.now told.0 slot.new slot.old) }
     ensures twice { IfOk result (λ told. told.1.booked ≡ told.0) }
     ensures happened { IfOk result (λ told. is_no_memory told.0 ≡ false) }

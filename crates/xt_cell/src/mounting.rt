@@ -199,7 +199,7 @@ where
         return Err(Errno::NoMemory);
     };
     let slot = book.slot().slot();
-    let reply = book.call(seat, unmount_twin(slot, life), &mut Rooms::none());
+    let reply = book.call(seat, unmount_twin(slot, life), Rooms::none());
     if reply.is_no_memory() {
         return Err(Errno::NoMemory);
     }
