@@ -1,3 +1,4 @@
 pub mod PlanLemmas
 pub mod CleanLemmas
 pub mod MountLemmas
+pub mod WeightLemmas

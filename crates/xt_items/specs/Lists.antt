@@ -1,7 +1,8 @@
 -- The item lists of a mount, without what landed checkpoints cost.
-use Rattle.std.specs.Prelude.{List, None, Option, Some, [], ℕ}
+use Rattle.std.specs.Prelude.{List, None, Option, Some, [], length, ℕ, ◌≤◌}
 use Rattle.xt_base.specs.Maps.{put}
 use Rattle.xt_base.specs.State.{Flight, Items}
+use Rattle.xt_base.specs.declared.sizes.TheConstants.{CHUNKS}
 use Rattle.xt_vectors.specs.Vectors.{Vector, vector}
 
 -- the number of the open checkpoint; the commit list; the log vectors of its items; the checkpoint in flight, if there is one; and the active list, blocks with the number of their checkpoint
@@ -15,6 +16,10 @@ pub record Lists : Type 0 where
 -- empty lists, and the first number open
 abbrev pub no_items : Lists
 no_items = record { open_number = 1; cil = []; vectors = []; flight = None; ail = [] }
+
+-- an item has no more chunks than a block
+abbrev pub HasFewChunks : ℕ × List ℕ → Type 0
+HasFewChunks e = length e.1 ≤ CHUNKS
 
 -- the lists of a mount's state: these, with what landed checkpoints cost
 abbrev pub with_landed : List (ℕ × ℕ) → Lists → Items

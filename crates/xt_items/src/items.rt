@@ -1,9 +1,9 @@
 //! The item lists: the commit list, the checkpoint in flight, and the active list.
 
-ghost use Rattle.std.specs.Prelude.{ℕ, ◌≡◌, ◌+◌, ◌<◌, ◌≤◌, ◌==◌, ◌*◌, [], Bool, length, filter, Some, None, true, is_some, not, unwrap_or, if◌then◌else◌, IfOk, IfSome};
+ghost use Rattle.std.specs.Prelude.{ℕ, ◌≡◌, ◌+◌, ◌<◌, ◌≤◌, ◌==◌, ◌*◌, [], Bool, length, filter, Some, None, true, is_some, not, sum_by, unwrap_or, if◌then◌else◌, IfOk, IfSome};
 ghost use Rattle.xt_base.specs.Chunks.{union};
 ghost use Rattle.xt_base.specs.Maps.{at, has, is_in, put, without};
-ghost use Rattle.xt_base.specs.Space.{cost, flight_items, is_listed, least_number, lesser};
+ghost use Rattle.xt_base.specs.Space.{cost, flight_items, is_listed, item_cost, least_number, lesser};
 ghost use Rattle.xt_base.specs.Jobs.{activated, fits_plan, flight_pieces, gone};
 ghost use Rattle.xt_base.specs.Sound.{IsRising};
 ghost use Rattle.xt_items.specs.Lists.{no_items, flight_number, marked, with_landed};
@@ -48,6 +48,8 @@ pub struct Items {
     open_number: u64,
     cil: NumberMap<Chunks>,
     vectors: NumberMap<LogVector>,
+    /// What the items of the commit list cost, without the ends of a text.
+    weight: u64,
     flight: Option<Flight>,
     ail: NumberMap<u64>,
     /// The list of a flight that has landed, for a later one.
@@ -57,15 +59,17 @@ pub struct Items {
 }
 
 impl Model for Items {
-    ghost use Rattle.std.specs.Prelude.{◌≡◌};
-    ghost use Rattle.xt_items.specs.Lists.{Lists};
+    ghost use Rattle.std.specs.Prelude.{◌≡◌, sum_by};
+    ghost use Rattle.xt_base.specs.Sound.{Each};
+    ghost use Rattle.xt_base.specs.Space.{item_cost};
+    ghost use Rattle.xt_items.specs.Lists.{HasFewChunks, Lists};
     ghost use Rattle.xt_vectors.specs.Vectors.{chunks_of};
 
     ghost Value = { Lists };
 
     ghost view = { λ l. record { open_number = l.open_number; cil = l.cil; vectors = l.vectors; flight = l.flight; ail = l.ail } };
 
-    ghost invariant = { λ l. chunks_of l.vectors ≡ l.cil };
+    ghost invariant = { λ l. (chunks_of l.vectors ≡ l.cil) × (l.weight ≡ sum_by item_cost l.cil) × Each HasFewChunks l.cil };
 }
 
 impl Items {
@@ -80,6 +84,7 @@ impl Items {
             open_number: 1,
             cil,
             vectors,
+            weight: 0,
             flight: None,
             ail,
             spare: None,
@@ -235,9 +240,27 @@ impl Items {
         requires { length self.old.cil < ROOM }
         ensures { self.new ≡ record self.old { cil = put block vector.chunks self.old.cil; vectors = put block vector self.old.vectors } }
     {
-        self.cil.put(block, vector.chunks());
+        let chunks = vector.chunks();
+        let weight = self.weight_with(block, chunks);
+        self.cil.put(block, chunks);
+        self.weight = weight;
         let before = self.vectors.exchange(block, vector);
         self.spare_room = room_of(before);
+    }
+
+    /// What the items of the commit list cost once the block's item has these chunks.
+    fn weight_with(&self, block: u64, chunks: Chunks) -> u64
+        requires { length self.now.cil < ROOM }
+        ensures value { result ≡ sum_by item_cost (put block chunks self.now.cil) }
+        ensures few { length chunks ≤ CHUNKS }
+    {
+        // For the proof, that the blocks rise: at run time nothing.
+        let _items = self.cil.entries();
+        let weight = self.weight + item_cost(chunks);
+        match self.marks(block) {
+            Some(before) => weight - item_cost(before),
+            None => weight,
+        }
     }
 
     /// The room of a log vector that was replaced, if there is one: a later one may take its place.
@@ -252,7 +275,10 @@ impl Items {
         ensures value { result ≡ cost form.ends self.now.cil }
         ensures range { result ≤ MOST_ENDS + ROOM * (ITEM_COST + CHUNK_COST * CHUNKS) }
     {
-        cost_of(form, self.cil.entries())
+        if self.cil().is_empty() {
+            return 0;
+        }
+        u64::from(form.ends()) + self.weight
     }
 
     /// An empty list for the next `fly`: that of a flight which has landed, or a new one. The one error is want of memory.
@@ -283,6 +309,7 @@ impl Items {
     {
         let items = mem::replace(&mut self.cil, next);
         self.vectors.clear();
+        self.weight = 0;
         self.flight = Some(Flight {
             number: self.open_number,
             items,
@@ -373,21 +400,12 @@ fn room_of(vector: Option<LogVector>) -> Option<VectorRoom> {
     }
 }
 
-/// The cost of a list of items: 0 where it is empty, else the ends of a text of this form, and what each item costs with
-/// its chunks.
-fn cost_of(form: Form, items: &[(u64, Chunks)]) -> u64
-    requires { length items.now ≤ ROOM }
-    ensures value { result ≡ cost form.ends items.now }
-    ensures range { result ≤ MOST_ENDS + ROOM * (ITEM_COST + CHUNK_COST * CHUNKS) }
+/// What an item costs that has these chunks.
+fn item_cost(chunks: Chunks) -> u64
+    ensures value { result ≡ ITEM_COST + CHUNK_COST * length chunks }
+    ensures few { length chunks ≤ CHUNKS }
 {
-    if items.is_empty() {
-        return 0;
-    }
-    let mut sum = 0;
-    for e in items {
-        sum += ITEM_COST + CHUNK_COST * e.1.count() as u64;
-    }
-    u64::from(form.ends()) + sum
+    ITEM_COST + CHUNK_COST * u64::from(chunks.count())
 }
 
 /// The least number among entries.
