@@ -1,10 +1,10 @@
 -- The first entries of the active list in the order of (number, block), built up entry by entry.
 use Rattle.std.proofs.Common.{◌≡◌, ◌∙◌, ◌+◌, ◌<◌, ◌≤◌, ◌∷◌, Bool, List, [], add-one, ap, arith, drop, false, get_or, length, refl, suc, sym, take, true, zero, ℕ}
-use Rattle.std.proofs.Math.ListN.{set}
+use Rattle.std.proofs.Math.ListN.{drop_of_length-le, set}
 use Rattle.std.proofs.Math.Seq.{drop-cons}
 use Rattle.std.proofs.lemmas.List.{length-take-le, take_all}
 use Rattle.std.proofs.lemmas.Bool.Decides.{nat_tests}
-use Rattle.std.specs.Prelude.{filter, if◌then◌else◌, map, nat_le, nat_lt, not, ◌==◌}
+use Rattle.std.specs.Prelude.{filter, if◌then◌else◌, nat_le, not, ◌==◌}
 use Rattle.xt_base.proofs.RisingLemmas.{filter_drop, filter_pass}
 use Rattle.xt_base.specs.Jobs.{by_number, placed}
 use Rattle.xt_items.specs.Plans.{inserted, rank}
@@ -98,23 +98,21 @@ passed_by room n m p xs old d same lt fails before =
     ∙ ap (λ ys. take room (by_number ys)) (sym (filter_drop p (get_or xs m d) rest fails) ∙ ap (filter p) (sym (drop-cons xs m d lt)))
 
 -- ---- whether there is a block to write
-length_placed_by : (b : Bool) (e x : ℕ × ℕ) (xs : List (ℕ × ℕ)) → length (placed e xs) ≡ suc (length xs) → length (if b then e ∷ x ∷ xs else x ∷ placed e xs) ≡ suc (suc (length xs))
-length_placed_by true e x xs h = refl
-length_placed_by false e x xs h = ap suc h
+-- past one that does not pass
+pub none_yet : (n : ℕ) (p : ℕ × ℕ → Bool) (xs whole : List (ℕ × ℕ)) (d : ℕ × ℕ) → n < length xs → p (get_or xs n d) ≡ false → whole ≡ filter p (drop n xs) → whole ≡ filter p (drop (n + 1) xs)
+none_yet n p xs whole d lt fails before =
+    before ∙ ap (filter p) (drop-cons xs n d lt) ∙ filter_drop p (get_or xs n d) (drop (suc n) xs) fails ∙ ap (λ k. filter p (drop k xs)) (sym (add-one n))
 
-length_placed : (e : ℕ × ℕ) (xs : List (ℕ × ℕ)) → length (placed e xs) ≡ suc (length xs)
-length_placed e [] = refl
-length_placed e (x ∷ xs) = length_placed_by (nat_le e.1 x.1) e x xs (length_placed e xs)
+some_due : (x : ℕ × ℕ) (xs : List (ℕ × ℕ)) → true ≡ not (length (x ∷ xs) == 0)
+some_due x xs = grind (arith, nat_tests)
 
-length_by_number : (xs : List (ℕ × ℕ)) → length (by_number xs) ≡ length xs
-length_by_number [] = refl
-length_by_number (x ∷ xs) = length_placed x (by_number xs) ∙ ap suc (length_by_number xs)
+-- at one that passes
+pub one_due : (n : ℕ) (p : ℕ × ℕ → Bool) (xs whole : List (ℕ × ℕ)) (d : ℕ × ℕ) → n < length xs → p (get_or xs n d) ≡ true → whole ≡ filter p (drop n xs) → true ≡ not (length whole == 0)
+one_due n p xs whole d lt passes before =
+    let rest : List (ℕ × ℕ) = drop (suc n) xs in
+    some_due (get_or xs n d) (filter p rest)
+    ∙ ap (λ (ys : List (ℕ × ℕ)). not (length ys == 0)) (sym (before ∙ ap (filter p) (drop-cons xs n d lt) ∙ filter_pass p (get_or xs n d) rest passes))
 
--- the first of some are none only where there are none
-first_none : (room : ℕ) (xs : List (ℕ × ℕ)) → nat_lt 0 (length (map (λ e. e.0) (take (suc room) xs))) ≡ not (length xs == 0)
-first_none room [] = refl
-first_none room (x ∷ xs) = grind (arith, nat_tests)
-
--- a plan has a block where one is due
-pub has_plan : (xs : List (ℕ × ℕ)) → nat_lt 0 (length (map (λ e. e.0) (take 8 (by_number xs)))) ≡ not (length xs == 0)
-has_plan xs = first_none 7 (by_number xs) ∙ ap (λ n. not (n == 0)) (length_by_number xs)
+-- at the end
+pub none_due : (n : ℕ) (p : ℕ × ℕ → Bool) (xs whole : List (ℕ × ℕ)) → length xs ≤ n → whole ≡ filter p (drop n xs) → false ≡ not (length whole == 0)
+none_due n p xs whole le before = ap (λ (ys : List (ℕ × ℕ)). not (length ys == 0)) (sym (before ∙ ap (filter p) (drop_of_length-le xs le)))

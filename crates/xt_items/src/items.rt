@@ -371,7 +371,13 @@ impl Items {
         requires { F.IsAlwaysCallable is_owned.now }
         ensures { (f : ℕ → Bool) → ((b : ℕ) → (o : Bool) → F.post is_owned.now b o → o ≡ f b) → result ≡ not (length (due f self.now) == 0) }
     {
-        self.flush_plan(is_owned).count() > 0
+        let entries = self.ail.entries();
+        for entry in entries {
+            if self.is_unpinned(entry.0, is_owned) {
+                return true;
+            }
+        }
+        false
     }
 
     /// A flush of this plan was answered so: where the sync was Ok, the blocks whose write was Ok leave the active list.
