@@ -1,4 +1,5 @@
 pub mod ChangedLemmas
+pub mod BusyLemmas
 pub mod SettleLemmas
 pub mod KeepLemmas
 pub mod EndLemmas

@@ -1,8 +1,8 @@
 //! How many blocks of each list nobody owns.
 
-ghost use Rattle.std.specs.Prelude.{◌≡◌, ◌≤◌, ◌||◌, count_by, not};
+ghost use Rattle.std.specs.Prelude.{◌≡◌, ◌+◌, ◌≤◌, ◌||◌, count_by, length, not};
 ghost use Rattle.xt_base.specs.Maps.{is_in};
-ghost use Rattle.xt_base.specs.Space.{flight_items};
+ghost use Rattle.xt_base.specs.Space.{count_beside, flight_items};
 
 use crate::accounts::Accounts;
 use xt_base::names::Block;
@@ -54,4 +54,16 @@ pub fn beside_ail(locks: &Locks, accounts: &Accounts) -> usize
             || accounts.is_committed(e.0)
             || accounts.is_in_flight(e.0)))
         .count()
+}
+
+/// How many places the owners and the lists have together: no fewer than there are busy blocks, as some are on two of them.
+#[tactic(auto, using(crate::proofs::BusyLemmas::beside_le))]
+pub fn most_busy(locks: &Locks, accounts: &Accounts) -> usize
+    ensures { length locks.now + count_beside locks.now accounts.now.items ≤ result }
+{
+    let flight = match accounts.flight_items() {
+        Some(flight) => flight.len(),
+        None => 0,
+    };
+    locks.owners().len() + accounts.cil().len() + flight + accounts.ail().len()
 }

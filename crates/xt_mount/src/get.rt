@@ -10,7 +10,6 @@ ghost use Rattle.xt_mount.specs.Reads.{place_refusals};
 
 use crate::machine::Machine;
 use xt_base::names::{Block, TransNo};
-use xt_base::sizes::BUSY_BLOCKS;
 use xt_base::steps::{Errno, Reply};
 
 impl Machine {
@@ -40,7 +39,7 @@ impl Machine {
         if self.is_elsewhere(trans, block) {
             return Some(Errno::Again);
         }
-        if !self.is_busy(block) && self.busy_count() >= BUSY_BLOCKS {
+        if !self.is_busy(block) && self.is_full() {
             return Some(Errno::NoBufs);
         }
         None

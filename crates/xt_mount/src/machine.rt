@@ -1,6 +1,6 @@
 //! The parts of a mount, and what several requests ask of them.
 
-ghost use Rattle.std.specs.Prelude.{◌≡◌, ◌≤◌, is_some, IfErr, IfOk};
+ghost use Rattle.std.specs.Prelude.{◌≡◌, ◌≤◌, is_some, nat_le, IfErr, IfOk};
 ghost use Rattle.xt_base.specs.Calls.{asks_ckpt, asks_flush, is_elsewhere, is_own, shut_down};
 ghost use Rattle.xt_base.specs.Legs.{own_count};
 ghost use Rattle.xt_base.specs.Maps.{at};
@@ -10,11 +10,11 @@ ghost use Rattle.xt_frames.specs.Shares.{no_contents};
 ghost use Rattle.xt_mount.specs.Machines.{state_of};
 
 use crate::accounts::Accounts;
-use crate::busy::{beside_ail, beside_cil, beside_flight};
+use crate::busy::{beside_ail, beside_cil, beside_flight, most_busy};
 use std::alloc::Global;
 use xt_base::form::Form;
 use xt_base::names::{Block, JobKind, Life, TransNo};
-use xt_base::sizes::MOST_LOG;
+use xt_base::sizes::{BUSY_BLOCKS, MOST_LOG};
 use xt_base::steps::Reason;
 use xt_frames::share::FrameShare;
 use xt_jobs::table::JobTable;
@@ -89,13 +89,20 @@ impl Machine {
     }
 
     /// How many blocks are busy.
-    pub fn busy_count(&self) -> usize
+    fn busy_count(&self) -> usize
         ensures { result ≡ busy_count (state_of self.now) }
     {
         self.locks.owners().len()
             + beside_cil(&self.locks, &self.accounts)
             + beside_flight(&self.locks, &self.accounts)
             + beside_ail(&self.locks, &self.accounts)
+    }
+
+    /// Whether there is no room for one more busy block. Where all lists together are short, nothing is counted.
+    pub fn is_full(&self) -> bool
+        ensures { result ≡ nat_le BUSY_BLOCKS (busy_count (state_of self.now)) }
+    {
+        most_busy(&self.locks, &self.accounts) >= BUSY_BLOCKS && self.busy_count() >= BUSY_BLOCKS
     }
 
     /// The recursion count of a block that a transaction has.
