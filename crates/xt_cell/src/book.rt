@@ -23,9 +23,10 @@ use crate::account::Account;
 use crate::house::{House, Of};
 use crate::kept::Kept;
 use crate::records::{Entry, Receipt};
+use crate::rooms::Rooms;
 use crate::seat::HostSeat;
 use crate::shares::{Counts, Shares};
-use crate::twin::{Rooms, Twin};
+use crate::twin::Twin;
 use bytes::Bytes;
 use std::alloc::{AllocError, Global};
 use std::marker::Model;
@@ -206,13 +207,18 @@ impl<H: House, const S: u8> SlotBook<H, S> {
 
     /// Serves a request to one life of the slot, and books it with its receipt; or it is refused memory, and nothing changes.
     #[tactic(auto, using(crate::proofs::BookLemmas::few_events))]
-    pub(crate) fn call(&mut self, seat: &mut HostSeat<H>, step: Twin<Step>, rooms: Rooms) -> Reply
+    pub(crate) fn call(
+        &mut self,
+        seat: &mut HostSeat<H>,
+        step: Twin<Step>,
+        rooms: &mut Rooms,
+    ) -> Reply
     where
         Shares<H>: Counts<H, S>,
         requires slot { slot_of step.booked ≡ S }
         requires call { is_call step.booked ≡ true }
         requires suits { suits step.booked (lone_with 0 None self.old.state) ≡ true }
-        requires ready { may_hold step.booked ≡ true → AreReady rooms }
+        requires ready { may_hold step.booked ≡ true → AreReady rooms.old }
         requires room { 1 ≤ self.old.room }
         requires seat { 1 ≤ seat.old.room }
         ensures booked { is_no_memory result ≡ false → IsBooked S step.booked result self.old self.new seat.old seat.new }
@@ -394,12 +400,12 @@ fn serve(
     slot: &mut MountSlot,
     alloc: Global,
     step: &Step,
-    rooms: Rooms,
+    rooms: &mut Rooms,
 ) -> Result<(Reply, Twin<Reply>), Errno>
     requires slot { slot_of step.now ≡ slot.old.slot }
     requires call { is_call step.now ≡ true }
     requires suits { suits step.now (lone_with 0 None slot.old) ≡ true }
-    requires ready { may_hold step.now ≡ true → AreReady rooms }
+    requires ready { may_hold step.now ≡ true → AreReady rooms.old }
     ensures served { IfOk result (λ told. IsServed step.now told.0 slot.new slot.old) }
     ensures twice { IfOk result (λ told. told.1.booked ≡ told.0) }
     ensures happened { IfOk result (λ told. is_no_memory told.0 ≡ false) }

@@ -34,9 +34,10 @@ use crate::house::House;
 use crate::mount_ref::MountRef;
 use crate::poster::Poster;
 use crate::posting::post_both;
+use crate::rooms::Rooms;
 use crate::seat::HostSeat;
 use crate::shares::{Counts, Shares};
-use crate::twin::{Rooms, Twin};
+use crate::twin::{Twin, call_twin};
 use std::alloc::{AllocError, Global};
 use std::sync::Wait;
 use xt_base::names::{JobName, Life};
@@ -57,6 +58,8 @@ pub struct SlotCell<H: House, const S: u8> {
     pub(crate) poster: Poster<S>,
     pub(crate) home: Option<Box<dyn HomeDevice + Send>>,
     pub(crate) log: Option<Box<dyn LogDevice + Send>>,
+    /// Room for the blocks that a reply may name.
+    rooms: Rooms,
     ghost last: { is_last_post (last_of unposted poster.posted) book.state ≡ true },
     ghost has_home: { is_some home ≡ is_some book.state.mounted },
     ghost log_at_hand: { is_some log ≡ has_log book.state.mounted },
@@ -87,6 +90,7 @@ impl<H: House, const S: u8> SlotCell<H, S> {
             poster,
             home,
             log,
+            rooms: Rooms::none(),
         }
     }
 
@@ -158,9 +162,12 @@ impl<H: House, const S: u8> SlotCell<H, S> {
             book,
             poster,
             home,
+            rooms,
             ..
         } = self;
-        let reply = serve_call(rt, *alloc, book, poster, seat, home, at.life, request);
+        let reply = serve_call(
+            rt, *alloc, book, poster, seat, home, at.life, request, rooms,
+        );
         if !reply.is_no_memory() {
             show_shut(book, seat, board, is_asked, before);
         }
@@ -208,32 +215,24 @@ fn ready<H: House, const S: u8>(
     home: &mut Option<Box<dyn HomeDevice + Send>>,
     life: Life,
     request: Request,
-) -> Result<(Twin<Step>, Rooms), AllocError>
+    rooms: &mut Rooms,
+) -> Result<Twin<Step>, AllocError>
     requires home { is_some home.old ≡ is_some book.old.state.mounted }
     ensures book { IsSameBook book.old book.new }
     ensures seat { IsSameSeat seat.old seat.new }
     ensures home { is_some home.new ≡ is_some home.old }
     ensures room { OnOk result (3 ≤ book.new.room) }
     ensures place { OnOk result (1 ≤ seat.new.room) }
-    ensures step { IfOk result (λ made. IsStepOf S life request book.old.state.mounted made.0.booked) }
-    ensures rooms { IfOk result (λ made. may_hold made.0.booked ≡ true → AreReady made.1) }
+    ensures step { IfOk result (λ made. IsStepOf S life request book.old.state.mounted made.booked) }
+    ensures rooms { IfOk result (λ made. may_hold made.booked ≡ true → AreReady rooms.new) }
     ensures tried { OnErr result ((home.new ≡ home.old) ⊎ ((answer : AnAnswer) × MatchOption home.old (home.new ≡ None) (λ h. IfSome home.new (λ k. Tells (home_tells h) (home_taken h) (read_calls (read_block request) answer) (home_tells k) (home_taken k))))) }
-    ensures asked { IfOk result (λ made. MatchOption home.old (home.new ≡ None) (λ h. IfSome home.new (λ k. Tells (home_tells h) (home_taken h) (step_calls made.0.booked) (home_tells k) (home_taken k)))) }
+    ensures asked { IfOk result (λ made. MatchOption home.old (home.new ≡ None) (λ h. IfSome home.new (λ k. Tells (home_tells h) (home_taken h) (step_calls made.booked) (home_tells k) (home_taken k)))) }
 {
     make_room(book, seat)?;
-    let rooms = Rooms::of(alloc, &request)?;
+    rooms.prepare(alloc, &request)?;
     let answer = asked(alloc, book, home, life, &request)?;
     let slot = book.slot().slot();
-    let step = Twin::shared(
-        alloc,
-        Step::Call {
-            slot,
-            life,
-            request,
-            answer,
-        },
-    )?;
-    Ok((step, rooms))
+    call_twin(alloc, slot, life, request, answer)
 }
 
 /// Serves a request and books it with its posts, or is refused memory.
@@ -246,6 +245,7 @@ fn serve_call<H: House, R: Wait, const S: u8>(
     home: &mut Option<Box<dyn HomeDevice + Send>>,
     life: Life,
     request: Request,
+    rooms: &mut Rooms,
 ) -> Reply
 where
     Shares<H>: Counts<H, S>,
@@ -263,7 +263,7 @@ where
     ensures booked { is_no_memory result ≡ false → (step : AStep) × IsStepOf S life request book.old.state.mounted step × IsEvent S step result book.old book.new seat.old seat.new poster.old poster.new × MatchOption home.old (home.new ≡ None) (λ h. IfSome home.new (λ k. Tells (home_tells h) (home_taken h) (step_calls step) (home_tells k) (home_taken k))) }
     ensures counted { is_no_memory result ≡ false → ⟦<Shares<H> as Counts<H, S>>⟧.counts seat.new.counts ≡ counted S (⟦<Shares<H> as Counts<H, S>>⟧.counts seat.old.counts) }
 {
-    let Ok((step, rooms)) = ready(alloc, book, seat, home, life, request) else {
+    let Ok(step) = ready(alloc, book, seat, home, life, request, rooms) else {
         return Reply::Refused(Errno::NoMemory);
     };
     let reply = book.call(seat, step, rooms);

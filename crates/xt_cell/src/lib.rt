@@ -15,6 +15,7 @@ pub mod poster;
 pub mod posting;
 pub mod records;
 pub mod reserve;
+pub mod rooms;
 pub mod running;
 pub mod seat;
 pub mod shares;

@@ -23,9 +23,10 @@ use crate::house::House;
 use crate::mount_ref::MountRef;
 use crate::poster::Poster;
 use crate::posting::post_both;
+use crate::rooms::Rooms;
 use crate::seat::HostSeat;
 use crate::shares::{Counts, Shares};
-use crate::twin::{Rooms, Twin};
+use crate::twin::Twin;
 use std::sync::Wait;
 use xt_base::names::{Life, Slot};
 use xt_base::steps::{Answer, Errno, Reply, Request, Step};
@@ -199,7 +200,7 @@ where
         return Err(Errno::NoMemory);
     };
     let slot = book.slot().slot();
-    let reply = book.call(seat, unmount_twin(slot, life), Rooms::none());
+    let reply = book.call(seat, unmount_twin(slot, life), &mut Rooms::none());
     if reply.is_no_memory() {
         return Err(Errno::NoMemory);
     }

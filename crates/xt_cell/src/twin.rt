@@ -1,14 +1,12 @@
 //! What an event says, twice: for the book of its slot and for the receipt of its seat.
 
-ghost use Rattle.std.specs.Prelude.{◌≡◌, IfOk, OnErr, None, true};
-ghost use Rattle.xt_base.specs.Alone.{carries_content, names_held};
-ghost use Rattle.xt_base.specs.Carried.{may_leave_held};
-ghost use Rattle.xt_cell.specs.Twins.{AreReady};
+ghost use Rattle.std.specs.Prelude.{◌≡◌, IfOk, IfSome};
+ghost use Rattle.xt_base.specs.declared.steps.Step.{Step as AStep};
 
 use crate::kept::Kept;
 use std::alloc::{AllocError, Global};
-use xt_base::content::HeldRoom;
-use xt_base::steps::{Reply, Request, Step};
+use xt_base::names::{Life, Slot};
+use xt_base::steps::{Answer, Reply, Request, Step};
 
 /// One value twice.
 #[derive(Drop)]
@@ -39,47 +37,106 @@ impl<T: Drop> Twin<T> {
     }
 }
 
-/// Room for two copies of the blocks that the reply to a request may name, made before the request is served.
-#[derive(Drop)]
-pub(crate) struct Rooms {
-    first: Option<HeldRoom>,
-    second: Option<HeldRoom>,
+/// A copy of a request that carries no bytes. It takes no memory; None where it carries some.
+fn plain_request(request: &Request) -> Option<Request>
+    ensures { IfSome result (λ copy. copy ≡ request.now) }
+{
+    let copy = match *request {
+        Request::Alloc { unit, count, perm } => Request::Alloc { unit, count, perm },
+        Request::Get { trans, block } => Request::Get { trans, block },
+        Request::Read { trans, block } => Request::Read { trans, block },
+        Request::View { trans, block } => Request::View { trans, block },
+        Request::Log { .. } => return None,
+        Request::Hold { trans, block } => Request::Hold { trans, block },
+        Request::Unhold { trans, block } => Request::Unhold { trans, block },
+        Request::Relse { trans, block } => Request::Relse { trans, block },
+        Request::Join { trans, block } => Request::Join { trans, block },
+        Request::Release { block } => Request::Release { block },
+        Request::Inval { trans, block } => Request::Inval { trans, block },
+        Request::Commit { trans } => Request::Commit { trans },
+        Request::Roll { trans } => Request::Roll { trans },
+        Request::Cancel { trans } => Request::Cancel { trans },
+        Request::Force => Request::Force,
+        Request::ForceTo { number } => Request::ForceTo { number },
+        Request::Push => Request::Push,
+        Request::Shutdown => Request::Shutdown,
+        Request::Freeze => Request::Freeze,
+        Request::Thaw => Request::Thaw,
+        Request::Unmount => Request::Unmount,
+    };
+    Some(copy)
 }
 
-impl Rooms {
-    /// Room for nothing.
-    pub fn none() -> Self
-        ensures { result ≡ record { first = None; second = None } }
-    {
-        Rooms {
-            first: None,
-            second: None,
-        }
+/// A copy of an answer that carries no content. It takes no memory; None where it carries one.
+fn plain_answer(answer: &Answer) -> Option<Answer>
+    ensures { IfSome result (λ copy. copy ≡ answer.now) }
+{
+    match answer {
+        Answer::None => Some(Answer::None),
+        Answer::Content(_) => None,
+        Answer::Failed => Some(Answer::Failed),
     }
+}
 
-    /// What the reply to a request may need: a commit, a roll and a cancel may leave blocks held. The one error is want of memory.
-    pub fn of(alloc: Global, request: &Request) -> Result<Self, AllocError>
-        ensures { IfOk result (λ rooms. may_leave_held request.now ≡ true → AreReady rooms) }
-    {
-        match request {
-            Request::Commit { .. } | Request::Roll { .. } | Request::Cancel { .. } => Ok(Rooms {
-                first: Some(HeldRoom::new(alloc)?),
-                second: Some(HeldRoom::new(alloc)?),
-            }),
-            _ => Ok(Rooms::none()),
-        }
-    }
+/// A copy of the step of a call that carries neither bytes nor a content. It takes no memory; None where it carries some.
+fn plain_call(slot: Slot, life: Life, request: &Request, answer: &Answer) -> Option<Step>
+    ensures { IfSome result (λ step. step ≡ AStep.Call slot life request.now answer.now) }
+{
+    let request = plain_request(request)?;
+    let answer = plain_answer(answer)?;
+    Some(Step::Call {
+        slot,
+        life,
+        request,
+        answer,
+    })
+}
 
-    /// A reply twice. A content is copied once, and shared; the one error is want of memory for that.
-    pub fn twin(self, alloc: Global, reply: &Reply) -> Result<Twin<Reply>, AllocError>
-        requires { names_held reply.now ≡ true → AreReady self }
-        ensures ok { IfOk result (λ twin. twin.booked ≡ reply.now) }
-        ensures err { OnErr result (carries_content reply.now ≡ true) }
-    {
-        if let Reply::Data(content) = reply {
-            return Twin::shared(alloc, Reply::Data(content.copy(alloc)?));
-        }
-        let Rooms { first, second } = self;
-        Ok(Twin::of(reply.copy_into(first), reply.copy_into(second)))
+/// The step of a call, twice. One that carries bytes or a content is shared; the one error is want of memory for that.
+pub(crate) fn call_twin(
+    alloc: Global,
+    slot: Slot,
+    life: Life,
+    request: Request,
+    answer: Answer,
+) -> Result<Twin<Step>, AllocError>
+    ensures { IfOk result (λ twin. twin.booked ≡ AStep.Call slot life request answer) }
+{
+    let copy = plain_call(slot, life, &request, &answer);
+    let step = Step::Call {
+        slot,
+        life,
+        request,
+        answer,
+    };
+    match copy {
+        Some(first) => Ok(Twin::of(first, step)),
+        None => Twin::shared(alloc, step),
     }
+}
+
+/// A copy of a reply that carries no content and names no held blocks. It takes no memory; None where it has some.
+pub(crate) fn plain_reply(reply: &Reply) -> Option<Reply>
+    ensures { IfSome result (λ copy. copy ≡ reply.now) }
+{
+    let copy = match *reply {
+        Reply::Okay => Reply::Okay,
+        Reply::Life(life) => Reply::Life(life),
+        Reply::Trans(trans) => Reply::Trans(trans),
+        Reply::Committed(number) => Reply::Committed(number),
+        Reply::Wait(number) => Reply::Wait(number),
+        Reply::Done => Reply::Done,
+        Reply::Kept => Reply::Kept,
+        Reply::Free => Reply::Free,
+        Reply::Nothing => Reply::Nothing,
+        Reply::Begun { number, pieces } => Reply::Begun { number, pieces },
+        Reply::Landed(number) => Reply::Landed(number),
+        Reply::Failed(number) => Reply::Failed(number),
+        Reply::Flushed(count) => Reply::Flushed(count),
+        Reply::Seen { life, reason } => Reply::Seen { life, reason },
+        Reply::Refused(errno) => Reply::Refused(errno),
+        Reply::OkayHeld(_) | Reply::CommittedHeld { .. } => return None,
+        Reply::Aborted(_) | Reply::Data(_) => return None,
+    };
+    Some(copy)
 }

@@ -8,10 +8,12 @@ use denote.Param.Send.{AllSend, AllSync, IsSend, IsSync, recorded_send, recorded
 use Rattle.std.proofs.Crossing.{crosses, dyn_box_send, Arc-sync}
 use Rattle.std.specs.contracts.sync.Mutex as mutex
 use Rattle.xt_cell.specs.declared.house.House.{Ghosts}
+use Rattle.xt_base.proofs.content.HeldRoom.TheSendSync as held
 use Rattle.xt_cell.specs.contracts.cell.SlotCell as cell
 use Rattle.xt_cell.proofs.book.SlotBook.TheSendSync as book
 use Rattle.xt_cell.proofs.poster.Poster.TheSendSync as poster
 use Rattle.xt_cell.specs.contracts.reserve.Reserve as reserves
+use Rattle.xt_cell.specs.contracts.rooms.Rooms as rooms
 use Rattle.xt_cell.proofs.reserve.Reserve.TheSendSync as reserve
 use Rattle.xt_host.specs.contracts.host.Host as host
 use Rattle.xt_host.specs.contracts.slot_lock.SlotLock as lock
@@ -20,6 +22,13 @@ use Rattle.xt_queue.proofs.jobs.JobQueue.TheSendSync as queue
 
 module _ (H A B : RattleType) (g : Ghosts H.Denot) (ga : object.Ghosts A.Denot) (gb : object.Ghosts B.Denot)
     (sa : Sends (object.table_of A.Denot ga)) (a : IsSend A) (sb : Sends (object.table_of B.Denot gb)) (b : IsSend B) where
+  rooms_send : IsSend rooms.the_field.row
+  rooms_send =
+      let h = held.the_send in
+      let s = shape rooms.the_type in
+      let fields : AllSend s.fields = (search sendable depth 20, (search sendable depth 20, tt)) in
+      struct_send s fields
+
   pub cell_send : (S : RattleType) → IsSend (cell.the_row H S A B g ga gb)
   cell_send S =
       let home = dyn_box_send A ga sa a in
@@ -27,7 +36,7 @@ module _ (H A B : RattleType) (g : Ghosts H.Denot) (ga : object.Ghosts A.Denot) 
       let post = poster.the_send S in
       let page = book.the_send H S g in
       let s = shape (cell.the_type H S A B g ga gb) in
-      let fields : AllSend s.fields = (search sendable depth 20, (search sendable depth 20, (search sendable depth 20, (search sendable depth 20, (search sendable depth 20, (search sendable depth 20, tt)))))) in
+      let fields : AllSend s.fields = (search sendable depth 20, (search sendable depth 20, (search sendable depth 20, (search sendable depth 20, (search sendable depth 20, (search sendable depth 20, (rooms_send, tt))))))) in
       recorded_send _ _ _ (cell.the_type H S A B g ga gb).to_one (struct_send s fields)
 
   pub mutex_sync : (S : RattleType) → IsSync (mutex.the_row (cell.the_row H S A B g ga gb))
