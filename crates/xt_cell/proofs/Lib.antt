@@ -1,4 +1,5 @@
 mod BenchLemmas
+mod WriteLemmas
 mod BookLemmas
 mod ServedLemmas
 mod FactLemmas

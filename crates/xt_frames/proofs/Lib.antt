@@ -1,4 +1,5 @@
 pub mod SettleLemmas
+pub mod FrameLemmas
 pub mod FreshLemmas
 pub mod BusyLemmas
 pub mod EntryLemmas

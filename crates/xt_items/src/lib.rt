@@ -4,7 +4,6 @@
 mod clean;
 pub mod items;
 pub mod plan;
-mod spares;
 #[cfg(test)]
 mod tests;
 

@@ -159,9 +159,7 @@ fn push_marked(out: &mut Vec<u8>, content: &Content, word: u32)
     ensures form { length out.new.items ≡ CHUNK_BYTES * length (places_of word) }
     ensures capacity { BLOCK_BYTES ≤ vec_capacity out.new }
 {
-    let low = word.trailing_zeros();
-    let end = CHUNKS - word.leading_zeros();
-    for k in low..end {
+    for k in 0..CHUNKS {
         push_if_marked(out, content, word, k);
     }
 }
