@@ -1,5 +1,5 @@
 -- Sets of chunks, by their tests.
-use Rattle.std.proofs.Common.{◌≡◌, ◌∙◌, ℕ, zero, suc, ◌+◌, ◌*◌, ◌%◌, ◌^◌, ◌<◌, ◌≤◌, List, [], ◌∷◌, ◌++◌, Bool, true, false, sym, ap, refl, length, arith, inl, inr, ◌⊎◌, subst, length-append}
+use Rattle.std.proofs.Common.{◌≡◌, ◌∙◌, ℕ, zero, suc, ◌+◌, ◌*◌, ◌-◌, ◌/◌, ◌%◌, ◌^◌, ◌<◌, ◌≤◌, List, [], ◌∷◌, ◌++◌, Bool, true, false, sym, ap, refl, length, arith, inl, inr, ◌⊎◌, subst, length-append}
 use Rattle.std.specs.Prelude.{filter, ◌==◌, ◌&&◌, ◌||◌, nat_lt, nat_eq, max, bit_or, count_ones}
 use Rattle.std.specs.Set.{is_member}
 use Rattle.std.specs.Int.{bit_at, w32}
@@ -11,7 +11,7 @@ use Rattle.std.proofs.lemmas.Nat.Bits.{bit_at-lt, bit_at_or, bit_at_set_same, bi
 use Rattle.std.proofs.lemmas.Bool.Decides.{nat_tests}
 use Rattle.std.proofs.lemmas.Bool.{cases_eq}
 use Rattle.std.proofs.Math.Nat.{mod-eq_of_lt, mod-one}
-use Rattle.xt_base.specs.Chunks.{below, chunks_where, places_of, union}
+use Rattle.xt_base.specs.Chunks.{below, chunks_where, places_of, touches, union}
 use Rattle.xt_base.specs.Maps.{has}
 use lib.Count.{ones}
 
@@ -53,6 +53,16 @@ pub has-chunks_where : (p : ℕ → Bool) (k : ℕ) → has (chunks_where p) k �
 unfolding chunks_where
 has-chunks_where p k =
     is_member-filter nat_eq_equiv p k (λ x e. ap p (same_number k x e)) (below 32) ∙ ap (λ b. b && p k) (has-below 32 k)
+
+-- the chunks of bytes first to first + n - 1 are those from first / 128 to (first + n - 1) / 128
+pub untouched_below : (first n k : ℕ) → k < first / 128 → touches first n k ≡ false
+untouched_below first n k lt = grind (arith, nat_tests)
+
+pub untouched_above : (first n k : ℕ) → 0 < n → (first + n - 1) / 128 + 1 ≤ k → touches first n k ≡ false
+untouched_above first n k some le = grind (arith, nat_tests)
+
+pub touched : (first n k : ℕ) → 0 < n → first / 128 ≤ k → k < (first + n - 1) / 128 + 1 → touches first n k ≡ true
+touched first n k some low high = grind (arith, nat_tests)
 
 -- no chunk
 pub places_of-zero : places_of 0 ≡ []
@@ -104,25 +114,24 @@ pub length-places_of : (bits : ℕ) → bits < 2 ^ 32 → length (places_of bits
 unfolding chunks_where
 length-places_of bits h = count_below 32 bits ∙ ap ones (mod-eq_of_lt h)
 
-is_less : (i k : ℕ) → i < k → nat_lt i k ≡ true
-is_less i k h = grind (arith, nat_tests)
-
 -- the tests of all numbers below k, and none from there on
 pub record HasBelow (test : ℕ → Bool) (bits k : ℕ) : Type 0 where
   pub tests : (i : ℕ) → (bit_at bits i == 1) ≡ (nat_lt i k && test i)
 
--- no number yet
-pub has_none : (test : ℕ → Bool) → HasBelow test 0 0
-has_none test = record { tests = λ i. grind (arith, nat_tests, bit_at-zero i) }
+is_below : (i k : ℕ) → nat_lt i k ≡ true → i < k
+is_below i k e = grind (arith, nat_tests)
 
-and_false : (a b : Bool) → (a && false) ≡ (b && false)
-and_false true true = refl
-and_false true false = refl
-and_false false true = refl
-and_false false false = refl
+is_above : (i k : ℕ) → nat_lt i k ≡ false → k ≤ i
+is_above i k e = grind (arith, nat_tests)
 
-within : (i k : ℕ) (b : Bool) → i < k → (nat_lt i k && b) ≡ b
-within i k b h = ap (λ t. t && b) (is_less i k h)
+both_fail : (a b : Bool) → (a ≡ true → b ≡ false) → (a && b) ≡ false
+both_fail true b h = h refl
+both_fail false b h = refl
+
+-- no number below k
+pub has_none : (test : ℕ → Bool) (k : ℕ) → ((i : ℕ) → i < k → test i ≡ false) → HasBelow test 0 k
+has_none test k none =
+    record { tests = λ i. ap (λ v. v == 1) (bit_at-zero i) ∙ sym (both_fail (nat_lt i k) (test i) (λ e. none i (is_below i k e))) }
 
 -- below one number more
 below_same : (k : ℕ) (b : Bool) → b ≡ true → (nat_lt k (k + 1) && b) ≡ true
@@ -131,13 +140,6 @@ below_same k false e = cc
 
 below_other : (i k : ℕ) (b : Bool) → (i ≡ k → ⊥) → (nat_lt i k && b) ≡ (nat_lt i (k + 1) && b)
 below_other i k b n = ap (λ t. t && b) (grind (arith, nat_tests))
-
-below_unset : (i k : ℕ) (test : ℕ → Bool) → test k ≡ false → (nat_lt i k && test i) ≡ (nat_lt i (k + 1) && test i)
-below_unset i k test fails =
-    elim (cases_eq i k) [
-      | inl e ↦ subst (λ b. (nat_lt i k && b) ≡ (nat_lt i (k + 1) && b)) (sym (ap test e ∙ fails)) (and_false (nat_lt i k) (nat_lt i (k + 1)))
-      | inr n ↦ below_other i k (test i) n
-    ]
 
 -- a number that is tested and set
 pub has_set : (test : ℕ → Bool) (bits k : ℕ) → k < 32 → test k ≡ true → HasBelow test bits k → HasBelow test (bit_or bits (1 * 2 ^ k % 2 ^ 32)) (k + 1)
@@ -150,10 +152,11 @@ has_set test bits k lt holds before =
       ];
     }
 
--- a number that is tested and not set
-pub has_unset : (test : ℕ → Bool) (bits k : ℕ) → test k ≡ false → HasBelow test bits k → HasBelow test bits (k + 1)
-has_unset test bits k fails before = record { tests = λ i. before.tests i ∙ below_unset i k test fails }
+second_alone : (a b : Bool) → (a ≡ false → b ≡ false) → (a && b) ≡ b
+second_alone true b h = refl
+second_alone false b h = sym (h refl)
 
--- all 32 tests done
-pub has_all : (test : ℕ → Bool) (bits k : ℕ) → 32 ≤ k → HasBelow test bits k → places_of bits ≡ chunks_where test
-has_all test bits k all done = alike (λ i. bit_at bits i == 1) test (λ i h. done.tests i ∙ within i k (test i) (omega arith))
+-- no number from k on
+pub has_all : (test : ℕ → Bool) (bits k : ℕ) → ((i : ℕ) → k ≤ i → test i ≡ false) → HasBelow test bits k → places_of bits ≡ chunks_where test
+has_all test bits k none done =
+    alike (λ i. bit_at bits i == 1) test (λ i h. done.tests i ∙ second_alone (nat_lt i k) (test i) (λ e. none i (is_above i k e)))

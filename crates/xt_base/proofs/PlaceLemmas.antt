@@ -9,7 +9,7 @@ use Rattle.std.proofs.lemmas.Bool.{cases_eq, cases_order, false≢true}
 use Rattle.xt_base.proofs.KeyLemmas.{is_in_first, is_in_later}
 use Rattle.xt_base.proofs.RisingLemmas.{none_below, rises_weaker}
 use Rattle.xt_base.specs.Maps.{at, is_in, put, without}
-use Rattle.xt_base.specs.Places.{place, spot}
+use Rattle.xt_base.specs.Places.{place}
 use Rattle.xt_base.specs.Sound.{IsRising, RisesFrom}
 
 differ : (a b : ℕ) → a ≡ b → b < a → ⊥
@@ -17,12 +17,6 @@ differ a b e h = omega arith
 
 shorter : (p n : ℕ) → suc p < suc n → p < n
 shorter p n h = omega arith
-
-longer : (n p : ℕ) → suc n ≤ suc p → n ≤ p
-longer n p h = omega arith
-
-none_left : (n p : ℕ) → p ≡ 0 → suc n ≤ p → ⊥
-none_left n p e h = omega arith
 
 module _ {V : Type 0} where
   -- one entry of `put`, by how its key stands
@@ -69,13 +63,6 @@ module _ {V : Type 0} where
             (subst (λ n. (get_or (e ∷ es) n d).0 ≡ k) (is ∙ place_low k e es gt) here)) ∙ sym (put_more k v e es gt))
       ]
 
-  -- the spot, by whether the first key is k
-  spot_here : (k : ℕ) (e : ℕ × V) (es : List (ℕ × V)) → e.0 ≡ k → spot k (e ∷ es) ≡ 0
-  spot_here k e es h = grind (arith, nat_tests)
-
-  spot_later : (k : ℕ) (e : ℕ × V) (es : List (ℕ × V)) → e.0 ≢ k → spot k (e ∷ es) ≡ suc (spot k es)
-  spot_later k e es h = grind (arith, nat_tests)
-
   pub at_here : (k : ℕ) (e : ℕ × V) (es : List (ℕ × V)) → e.0 ≡ k → at k (e ∷ es) ≡ Some e.1
   at_here k e es h = grind (arith, nat_tests)
 
@@ -88,46 +75,7 @@ module _ {V : Type 0} where
   pub without_later : (k : ℕ) (e : ℕ × V) (es : List (ℕ × V)) → e.0 ≢ k → without k (e ∷ es) ≡ e ∷ without k es
   without_later k e es h = grind (arith, nat_tests)
 
-  -- what the map has stands at the key's spot
-  found_is : (k : ℕ) (m : List (ℕ × V)) (d : ℕ × V) (p : ℕ) → p ≡ spot k m → p < length m → (at k m ≡ Some (get_or m p d).1) × (remove m p ≡ without k m)
-  found_is k [] d p is lt = absurd (omega arith)
-  found_is k (e ∷ es) d p is lt =
-      elim (cases_eq e.0 k) [
-        | inl same ↦ subst (λ n. (at k (e ∷ es) ≡ Some (get_or (e ∷ es) n d).1) × (remove (e ∷ es) n ≡ without k (e ∷ es))) (sym (is ∙ spot_here k e es same)) (at_here k e es same, sym (without_here k e es same))
-        | inr other ↦ let rest = found_is k es d (spot k es) refl (shorter (spot k es) (length es) (subst (λ n. n < length (e ∷ es)) (is ∙ spot_later k e es other) lt)) in
-            subst (λ n. (at k (e ∷ es) ≡ Some (get_or (e ∷ es) n d).1) × (remove (e ∷ es) n ≡ without k (e ∷ es))) (sym (is ∙ spot_later k e es other))
-            (at_later k e es other ∙ rest.0, ap (λ xs. e ∷ xs) rest.1 ∙ sym (without_later k e es other))
-      ]
-
-  pub found : (k : ℕ) (m : List (ℕ × V)) (d : ℕ × V) → spot k m < length m → (at k m ≡ Some (get_or m (spot k m) d).1) × (remove m (spot k m) ≡ without k m)
-  found k m d lt = found_is k m d (spot k m) refl lt
-
-  -- and nothing where there is none
-  missing_is : (k : ℕ) (m : List (ℕ × V)) (p : ℕ) → p ≡ spot k m → length m ≤ p → (at k m ≡ None) × (without k m ≡ m)
-  missing_is k [] p is le = (refl, refl)
-  missing_is k (e ∷ es) p is le =
-      elim (cases_eq e.0 k) [
-        | inl same ↦ absurd (none_left (length es) p (is ∙ spot_here k e es same) le)
-        | inr other ↦ let rest = missing_is k es (spot k es) refl (longer (length es) (spot k es) (subst (λ n. length (e ∷ es) ≤ n) (is ∙ spot_later k e es other) le)) in
-            (at_later k e es other ∙ rest.0, without_later k e es other ∙ ap (λ xs. e ∷ xs) rest.1)
-      ]
-
-  pub missing : (k : ℕ) (m : List (ℕ × V)) → length m ≤ spot k m → (at k m ≡ None) × (without k m ≡ m)
-  missing k m le = missing_is k m (spot k m) refl le
-
-  -- the same of an element that was read there
-  pub value_found : (k : ℕ) (m : List (ℕ × V)) (p : ℕ) (e : ℕ × V) → p ≡ spot k m → p < length m → e ≡ get_or m p e → Some e.1 ≡ at k m
-  value_found k m p e is lt here = ap (λ x. Some x.1) here ∙ sym (found_is k m e p is lt).0
-
-  pub rest_found : (k : ℕ) (m n : List (ℕ × V)) (p : ℕ) (e : ℕ × V) → p ≡ spot k m → p < length m → n ≡ remove m p → n ≡ without k m
-  rest_found k m n p e is lt left = left ∙ (found_is k m e p is lt).1
-
-  pub value_missing : (k : ℕ) (m : List (ℕ × V)) (p : ℕ) → p ≡ spot k m → length m ≤ p → None ≡ at k m
-  value_missing k m p is le = sym (missing_is k m p is le).0
-
-  pub rest_missing : (k : ℕ) (m : List (ℕ × V)) (p : ℕ) → p ≡ spot k m → length m ≤ p → m ≡ without k m
-  rest_missing k m p is le = sym (missing_is k m p is le).1
-
+  -- what `put` makes, by the element that was read at the place of its key
   pub put_found : (k : ℕ) (v : V) (m : List (ℕ × V)) (p : ℕ) (e : ℕ × V) → p ≡ place k m → p < length m → e ≡ get_or m p e → e.0 ≡ k → set {A = ℕ × V} m p (k, v) ≡ put k v m
   put_found k v m p e is lt here same = set_is k v m e p is lt (ap (λ (x : ℕ × V). x.0) (sym here) ∙ same)
 
@@ -257,6 +205,33 @@ module _ {V : Type 0} where
             at_place k xs (place k xs) e refl (shorter (place k xs) (length xs) (subst (λ n. n < length (x ∷ xs)) (is ∙ place_low k x xs more) lt))
             (subst (λ n. e ≡ get_or (x ∷ xs) n e) (is ∙ place_low k x xs more) here) same
             ∙ sym (at_later k x xs (λ s. omega (arith, s, more)))
+      ]
+
+  -- and what is left of the map without that
+  remove_place : (k : ℕ) (m : List (ℕ × V)) (p : ℕ) (e : ℕ × V) → p ≡ place k m → p < length m → e ≡ get_or m p e → e.0 ≡ k → remove m p ≡ without k m
+  remove_place k [] p e is lt here same = absurd (omega arith)
+  remove_place k (x ∷ xs) p e is lt here same =
+      elim (cases_order k x.0) [
+        | inl first ↦ subst (λ n. remove (x ∷ xs) n ≡ without k (x ∷ xs)) (sym (is ∙ place_here k x xs (omega arith))) (sym (without_here k x xs (sym first)))
+        | inr (inl less) ↦
+            let found : e ≡ x = subst (λ n. e ≡ get_or (x ∷ xs) n e) (is ∙ place_here k x xs (omega arith)) here in
+            absurd (differ x.0 k (ap (λ (y : ℕ × V). y.0) (sym found) ∙ same) less)
+        | inr (inr more) ↦ subst (λ n. remove (x ∷ xs) n ≡ without k (x ∷ xs)) (sym (is ∙ place_low k x xs more))
+            (ap (λ ys. x ∷ ys) (remove_place k xs (place k xs) e refl (shorter (place k xs) (length xs) (subst (λ n. n < length (x ∷ xs)) (is ∙ place_low k x xs more) lt))
+            (subst (λ n. e ≡ get_or (x ∷ xs) n e) (is ∙ place_low k x xs more) here) same)
+            ∙ sym (without_later k x xs (λ s. omega (arith, s, more))))
+      ]
+
+  pub rest_place : (k : ℕ) (m n : List (ℕ × V)) (p : ℕ) (e : ℕ × V) → p ≡ place k m → p < length m → e ≡ get_or m p e → e.0 ≡ k → n ≡ remove m p → n ≡ without k m
+  rest_place k m n p e is lt here same left = left ∙ remove_place k m p e is lt here same
+
+  -- a map without a key that is not there
+  pub without_absent : (k : ℕ) (m : List (ℕ × V)) → is_in k m ≡ false → m ≡ without k m
+  without_absent k [] h = refl
+  without_absent k (x ∷ xs) h =
+      elim (cases_eq x.0 k) [
+        | inl same ↦ absurd (false≢true (sym h ∙ ap is_some (at_here k x xs same)))
+        | inr other ↦ ap (λ ys. x ∷ ys) (without_absent k xs (ap is_some (sym (at_later k x xs other)) ∙ h)) ∙ sym (without_later k x xs other)
       ]
 
   -- what is left of a rising map rises

@@ -1,7 +1,7 @@
 //! Sets of the 32 chunks of 128 bytes that a block has.
 
 ghost use Rattle.std.specs.Prelude.{◌≡◌, ◌+◌, ◌≤◌, ◌<◌, ◌^◌, [], length, not, ◌==◌};
-ghost use Rattle.xt_base.specs.Chunks.{chunks_where, union as either, marks, touches, places_of, word_of};
+ghost use Rattle.xt_base.specs.Chunks.{chunks_where, union as either, marks, places_of, word_of};
 ghost use Rattle.xt_base.specs.Maps.{has as is_in_set};
 
 use crate::sizes::{BLOCK_BYTES, CHUNK_BYTES, CHUNKS};
@@ -60,11 +60,14 @@ impl Chunks {
         requires { first + n ≤ BLOCK_BYTES }
         ensures { result ≡ marks first n }
     {
+        if n == 0 {
+            return Chunks::none();
+        }
+        let low = first / CHUNK_BYTES as u32;
+        let high = (first + n - 1) / CHUNK_BYTES as u32;
         let mut bits = 0u32;
-        for k in 0..CHUNKS {
-            if is_touched(first, n, k) {
-                bits |= 1 << k;
-            }
+        for k in low..high + 1 {
+            bits |= 1 << k;
         }
         Chunks { bits }
     }
@@ -109,14 +112,4 @@ impl Chunks {
     {
         self.count() == 0
     }
-}
-
-/// Whether one of the bytes `first` to `first + n - 1` lies in chunk `k`.
-fn is_touched(first: u32, n: u32, k: u32) -> bool
-    requires bytes { first + n ≤ BLOCK_BYTES }
-    requires chunk { k < CHUNKS }
-    ensures { result ≡ touches first n k }
-{
-    let start = CHUNK_BYTES as u32 * k;
-    n > 0 && start < first + n && first < start + CHUNK_BYTES as u32
 }

@@ -82,19 +82,6 @@ impl Content {
         Ok(Content { bytes })
     }
 
-    /// A copy, in the place of a content that nobody needs any more, if there is one. The one error is want of memory.
-    pub fn copy_over(&self, alloc: Global, spare: Option<Content>) -> Result<Self, AllocError>
-        ensures { IfOk result (λ content. content ≡ self.now) }
-    {
-        match spare {
-            Some(mut content) => {
-                content.bytes.copy_from_slice(&self.bytes);
-                Ok(content)
-            }
-            None => self.copy(alloc),
-        }
-    }
-
     /// Its bytes.
     pub fn bytes(&self) -> &[u8]
         ensures value { result.now ≡ self.now }

@@ -4,7 +4,7 @@ ghost use Rattle.std.specs.Prelude.{◌≡◌, ◌+◌, ◌≤◌, ◌<◌, ◌=
 ghost use Rattle.std.specs.Borrow.{sem};
 ghost use Rattle.xt_base.specs.Lending.{lends_value};
 ghost use Rattle.xt_base.specs.Maps.{at, is_in, put as with_entry, without};
-ghost use Rattle.xt_base.specs.Places.{place, spot};
+ghost use Rattle.xt_base.specs.Places.{place};
 ghost use Rattle.xt_base.specs.Sound.{IsRising};
 
 use crate::sizes::ROOM;
@@ -177,9 +177,9 @@ impl<V> NumberMap<V> {
         ensures room { IfSome result (λ _. length self.new < ROOM) }
         ensures missing { IfNone result (self.new ≡ self.old) }
     {
-        let found = spot_of(&self.entries, key);
-        if found < self.entries.len() {
-            let (_, value) = self.entries.remove(found);
+        let at = place_of(&self.entries, key);
+        if at < self.entries.len() && self.entries[at].0 == key {
+            let (_, value) = self.entries.remove(at);
             Some(value)
         } else {
             None
@@ -244,17 +244,4 @@ fn place_of<V>(entries: &[(u64, V)], key: u64) -> usize
         }
     }
     low
-}
-
-/// How many entries stand before the first whose key is `key`; all, where there is none.
-pub fn spot_of<V>(entries: &[(u64, V)], key: u64) -> usize
-    ensures value { result ≡ spot key entries.now }
-    ensures range { result ≤ length entries.now }
-{
-    for (i, e) in entries.iter().enumerate() {
-        if e.0 == key {
-            return i;
-        }
-    }
-    entries.len()
 }

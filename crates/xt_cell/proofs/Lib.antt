@@ -1,5 +1,4 @@
 mod BenchLemmas
-mod WriteLemmas
 mod BookLemmas
 mod ServedLemmas
 mod FactLemmas

@@ -1,5 +1,4 @@
 pub mod SettleLemmas
-pub mod FrameLemmas
 pub mod FreshLemmas
 pub mod BusyLemmas
 pub mod EntryLemmas

@@ -140,29 +140,11 @@ fn all_cells<H: House>(
     requires posts { posts.items ≡ fresh_posts (arc_value queue.now) SLOTS }
     requires shares { AreThere 0 SLOTS shares }
 {
-    let Books {
-        b0,
-        b1,
-        b2,
-        b3,
-        b4,
-        b5,
-        b6,
-        b7,
-        b8,
-        b9,
-        b10,
-        b11,
-        b12,
-        b13,
-        b14,
-        b15,
-    } = books;
     let (mut posts, mut shares) = (posts, shares);
     let high = next_four(
         alloc,
         book_limit,
-        (b15, b14, b13, b12),
+        (books.b15, books.b14, books.b13, books.b12),
         queue,
         &mut posts,
         &mut shares,
@@ -170,7 +152,7 @@ fn all_cells<H: House>(
     let upper = next_four(
         alloc,
         book_limit,
-        (b11, b10, b9, b8),
+        (books.b11, books.b10, books.b9, books.b8),
         queue,
         &mut posts,
         &mut shares,
@@ -178,7 +160,7 @@ fn all_cells<H: House>(
     let lower = next_four(
         alloc,
         book_limit,
-        (b7, b6, b5, b4),
+        (books.b7, books.b6, books.b5, books.b4),
         queue,
         &mut posts,
         &mut shares,
@@ -186,7 +168,7 @@ fn all_cells<H: House>(
     let low = next_four(
         alloc,
         book_limit,
-        (b3, b2, b1, b0),
+        (books.b3, books.b2, books.b1, books.b0),
         queue,
         &mut posts,
         &mut shares,

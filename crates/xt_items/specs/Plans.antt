@@ -1,5 +1,5 @@
 -- Which blocks a flush writes home.
-use Rattle.std.specs.Prelude.{Bool, List, [], ◌∷◌, filter, if◌then◌else◌, map, nat_le, not, suc, take, zero, ℕ, ◌&&◌}
+use Rattle.std.specs.Prelude.{Bool, List, [], ◌∷◌, ◌-◌, filter, get_or, if◌then◌else◌, length, map, nat_lt, not, suc, take, zero, ℕ, ◌&&◌, ◌||◌}
 use Rattle.xt_base.specs.Jobs.{by_number}
 use Rattle.xt_base.specs.Maps.{is_in}
 use Rattle.xt_base.specs.Space.{flight_items}
@@ -18,10 +18,19 @@ due is_owned l = filter (λ e. is_unpinned is_owned l e.0) l.ail
 abbrev pub planned : (ℕ → Bool) → Lists → List ℕ
 planned is_owned l = map (λ e. e.0) (take FLUSH_BLOCKS (by_number (due is_owned l)))
 
--- how many entries stand before the first whose number is no lower
+-- the list with an entry behind those of no higher number
+abbrev pub placed_last : ℕ × ℕ → List (ℕ × ℕ) → List (ℕ × ℕ)
+placed_last e [] = e ∷ []
+placed_last e (x ∷ xs) = if nat_lt e.1 x.1 then e ∷ x ∷ xs else x ∷ placed_last e xs
+
+-- how many entries stand before the first whose number is higher
 abbrev pub rank : ℕ → List (ℕ × ℕ) → ℕ
 rank number [] = 0
-rank number (x ∷ xs) = if nat_le number x.1 then 0 else suc (rank number xs)
+rank number (x ∷ xs) = if nat_lt number x.1 then 0 else suc (rank number xs)
+
+-- whether there are fewer entries than a flush writes, or the last of so many has a higher number
+abbrev pub takes : ℕ → List (ℕ × ℕ) → Bool
+takes number xs = nat_lt (length xs) FLUSH_BLOCKS || nat_lt number (get_or xs (FLUSH_BLOCKS - 1) (0, 0)).1
 
 -- the list with an entry behind so many others
 abbrev pub inserted : ℕ → ℕ × ℕ → List (ℕ × ℕ) → List (ℕ × ℕ)

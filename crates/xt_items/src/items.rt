@@ -12,6 +12,7 @@ ghost use Rattle.xt_vectors.specs.Vectors.{no_vector};
 
 use crate::clean::remove_written;
 use crate::plan::{Earliest, FlushPlan};
+use crate::spares::SpareRooms;
 use bytes::Bytes;
 use std::alloc::{AllocError, Global};
 use std::marker::Model;
@@ -54,8 +55,8 @@ pub struct Items {
     ail: NumberMap<u64>,
     /// The list of a flight that has landed, for a later one.
     spare: Option<NumberMap<Chunks>>,
-    /// The room of a log vector that was replaced, for a later one.
-    spare_room: Option<VectorRoom>,
+    /// The rooms of log vectors that are gone, for later ones.
+    spare_rooms: SpareRooms,
 }
 
 impl Model for Items {
@@ -80,6 +81,7 @@ impl Items {
         let cil = NumberMap::new(alloc)?;
         let vectors = NumberMap::new(alloc)?;
         let ail = NumberMap::new(alloc)?;
+        let spare_rooms = SpareRooms::new(alloc)?;
         Ok(Items {
             open_number: 1,
             cil,
@@ -88,7 +90,7 @@ impl Items {
             flight: None,
             ail,
             spare: None,
-            spare_room: None,
+            spare_rooms,
         })
     }
 
@@ -245,7 +247,7 @@ impl Items {
         self.cil.put(block, chunks);
         self.weight = weight;
         let before = self.vectors.exchange(block, vector);
-        self.spare_room = room_of(before);
+        self.spare_rooms.give(room_of(before));
     }
 
     /// What the items of the commit list cost once the block's item has these chunks.
@@ -263,11 +265,11 @@ impl Items {
         }
     }
 
-    /// The room of a log vector that was replaced, if there is one: a later one may take its place.
+    /// The room of a log vector that is gone, if there is one: a later one may take its place.
     pub fn take_room(&mut self) -> Option<VectorRoom>
         ensures { self.new ≡ self.old }
     {
-        self.spare_room.take()
+        self.spare_rooms.take()
     }
 
     /// The cost of the commit list in bytes: the length of its checkpoint text of this form, 0 where it is empty.
@@ -308,7 +310,7 @@ impl Items {
         } }
     {
         let items = mem::replace(&mut self.cil, next);
-        self.vectors.clear();
+        keep_rooms(&mut self.vectors, &mut self.spare_rooms);
         self.weight = 0;
         self.flight = Some(Flight {
             number: self.open_number,
@@ -354,12 +356,9 @@ impl Items {
     {
         let entries = self.ail.entries();
         let mut earliest = Earliest::none();
-        let mut index = entries.len();
-        while index > 0 {
-            index -= 1;
-            let entry = entries[index];
-            if self.is_unpinned(entry.0, is_owned) {
-                earliest.add(entry);
+        for entry in entries {
+            if earliest.takes(entry.1) && self.is_unpinned(entry.0, is_owned) {
+                earliest.add(*entry);
             }
         }
         earliest.plan()
@@ -403,6 +402,18 @@ fn room_of(vector: Option<LogVector>) -> Option<VectorRoom> {
     match vector {
         Some(vector) => vector.into_room(),
         None => None,
+    }
+}
+
+/// All log vectors go, the last one first, and their rooms are kept for later ones. It takes no memory.
+fn keep_rooms(vectors: &mut NumberMap<LogVector>, spare_rooms: &mut SpareRooms)
+    ensures { vectors.new ≡ [] }
+{
+    let mut count = vectors.len();
+    while count > 0 {
+        count -= 1;
+        let (_, vector) = vectors.remove_at(count);
+        spare_rooms.give(vector.into_room());
     }
 }
 

@@ -1,8 +1,8 @@
 //! The plan of a flush: which blocks it writes home, and in which order.
 
 ghost use Rattle.std.specs.Prelude.{◌≡◌, ◌+◌, ◌<◌, ◌≤◌, ◌∷◌, ◌++◌, [], length, map, take};
-ghost use Rattle.xt_base.specs.Jobs.{all_ok, placed};
-ghost use Rattle.xt_items.specs.Plans.{inserted, rank};
+ghost use Rattle.xt_base.specs.Jobs.{all_ok};
+ghost use Rattle.xt_items.specs.Plans.{inserted, placed_last, rank, takes};
 
 use std::marker::Model;
 use xt_base::names::Block;
@@ -103,9 +103,18 @@ impl Earliest {
         &self.entries[..self.count]
     }
 
-    /// With an entry of a lower block than each other's; the ninth goes.
+    /// Whether an entry of this number and of a higher block than each other's would be among them: fewer than eight are there, or the
+    /// last one's number is higher.
+    pub(crate) fn takes(&self, number: u64) -> bool
+        ensures { result ≡ takes number self.now }
+    {
+        let entries = self.entries();
+        entries.len() < FLUSH_BLOCKS || number < entries[FLUSH_BLOCKS - 1].1
+    }
+
+    /// With an entry of a higher block than each other's; the ninth goes.
     pub(crate) fn add(&mut self, entry: (u64, u64))
-        ensures { self.new ≡ take FLUSH_BLOCKS (placed entry self.old) }
+        ensures { self.new ≡ take FLUSH_BLOCKS (placed_last entry self.old) }
     {
         let at = rank_of(self.entries(), entry.1);
         self.insert(at, entry);
@@ -147,13 +156,13 @@ fn block_of(entry: (u64, u64)) -> Block
     Block(entry.0)
 }
 
-/// How many entries stand before the first whose number is no lower.
+/// How many entries stand before the first whose number is higher.
 fn rank_of(entries: &[(u64, u64)], number: u64) -> usize
     ensures value { result ≡ rank number entries.now }
     ensures range { result ≤ length entries.now }
 {
     for (i, e) in entries.iter().enumerate() {
-        if number <= e.1 {
+        if number < e.1 {
             return i;
         }
     }

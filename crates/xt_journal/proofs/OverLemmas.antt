@@ -1,7 +1,7 @@
 -- What legs show over frames: block by block, and where frames or legs change.
-use Rattle.std.proofs.Common.{◌≡◌, ◌≢◌, ◌∙◌, ◌+◌, ◌*◌, ◌<◌, ◌∷◌, List, None, Option, Some, [], ap, arith, cond, inl, inr, length, not, refl, suc, sym, true, unwrap_or, ℕ}
+use Rattle.std.proofs.Common.{◌≡◌, ◌≢◌, ◌∙◌, ◌*◌, ◌<◌, ◌∷◌, List, None, Option, Some, [], ap, arith, cond, inl, inr, length, not, refl, suc, sym, true, unwrap_or, ℕ}
 use Rattle.std.proofs.lemmas.Bool.{cases_order}
-use Rattle.std.specs.Prelude.{if◌then◌else◌, is_none, option_map, sum_by, ◌&&◌, ◌==◌}
+use Rattle.std.specs.Prelude.{is_none, option_map, sum_by, ◌&&◌, ◌==◌}
 use Rattle.xt_base.proofs.MapLemmas.{put_less, put_more, put_same}
 use Rattle.xt_base.proofs.RisingLemmas.{each_map}
 use Rattle.xt_base.specs.Calls.{edited, invalidated}
@@ -9,7 +9,7 @@ use Rattle.xt_base.specs.Chunks.{union}
 use Rattle.xt_base.specs.Legs.{change_of, is_dirty, is_stale, joined_marks, with_marks}
 use Rattle.xt_base.specs.Maps.{at, is_in, put, without_member}
 use Rattle.xt_base.specs.Sound.{Each, IsRising, RisesFrom}
-use Rattle.xt_base.specs.Space.{change_cost, charge, granted}
+use Rattle.xt_base.specs.Space.{change_cost, granted}
 use Rattle.xt_base.specs.State.{Change, Leg, Transaction}
 use Rattle.xt_frames.proofs.EntryLemmas.{at_changed, changed_same, changed_values, in_changed, length_changed, put_changed, sum_changed}
 use Rattle.xt_frames.specs.Kept.{Framed}
@@ -84,10 +84,6 @@ costs_over frames cs = sum_changed (shown_over frames) change_cost change_cost (
 
 pub length_over : (frames : List (ℕ × Framed)) (cs : List (ℕ × Change)) → length (changes_over frames cs) ≡ length cs
 length_over frames cs = length_changed (shown_over frames) cs
-
-pub charge_over : (frames : List (ℕ × Framed)) (ends : ℕ) (cs : List (ℕ × Change)) → charge ends (changes_over frames cs) ≡ charge ends cs
-charge_over frames ends cs =
-    ap (λ n. if n == 0 then 0 else ends + sum_by change_cost (changes_over frames cs)) (length_over frames cs) ∙ ap (λ s. if length cs == 0 then 0 else ends + s) (costs_over frames cs)
 
 pub dirty_over : (frames : List (ℕ × Framed)) (leg : Leg) → is_dirty (leg_over frames leg) ≡ is_dirty leg
 dirty_over frames leg = ap (λ n. not (n == 0)) (length_over frames leg.changes)

@@ -78,8 +78,8 @@ impl Machine {
         ensures block { IfSome result (λ asked. asked ≡ block) }
     {
         let opened = self.accounts.get(trans.0)?;
-        if self.read_refusal(&opened.leg(), trans, block).is_none()
-            && self.is_absent(trans, block)
+        if self.is_absent(trans, block)
+            && self.read_refusal(&opened.leg(), trans, block).is_none()
         {
             Some(block)
         } else {

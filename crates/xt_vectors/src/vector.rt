@@ -159,7 +159,9 @@ fn push_marked(out: &mut Vec<u8>, content: &Content, word: u32)
     ensures form { length out.new.items ≡ CHUNK_BYTES * length (places_of word) }
     ensures capacity { BLOCK_BYTES ≤ vec_capacity out.new }
 {
-    for k in 0..CHUNKS {
+    let low = word.trailing_zeros();
+    let end = CHUNKS - word.leading_zeros();
+    for k in low..end {
         push_if_marked(out, content, word, k);
     }
 }
