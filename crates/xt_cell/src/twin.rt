@@ -37,59 +37,9 @@ impl<T: Drop> Twin<T> {
     }
 }
 
-/// A copy of a request that carries no bytes. It takes no memory; None where it carries some.
-fn plain_request(request: &Request) -> Option<Request>
-    ensures { IfSome result (λ copy. copy ≡ request.now) }
-{
-    let copy = match *request {
-        Request::Alloc { unit, count, perm } => Request::Alloc { unit, count, perm },
-        Request::Get { trans, block } => Request::Get { trans, block },
-        Request::Read { trans, block } => Request::Read { trans, block },
-        Request::View { trans, block } => Request::View { trans, block },
-        Request::Log { .. } => return None,
-        Request::Hold { trans, block } => Request::Hold { trans, block },
-        Request::Unhold { trans, block } => Request::Unhold { trans, block },
-        Request::Relse { trans, block } => Request::Relse { trans, block },
-        Request::Join { trans, block } => Request::Join { trans, block },
-        Request::Release { block } => Request::Release { block },
-        Request::Inval { trans, block } => Request::Inval { trans, block },
-        Request::Commit { trans } => Request::Commit { trans },
-        Request::Roll { trans } => Request::Roll { trans },
-        Request::Cancel { trans } => Request::Cancel { trans },
-        Request::Force => Request::Force,
-        Request::ForceTo { number } => Request::ForceTo { number },
-        Request::Push => Request::Push,
-        Request::Shutdown => Request::Shutdown,
-        Request::Freeze => Request::Freeze,
-        Request::Thaw => Request::Thaw,
-        Request::Unmount => Request::Unmount,
-    };
-    Some(copy)
-}
-
-/// A copy of an answer that carries no content. It takes no memory; None where it carries one.
-fn plain_answer(answer: &Answer) -> Option<Answer>
-    ensures { IfSome result (λ copy. copy ≡ answer.now) }
-{
-    match answer {
-        Answer::None => Some(Answer::None),
-        Answer::Content(_) => None,
-        Answer::Failed => Some(Answer::Failed),
-    }
-}
-
-/// A copy of the step of a call that carries neither bytes nor a content. It takes no memory; None where it carries some.
-fn plain_call(slot: Slot, life: Life, request: &Request, answer: &Answer) -> Option<Step>
-    ensures { IfSome result (λ step. step ≡ AStep.Call slot life request.now answer.now) }
-{
-    let request = plain_request(request)?;
-    let answer = plain_answer(answer)?;
-    Some(Step::Call {
-        slot,
-        life,
-        request,
-        answer,
-    })
+/// Whether the step of a call carries neither bytes nor a content, so that a copy of it takes no memory.
+fn is_plain(request: &Request, answer: &Answer) -> bool {
+    !matches!(request, Request::Log { .. }) && !matches!(answer, Answer::Content(_))
 }
 
 /// The step of a call, twice. One that carries bytes or a content is shared; the one error is want of memory for that.
@@ -102,16 +52,17 @@ pub(crate) fn call_twin(
 ) -> Result<Twin<Step>, AllocError>
     ensures { IfOk result (λ twin. twin.booked ≡ AStep.Call slot life request answer) }
 {
-    let copy = plain_call(slot, life, &request, &answer);
+    let is_plain = is_plain(&request, &answer);
     let step = Step::Call {
         slot,
         life,
         request,
         answer,
     };
-    match copy {
-        Some(first) => Ok(Twin::of(first, step)),
-        None => Twin::shared(alloc, step),
+    if is_plain {
+        Ok(Twin::of(step.copy(alloc)?, step))
+    } else {
+        Twin::shared(alloc, step)
     }
 }
 
