@@ -10,8 +10,6 @@ pub mod piece_writer;
 mod place;
 pub mod reading;
 pub mod rooms;
-#[cfg(test)]
-mod tests;
 pub mod writing;
 
 pub use item::Item;

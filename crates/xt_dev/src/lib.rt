@@ -15,8 +15,6 @@ pub mod mem_log;
 pub mod offer;
 pub mod offer_home;
 mod record;
-#[cfg(test)]
-mod tests;
 
 pub use call::HomeCall;
 pub use fail_at::FailAt;

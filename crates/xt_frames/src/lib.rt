@@ -10,8 +10,6 @@ mod kept;
 pub mod share;
 mod spares;
 pub mod table;
-#[cfg(test)]
-mod tests;
 
 pub use buf::Buf;
 pub use frames::Frames;

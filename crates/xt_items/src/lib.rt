@@ -5,8 +5,6 @@ mod clean;
 pub mod items;
 pub mod plan;
 mod spares;
-#[cfg(test)]
-mod tests;
 
 pub use items::Items;
 pub use plan::FlushPlan;

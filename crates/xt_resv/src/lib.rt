@@ -2,7 +2,5 @@
 #![tactic(auto)]
 
 pub mod space;
-#[cfg(test)]
-mod tests;
 
 pub use space::{LogSpace, Ticket};

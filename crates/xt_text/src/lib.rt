@@ -14,8 +14,6 @@ pub mod print_ckpt;
 pub mod print_reply;
 pub mod print_step;
 mod read_line;
-#[cfg(test)]
-mod tests;
 mod words;
 
 pub use bad_line::BadLine;

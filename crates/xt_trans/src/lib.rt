@@ -1,8 +1,6 @@
 //! Transactions: what the present leg of one did to its blocks.
 #![tactic(auto)]
 
-#[cfg(test)]
-mod tests;
 pub mod trans;
 
 pub use trans::{Change, ChangeMarks, ChangeState, TransRec};

@@ -2,8 +2,6 @@
 #![tactic(auto)]
 
 pub mod edit;
-#[cfg(test)]
-mod tests;
 pub mod vector;
 
 pub use edit::Edit;

@@ -1,10 +1,10 @@
 //! What no clause says: a refused allocation is an error of the call that asked for it, and changes nothing.
 
-use crate::trans::TransRec;
 use std::test::*;
 use xt_base::chunks::Chunks;
 use xt_base::content::Content;
 use xt_base::form::Form;
+use xt_trans::trans::TransRec;
 use xt_vectors::{Edit, VectorRoom};
 
 /// Where memory is refused, the call that took it says so, and the leg answers as before. Run it with each allocation

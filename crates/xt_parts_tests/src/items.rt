@@ -7,8 +7,6 @@ ghost use Rattle.std.specs.Prelude.{◌≡◌, ◌≤◌};
 ghost use Rattle.xt_base.specs.Maps.{is_in};
 ghost use Rattle.xt_items.specs.Plans.{planned};
 
-use crate::items::Items;
-use crate::plan::{FlushPlan, all_ok};
 use bytes::Bytes;
 use std::alloc::{AllocError, Global};
 use xt_base::chunks::Chunks;
@@ -16,6 +14,8 @@ use xt_base::content::Content;
 use xt_base::form::Form;
 use xt_base::map::NumberMap;
 use xt_base::steps::HomeAnswers;
+use xt_items::items::Items;
+use xt_items::plan::{FlushPlan, all_ok};
 use xt_vectors::vector::VectorRoom;
 
 /// Marks twelve bytes of a block of zeros; false where the commit list has no room, or a growth is refused.

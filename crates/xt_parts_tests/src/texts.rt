@@ -7,20 +7,20 @@ ghost use Rattle.std.specs.Prelude.{◌≡◌, ◌<◌, ◌≤◌, All, length, 
 ghost use Rattle.xt_ckpt.specs.Items.{HasForm};
 ghost use Rattle.xt_ckpt.specs.Pieces.{IsOf};
 
-mod texts;
+mod many_items;
 
-use crate::item::Item;
-use crate::piece_writer::PieceWriter;
-use crate::reading::{Checkpoint, CkptFault, ReadFault, read_checkpoint, read_checkpoint_into};
-use crate::rooms::Rooms;
-use crate::writing::write_checkpoint;
 use bytes::Bytes;
+use many_items::{OF_4096, OF_8192};
 use std::alloc::{AllocError, Global};
 use std::test::*;
-use texts::{OF_4096, OF_8192};
 use xt_base::chunks::Chunks;
 use xt_base::names::{Block, CkptNo};
 use xt_base::steps::Errno;
+use xt_ckpt::item::Item;
+use xt_ckpt::piece_writer::PieceWriter;
+use xt_ckpt::reading::{Checkpoint, CkptFault, ReadFault, read_checkpoint, read_checkpoint_into};
+use xt_ckpt::rooms::Rooms;
+use xt_ckpt::writing::write_checkpoint;
 
 /// One chunk of block 7, 176 bytes.
 const OF_176: &str =

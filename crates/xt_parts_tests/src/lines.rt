@@ -3,12 +3,6 @@
 //! A test function is proved too, at a cost that grows with the square of its length. So lines
 //! stand in constants, helpers compare, and a test has few assertions.
 
-use crate::bad_line::BadLine;
-use crate::buffer::Text;
-use crate::line::Line;
-use crate::parse::parse_line;
-use crate::print_reply::{print_home_offer, print_log_offer, print_reply, print_slot_reply};
-use crate::print_step::print_step;
 use std::alloc::Global;
 use std::process::Abort;
 use std::test::Fail;
@@ -19,6 +13,12 @@ use xt_base::sizes::DATA_BYTES;
 use xt_base::steps::{
     Answer, Errno, HomeAnswers, HomeOffer, LogOffer, Reason, Reply, Request, Step,
 };
+use xt_text::bad_line::BadLine;
+use xt_text::buffer::Text;
+use xt_text::line::Line;
+use xt_text::parse::parse_line;
+use xt_text::print_reply::{print_home_offer, print_log_offer, print_reply, print_slot_reply};
+use xt_text::print_step::print_step;
 
 /// Each form of a step, with the least and the greatest numbers.
 const STEPS: &[&str] = &[

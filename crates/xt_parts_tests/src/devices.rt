@@ -9,21 +9,21 @@ ghost use Rattle.xt_dev.specs.Devices.{failures_after};
 mod files;
 mod gates;
 
-use crate::call::HomeCall;
-use crate::fail_at::FailAt;
-use crate::fault::DevFault;
-use crate::home::HomeDevice;
-use crate::log::LogDevice;
-use crate::mem_home::MemHome;
-use crate::mem_log::MemLog;
-use crate::offer::offer;
-use crate::offer_home::offer_home;
 use bytes::Bytes;
 use std::alloc::Global;
 use std::process::Abort;
 use xt_base::content::Content;
 use xt_base::names::Block;
 use xt_base::steps::{HomeAnswers, HomeOffer, LogAnswers, LogOffer};
+use xt_dev::call::HomeCall;
+use xt_dev::fail_at::FailAt;
+use xt_dev::fault::DevFault;
+use xt_dev::home::HomeDevice;
+use xt_dev::log::LogDevice;
+use xt_dev::mem_home::MemHome;
+use xt_dev::mem_log::MemLog;
+use xt_dev::offer::offer;
+use xt_dev::offer_home::offer_home;
 
 /// A call of a log device as a test writes it: the piece, or None for a sync, and the answer.
 type LogCall = (Option<&'static [u8]>, bool);

@@ -1,6 +1,6 @@
 use Rattle.std.proofs.Common.{length}
 use Rattle.xt_ckpt.specs.Pieces.{IsOf, to_come}
-use Rattle.xt_ckpt.proofs.tests.one_by_one.Given as goal
+use Rattle.xt_parts_tests.proofs.texts.one_by_one.Given as goal
 
 abbrev pub invariant-loop-pieces : goal.invariant-loop-pieces
 invariant-loop-pieces l = IsOf l.items l.writer

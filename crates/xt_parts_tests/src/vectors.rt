@@ -1,12 +1,12 @@
 //! What no clause says: a refused allocation is an error of the call that asked for it.
 
-use crate::edit::Edit;
-use crate::vector::{LogVector, VectorRoom};
 use std::alloc::{AllocError, Global};
 use std::test::*;
 use xt_base::chunks::Chunks;
 use xt_base::content::Content;
 use xt_base::form::Form;
+use xt_vectors::edit::Edit;
+use xt_vectors::vector::{LogVector, VectorRoom};
 
 /// The vector of chunks 1 and 3 of a block whose byte 130 is 7.
 fn two_chunks(alloc: Global) -> Result<LogVector, AllocError> {

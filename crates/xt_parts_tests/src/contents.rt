@@ -2,14 +2,13 @@
 
 ghost use Rattle.std.specs.Prelude.{◌≡◌, length, IfOk};
 
-use crate::frames::Frames;
-use crate::share::FrameShare;
-use crate::table::FrameTable;
 use std::alloc::{AllocError, Global};
 use std::test::Fail;
 use xt_base::content::{Content, Data};
 use xt_base::form::Form;
 use xt_base::names::Slot;
+use xt_frames::frames::Frames;
+use xt_frames::table::FrameTable;
 
 /// A content that begins with this byte, and is zeros else.
 fn content_of(alloc: Global, first: u8) -> Result<Content, AllocError> {
@@ -30,7 +29,8 @@ fn commit(alloc: Global, frames: &mut Frames, block: u64, first: u8) -> Result<(
 /// The frames of a slot, without contents.
 fn no_frames(alloc: Global) -> Result<Frames, AllocError> {
     let slot = Slot::new(0).ok_or(AllocError)?;
-    let share = FrameShare::new(alloc, slot)?;
+    let mut table = FrameTable::new(alloc, 1)?;
+    let share = table.take_share(slot).ok_or(AllocError)?;
     Frames::over(alloc, share).map_err(|_| AllocError)
 }
 
@@ -244,7 +244,8 @@ fn a_share_is_in_one_hand(rt: HostRuntime) -> Result<(), Fail> {
 #[test]
 fn a_life_begins_without_contents(rt: HostRuntime) -> Result<(), Fail> {
     let slot = Slot::new(3).ok_or("a slot")?;
-    let share = FrameShare::new(rt.alloc(), slot)?;
+    let mut table = FrameTable::new(rt.alloc(), 4)?;
+    let share = table.take_share(slot).ok_or("a share")?;
     let mut frames = Frames::over(rt.alloc(), share).map_err(|_| "one life")?;
     assert!(rt; rest(rt.alloc(), &mut frames, 7)? && frames.is_idle(7));
     let share = frames.into_share(slot);

@@ -1,9 +1,9 @@
 //! The ledger's calls on numbers worked out by hand, and what a refused allocation leaves.
 
-use crate::space::LogSpace;
 use xt_base::form::Form;
 use xt_base::newly::Newly;
 use xt_base::steps::Errno;
+use xt_resv::space::LogSpace;
 
 /// One block with two chunks.
 const TWO: Newly = Newly {

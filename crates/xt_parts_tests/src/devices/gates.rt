@@ -1,17 +1,17 @@
 //! Gates whose flag is up, and gates that wait for theirs in vain.
 
-use crate::gates::{Flag, GateHome, GateLog, Meeting};
-use crate::home::HomeDevice;
-use crate::log::LogDevice;
-use crate::mem_home::MemHome;
-use crate::mem_log::MemLog;
-use crate::tests::{
+use crate::devices::{
     AB, CDE, LogCall, SYNC, Told, append_through, count, first_byte, home_tells, log_tells,
 };
 use std::alloc::{AllocError, Global};
 use std::sync::Arc;
 use std::test::Fail;
 use xt_base::names::Block;
+use xt_dev::gates::{Flag, GateHome, GateLog, Meeting};
+use xt_dev::home::HomeDevice;
+use xt_dev::log::LogDevice;
+use xt_dev::mem_home::MemHome;
+use xt_dev::mem_log::MemLog;
 
 /// How often a gate looks for its flag here.
 const TURNS: u64 = 3;

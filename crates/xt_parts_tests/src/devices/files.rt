@@ -1,17 +1,17 @@
 //! Devices over files, of which no clause can say what they have.
 
 use super::first_byte;
-use crate::fault::{DevFault, FileFault};
-use crate::files::{FILE_BLOCKS, FileHome, FileLog};
-use crate::home::HomeDevice;
-use crate::log::LogDevice;
-use crate::offer::offer;
 use bytes::Bytes;
 use std::path::PathBuf;
 use std::test::Fail;
 use std::{env, fs, process};
 use xt_base::names::Block;
 use xt_base::steps::LogAnswers;
+use xt_dev::fault::{DevFault, FileFault};
+use xt_dev::files::{FILE_BLOCKS, FileHome, FileLog};
+use xt_dev::home::HomeDevice;
+use xt_dev::log::LogDevice;
+use xt_dev::offer::offer;
 
 /// A path of this process where nothing is.
 fn fresh_path(rt: &HostRuntime, name: &str) -> Result<PathBuf, Fail> {

@@ -1,0 +1,19 @@
+//! Tests of the layers below the mount, and of the texts and devices, over their public calls: there is nothing else here.
+#![tactic(auto)]
+
+#[cfg(test)]
+mod contents;
+#[cfg(test)]
+mod devices;
+#[cfg(test)]
+mod items;
+#[cfg(test)]
+mod legs;
+#[cfg(test)]
+mod lines;
+#[cfg(test)]
+mod space;
+#[cfg(test)]
+mod texts;
+#[cfg(test)]
+mod vectors;
