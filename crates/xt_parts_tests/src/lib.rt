@@ -12,6 +12,8 @@ mod legs;
 #[cfg(test)]
 mod lines;
 #[cfg(test)]
+mod replies;
+#[cfg(test)]
 mod space;
 #[cfg(test)]
 mod texts;
