@@ -154,15 +154,6 @@ host_more done o o' new old x a more =
     ]
 
 -- ---- the run over a list
-take_none : (steps : List Step) → take 0 steps ≡ []
-take_none [] = refl
-take_none (x ∷ xs) = refl
-
--- before the first step
-pub start : (steps : List Step) (o : Told) (host : Host) → o ≡ untold → IsNew host → IsHostRun (take 0 steps) o host
-start steps o host told new =
-    subst (λ done. IsHostRun done o host) (sym (take_none steps)) (subst (λ o. IsHostRun [] o host) (sym told) (host_none host new))
-
 module _ (steps : List Step) (at : ℕ) (o : Told) (host : Host) (a : IsHostRun (take at steps) o host) where
   tells_so_far : Tells (take at steps) o
   tells_so_far = after_tells (take at steps) (events (take at steps) o.turns) o host.queue (hand_at host) (lone_of host) a.run

@@ -1,7 +1,8 @@
 -- What steps told one after another is what a run of them tells.
 use Rattle.std.proofs.Common.{◌≡◌, ◌∙◌, ◌+◌, ◌<◌, ◌≤◌, ◌++◌, ◌∷◌, List, Option, [], ap, append_assoc, drop, false, get_or, inl, inr, length, refl, subst, suc, sym, take, true≢false, zero, ℕ}
 use Rattle.std.proofs.lemmas.Bool.{cases_Bool}
-use Rattle.std.proofs.lemmas.List.{append-nil, take-append-drop, take_more}
+use Rattle.std.proofs.lemmas.List.{append-nil, take-append-drop, take_all, take_more}
+use Rattle.std.proofs.lemmas.Option.{get_or_from_slice_get}
 use Rattle.std.specs.Prelude.{Err, IfOk, MatchResult, Ok, Result, if◌then◌else◌, is_ok}
 use Rattle.xt_base.specs.Alone.{Said, reason_of}
 use Rattle.xt_base.specs.Isolation.{BreaksAt, Tells, Told, events, is_no_memory, told_refused, told_taken, told_then, untold}
@@ -10,14 +11,15 @@ use Rattle.xt_base.specs.Sound.{Each}
 use Rattle.xt_base.specs.State.{Lone}
 use Rattle.xt_base.specs.Steps.{slot_of}
 use Rattle.xt_base.specs.declared.names.JobName.{JobName}
+use Rattle.xt_base.specs.declared.outcomes.RunFault.TheVariants.{Disorder}
 use Rattle.xt_base.specs.declared.steps.Errno.TheVariants.{NoMemory}
 use Rattle.xt_base.specs.declared.steps.Reason.{Reason}
 use Rattle.xt_base.specs.declared.steps.Reply.TheVariants.{Refused}
 use Rattle.xt_base.specs.declared.steps.Step.{Step}
-use Rattle.xt_core.proofs.HostRunLemmas.{IsHostRun, end_tells, host_more, host_none, stop}
+use Rattle.xt_core.proofs.HostRunLemmas.{IsHostRun, end_tells, go_on, host_more, host_none, stop}
 use Rattle.xt_core.proofs.RunLemmas.{IsAfter, after_refused, after_tells}
-use Rattle.xt_core.specs.Host.{Host, hand_at, lone_of, may_come}
-use Rattle.xt_core.specs.Runs.{IsSaid, IsToldBy}
+use Rattle.xt_core.specs.Host.{Host, IsNew, hand_at, lone_of, may_come}
+use Rattle.xt_core.specs.Runs.{AreTurnsOf, IsBarred, IsMore, IsSaid, IsToldBy}
 
 -- a run told these turns, and led to a host
 abbrev IsRunOf : List Step → List Said → Host → Type 0
@@ -61,6 +63,41 @@ pub told_before : (steps : List Step) (at : ℕ) (turns : List Said) (x : Step) 
 told_before steps at turns x host within is told cannot =
     let r : IsRunOf (take at steps) turns host = run_of told in
     (r.0, (r.1.0, stop steps at r.0 host r.1.1 x within is cannot))
+
+-- ---- a run, step by step
+-- what holds of what was told so far, and its turns were told one after another
+pub record IsRunSoFar (done : List Step) (o : Told) (host : Host) : Type 0 where
+  pub run : IsHostRun done o host
+  pub told : IsToldBy done o.turns host
+
+-- before the first step
+pub started : (o : Told) (host : Host) → o ≡ untold → IsNew host → IsRunSoFar [] o host
+started o host told new = record {
+  run = subst (λ p. IsHostRun [] p host) (sym told) (host_none host new);
+  told = subst (λ (p : Told). IsToldBy [] p.turns host) (sym told) (IsToldBy.none host new);
+}
+
+module _ (steps : List Step) (at : ℕ) (o : Told) (host : Host) (a : IsRunSoFar (take at steps) o host) where
+  -- at the end
+  pub end_turns : length steps ≤ at → AreTurnsOf steps o
+  end_turns over = (host, subst (λ xs. IsToldBy xs o.turns host) (take_all at steps over) a.told)
+
+  module _ (x : Step) (within : at < length steps) (is : x ≡ get_or steps at x) where
+    -- the step there was taken or refused memory
+    pub goes_on : (o' : Told) (new : Host) → IsMore x new host o' o → IsRunSoFar (take (at + 1) steps) o' new
+    goes_on o' new more =
+        let t : Said = more.0 in
+        let turns : o'.turns ≡ o.turns ++ t ∷ [] = ap (λ (p : Told). p.turns) more.1.1 ∙ then_turns o t (reason_of (lone_of new (slot_of x)).mounted) in
+        record {
+          run = go_on steps at o host a.run x within is o' new more;
+          told =
+              subst (λ l. IsToldBy (take (at + 1) steps) l new) (sym turns)
+              (told_next steps at o.turns x t new within is (IsToldBy.more (take at steps) o.turns x t new host a.told more.1.2 more.1.0));
+        }
+
+    -- the step there may not come
+    pub stop_barred : may_come host x ≡ false → IsBarred steps (Disorder at o)
+    stop_barred cannot = (host, (a.told, λ y there. ap (may_come host) (sym (is ∙ get_or_from_slice_get steps at y x there)) ∙ cannot))
 
 -- ---- a beginning of a run
 -- a step was refused memory

@@ -1,5 +1,6 @@
 -- Runs of the host: what they told of each slot, beside what `Tells` and `BreaksAt` have.
-use Rattle.std.specs.Prelude.{List, [], false, if◌then◌else◌, take, true, ℕ, ◌<◌, ◌++◌, ◌∷◌, ◌≡◌}
+use Rattle.std.specs.List.{slice_get}
+use Rattle.std.specs.Prelude.{Bool, List, Some, [], false, if◌then◌else◌, take, true, ℕ, ◌<◌, ◌++◌, ◌∷◌, ◌≡◌}
 use Rattle.xt_base.specs.Alone.{Said, alone, reason_of}
 use Rattle.xt_base.specs.Isolation.{BreaksAt, Tells, Told, is_no_memory, is_refused, shut_in, told_then, turns_of}
 use Rattle.xt_base.specs.Order.{orderly}
@@ -8,7 +9,8 @@ use Rattle.xt_base.specs.declared.outcomes.RunFault.{RunFault}
 use Rattle.xt_base.specs.declared.outcomes.RunFault.TheVariants.{Disorder, Memory}
 use Rattle.xt_base.specs.declared.sizes.TheConstants.{SLOTS}
 use Rattle.xt_base.specs.declared.steps.Step.{Step}
-use Rattle.xt_core.specs.Host.{Host, IsNew, IsStepped, lone_of}
+use Rattle.xt_base.specs.declared.steps.Step.TheVariants.{End, Flush}
+use Rattle.xt_core.specs.Host.{Host, IsNew, IsStepped, lone_of, may_come}
 
 -- the steps of each slot that was not refused memory are orderly by themselves
 abbrev pub AreStruckOrderly : List Step → Told → Type 0
@@ -50,6 +52,21 @@ pub record IsSaid (x : Step) (t : Said) (new old : Host) : Type 0 where
 pub data IsToldBy : List Step → List Said → Host → Type 0 where
   none : (host : Host) → IsNew host → IsToldBy [] [] host
   more : (xs : List Step) (turns : List Said) (x : Step) (t : Said) (new old : Host) → IsToldBy xs turns old → slot_of x < SLOTS → IsSaid x t new old → IsToldBy (xs ++ x ∷ []) (turns ++ t ∷ []) new
+
+-- what a run told are the turns of its steps, one after another, from a new host on
+abbrev pub AreTurnsOf : List Step → Told → Type 0
+AreTurnsOf steps o = (host : Host) × IsToldBy steps o.turns host
+
+-- where a run stopped at a step, the steps before it led to a host that does not let it come
+abbrev pub IsBarred : List Step → RunFault → Type 0
+IsBarred steps (Disorder at before) = (host : Host) × (IsToldBy (take at steps) before.turns host × ((x : Step) → slice_get steps at ≡ Some x → may_come host x ≡ false))
+IsBarred steps Memory = Unit {0}
+
+-- whether a step offers something to a device, which its turn has a copy of: the end of a checkpoint, and a flush
+abbrev pub is_offering : Step → Bool
+is_offering (End worker name answers) = true
+is_offering (Flush worker name answers) = true
+is_offering other = false
 
 -- its turn was told
 abbrev pub IsMore : Step → Host → Host → Told → Told → Type 0

@@ -1,6 +1,6 @@
 //! One slot of the pure host: its mount, if there is one, and what the board shows of it.
 
-ghost use Rattle.std.specs.Prelude.{◌≡◌, ◌&&◌, length, true, IfOk};
+ghost use Rattle.std.specs.Prelude.{◌≡◌, ◌&&◌, length, true, IfOk, OnErr};
 ghost use Rattle.xt_base.specs.Alone.{alone, reason_of, shown};
 ghost use Rattle.xt_base.specs.Jobs.{fits_pieces, fits_plan, flight_pieces, flush_plan, is_begun, is_owed_as, is_waiting};
 ghost use Rattle.xt_base.specs.Order.{is_answer, is_there, mount_is, of_life, suits};
@@ -8,6 +8,7 @@ ghost use Rattle.xt_base.specs.State.{empty};
 ghost use Rattle.xt_base.specs.Steps.{slot_of};
 ghost use Rattle.xt_base.specs.declared.steps.Step.{Step as AStep};
 ghost use Rattle.xt_core.specs.Cells.{IsTurned, with_lone};
+ghost use Rattle.xt_core.specs.Runs.{is_offering};
 ghost use Rattle.xt_frames.specs.Shares.{no_contents};
 ghost use Rattle.xt_mount.specs.Slots.{plan_in};
 
@@ -143,6 +144,7 @@ impl SlotCell {
         ensures slot { IfOk result (λ offers. offers.slot ≡ self.now.slot) }
         ensures log { IfOk result (λ offers. offers.log ≡ (alone step.now self.now.lone).log) }
         ensures home { IfOk result (λ offers. offers.home ≡ (alone step.now self.now.lone).home) }
+        ensures copies { OnErr result (is_offering step.now ≡ true) }
     {
         match step {
             Step::End { answers, .. } => {

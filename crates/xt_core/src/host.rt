@@ -9,7 +9,7 @@ ghost use Rattle.xt_base.specs.declared.steps.Step.{Step as AStep};
 ghost use Rattle.xt_core.specs.declared.host.TurnFault.{TurnFault as ATurnFault};
 ghost use Rattle.xt_core.specs.Host.{happened, lone_of, may_come, was_refused, IsAfter, IsNew, IsStepped};
 ghost use Rattle.xt_core.specs.InPlace.{AreUnused};
-ghost use Rattle.xt_core.specs.Runs.{IsMore, IsSaid, IsToldBy};
+ghost use Rattle.xt_core.specs.Runs.{is_offering, IsMore, IsSaid, IsToldBy};
 
 use crate::cell::SlotCell;
 use crate::turns::Turns;
@@ -169,6 +169,7 @@ impl HostCore {
         ensures said { IfOk result (λ turn. IsSaid step.now turn self.new self.old) }
         ensures range { IfOk result (λ _. slot_of step.now < SLOTS) }
         ensures kept { OnErr result (self.new ≡ self.old) }
+        ensures copies { OnErr result (is_offering step.now ≡ true) }
     {
         let slot = step.slot();
         let offers = self.cells[slot.index()].offers(self.alloc, step)?;
@@ -181,13 +182,14 @@ impl HostCore {
     }
 
     /// Takes one step, and tells its turn: its reply, which its slot alone would give, or ENOMEM, and what it offered, which is copied.
-    /// Where it may not come now, or the copy finds no memory, nothing changes.
+    /// Where it may not come now, or the copy finds no memory, nothing changes. Only the end of a checkpoint and a flush offer something.
     ///
     /// What steps tell one after another is what a run of them tells, so a turn need not be kept until the last step was taken.
     pub fn tell(&mut self, step: &Step) -> Result<Turn, TurnFault>
         ensures said { IfOk result (λ turn. IsSaid step.now turn self.new self.old) }
         ensures told { (xs : List AStep) (turns : List Said) → IsToldBy xs turns self.old → IfOk result (λ turn. IsToldBy (xs ++ step.now ∷ []) (turns ++ turn ∷ []) self.new) }
         ensures disorder { IfErr result (λ fault. (fault ≡ ATurnFault.Disorder) ↔ (may_come self.old step.now ≡ false)) }
+        ensures memory { IfErr result (λ fault. fault ≡ ATurnFault.Memory → is_offering step.now ≡ true) }
         ensures kept { OnErr result (self.new ≡ self.old) }
     {
         if !self.can_take(step) {

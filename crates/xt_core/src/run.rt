@@ -5,7 +5,7 @@ ghost use Rattle.xt_base.specs.Isolation.{Tells};
 ghost use Rattle.xt_base.specs.Order.{orderly};
 ghost use Rattle.xt_base.specs.Steps.{strike};
 ghost use Rattle.xt_base.specs.declared.steps.Errno.{Errno as AnErrno};
-ghost use Rattle.xt_core.specs.Runs.{AreStruckOrderly, GivesSame, IsFaultOf, IsNotOrderly, IsStruckBefore};
+ghost use Rattle.xt_core.specs.Runs.{AreStruckOrderly, AreTurnsOf, GivesSame, IsBarred, IsFaultOf, IsNotOrderly, IsStruckBefore};
 
 use crate::host::HostCore;
 use std::alloc::{AllocError, Global};
@@ -34,16 +34,18 @@ impl HostCore {
     /// of them alone tells it the same. Other slots may have been refused memory.
     ///
     /// `Disorder` at the first step that may not come after those before it, with its place from 0 and what those before it told,
-    /// of which the same holds: where no slot was refused memory, exactly where the list is not orderly. `Memory`
-    /// where what is told, or a copy of an offer, found none.
-    #[tactic(auto, using(crate::proofs::HostRunLemmas::start))]
+    /// of which the same holds: where no slot was refused memory, exactly where the list is not orderly. Where other slots were, a step of
+    /// a slot that was not is `Disorder` all the same only if it breaks order. `Memory` where the host, the room for what is told,
+    /// or a copy of an offer found none; a step that finds none is no fault of the run, it has its turn, ENOMEM.
     pub fn run(alloc: Global, steps: &[Step]) -> Result<Outcomes, RunFault>
         ensures alone { IfOk result (λ outcomes. Tells steps.now outcomes) }
         ensures struck { IfOk result (λ outcomes. AreStruckOrderly steps.now outcomes) }
         ensures same { IfOk result (λ outcomes. GivesSame steps.now outcomes) }
+        ensures turns { IfOk result (λ outcomes. AreTurnsOf steps.now outcomes) }
         ensures disorder { IfErr result (λ fault. IsFaultOf steps.now fault) }
         ensures before { IfErr result (λ fault. IsStruckBefore steps.now fault) }
         ensures unordered { IfErr result (λ fault. IsNotOrderly steps.now fault) }
+        ensures order { IfErr result (λ fault. IsBarred steps.now fault) }
     {
         let Ok(mut outcomes) = Outcomes::new(alloc, steps.len()) else {
             return Err(RunFault::Memory);

@@ -7,8 +7,6 @@ pub mod logdump;
 mod printing;
 pub mod progress;
 pub mod script;
-#[cfg(test)]
-mod tests;
 mod window;
 mod writing;
 

@@ -1,4 +1,4 @@
-//! Worked scripts that are driven here too; all of them stand in the folder `rows`.
+//! Worked scripts that are driven here too; all of them stand in the folder `rows`, where the built program plays them.
 
 /// A force waits for the checkpoint of one commit, which lands with both of its offers.
 pub const ROW01_IN: &str = "\
@@ -13,27 +13,6 @@ pub const ROW01_IN: &str = "\
     begin 0 0.1.ckpt.1\n\
     end 0 0.1.ckpt.1 2 ok\n\
     0.1 force\n";
-
-/// A force waits for the checkpoint of one commit, which lands with both of its offers: what is printed.
-pub const ROW01_OUT: &str = "\
-    0 life 1\n\
-    0 t1\n\
-    0 ok\n\
-    0 ok\n\
-    0 c1\n\
-    0 wait c1\n\
-    0 ok\n\
-    0 ok\n\
-    0 begun c1 2\n\
-    0 landed c1\n\
-    0 log 58435031.00*7.0100000001.00*7.07.ff*4.00*4.aa*4064 ok\n\
-    0 log aa*32.5843453100000001.00*7.01 ok\n\
-    0 logsync ok\n\
-    0 done\n";
-
-/// Data that has a shorter spelling.
-pub const ROW21B_IN: &str = "\
-    0.1 log t1 7 0 aaaaaaaa\n";
 
 /// A block is logged again while its checkpoint is in flight, and is written home once both have landed.
 pub const FLOWN_AGAIN_IN: &str = "\

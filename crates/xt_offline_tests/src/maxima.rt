@@ -1,6 +1,7 @@
-//! Scripts at the greatest sizes: the longest checkpoint, the longest line, all transactions, all legs, many lines.
+//! Scripts at the greatest sizes: the longest line, all transactions, all legs, many lines. The longest checkpoint is the script
+//! `edge.pieces.65` of `rows`.
 
-use super::says;
+use crate::scripts::says;
 use std::alloc::Global;
 use std::fmt::{self, Write};
 use std::process::Abort;
@@ -14,14 +15,14 @@ struct Script {
     is_whole: bool,
 }
 
-/// Puts a text behind another, in which each `#` stands for the next number, and each `@` for its two hexadecimal digits.
+/// Puts a text behind another, in which each `#` stands for the next number.
 fn put(text: &mut String, more: &str, numbers: &[u64]) -> fmt::Result {
     let mut next = numbers.iter();
     for c in more.chars() {
-        match c {
-            '#' => write!(text, "{}", next.next().ok_or(fmt::Error)?)?,
-            '@' => write!(text, "{:02x}", next.next().ok_or(fmt::Error)?)?,
-            _ => text.write_char(c)?,
+        if c == '#' {
+            write!(text, "{}", next.next().ok_or(fmt::Error)?)?;
+        } else {
+            text.write_char(c)?;
         }
     }
     Ok(())
@@ -36,14 +37,14 @@ fn put_times(text: &mut String, more: &str, count: usize) -> fmt::Result {
 }
 
 impl Script {
-    /// A mount of slot 0 with a log of so many bytes.
-    fn mounted(alloc: Global, log_bytes: u64) -> Self {
+    /// A mount of slot 0 with a log of 65,536 bytes, and the greatest home device.
+    fn mounted(alloc: Global) -> Self {
         let mut script = Script {
             input: String::new(alloc),
             want: String::new(alloc),
             is_whole: true,
         };
-        script.asks("mount 0 # 1099511627776\n", &[log_bytes]);
+        script.asks("mount 0 65536 1099511627776\n", &[]);
         script.wants("0 life 1\n", &[]);
         script
     }
@@ -71,14 +72,11 @@ impl Script {
         self.is_whole &= is_put;
     }
 
-    /// The first checkpoint is forced and lands with so many pieces, of which the log is offered the lines that come next.
-    fn lands(&mut self, count: u64) {
+    /// The first checkpoint is forced and lands with two pieces, of which the log is offered the lines that come next.
+    fn lands(&mut self) {
         self.asks("0.1 force\npost 0.1.ckpt.1\ntake 7 0.1.ckpt.1\n", &[]);
-        self.asks("begin 7 0.1.ckpt.1\nend 7 0.1.ckpt.1 # ok\n", &[count]);
-        self.wants(
-            "0 wait c1\n0 ok\n0 ok\n0 begun c1 #\n0 landed c1\n",
-            &[count],
-        );
+        self.asks("begin 7 0.1.ckpt.1\nend 7 0.1.ckpt.1 2 ok\n", &[]);
+        self.wants("0 wait c1\n0 ok\n0 ok\n0 begun c1 2\n0 landed c1\n", &[]);
     }
 
     /// Asserts that the script is run to its end and prints just what is wanted.
@@ -86,41 +84,6 @@ impl Script {
         assert!(rt; self.is_whole);
         says(rt, alloc, self.input.as_str(), self.want.as_str(), 0);
     }
-}
-
-/// The 65 pieces of a checkpoint of 64 whole blocks, in which block N is filled with N + 1.
-fn want_longest_pieces(script: &mut Script) {
-    script.wants(
-        "0 log 58435031.00*7.0100000040.00*8.ff*4.00*4.01*4064 ok\n",
-        &[],
-    );
-    for n in 1..64u64 {
-        let numbers = [n, 16 + 16 * n, n, n + 1, 4064 - 16 * n];
-        script.wants("0 log @*#.00*7.@.ff*4.00*4.@*# ok\n", &numbers);
-    }
-    script.wants(
-        "0 log 40*1040.5843453100000040.00*7.01 ok\n0 logsync ok\n",
-        &[],
-    );
-}
-
-/// 64 blocks, of which each is changed whole, make a text of 263,200 bytes.
-#[test]
-fn a_checkpoint_of_65_pieces(rt: HostRuntime) {
-    let mut script = Script::mounted(rt.alloc(), 16777216);
-    script.asks("0.1 alloc 263200 1 plain\n", &[]);
-    script.wants("0 t1\n", &[]);
-    for n in 0..64u64 {
-        script.asks("0.1 get t1 #\n0.1 log t1 # 0 @*4096\n", &[n, n, n + 1]);
-        script.wants("0 ok\n0 ok\n", &[]);
-    }
-    script.asks("0.1 get t1 64\n0.1 commit t1\n", &[]);
-    script.wants("0 ENOBUFS\n0 c1\n", &[]);
-    script.lands(65);
-    want_longest_pieces(&mut script);
-    script.asks("0.1 force\n", &[]);
-    script.wants("0 done\n", &[]);
-    script.says(&rt, rt.alloc());
 }
 
 /// A block without equal neighbours is logged and seen.
@@ -146,9 +109,9 @@ fn want_uneven_pieces(script: &mut Script) {
 /// A block without equal neighbours has a line, a reply and offers of more than 8,192 bytes.
 #[test]
 fn a_line_of_8_kilobytes(rt: HostRuntime) {
-    let mut script = Script::mounted(rt.alloc(), 65536);
+    let mut script = Script::mounted(rt.alloc());
     log_uneven_block(&mut script);
-    script.lands(2);
+    script.lands();
     want_uneven_pieces(&mut script);
     script.asks("0.1 push\npost 0.1.flush.2\ntake 7 0.1.flush.2\n", &[]);
     script.asks("flush 7 0.1.flush.2 ok ok\n0.1 unmount\n", &[]);
@@ -174,7 +137,7 @@ fn change_in_each(script: &mut Script) {
 /// 32 transactions are open, each with a change of its own; the 33rd waits until one has ended.
 #[test]
 fn all_transactions_at_once(rt: HostRuntime) {
-    let mut script = Script::mounted(rt.alloc(), 65536);
+    let mut script = Script::mounted(rt.alloc());
     for n in 1..33u64 {
         script.asks("0.1 alloc 176 8 perm\n", &[]);
         script.wants("0 t#\n", &[n]);
@@ -194,7 +157,7 @@ fn all_transactions_at_once(rt: HostRuntime) {
 /// A transaction of 8 legs rolls over them all, and once more by a new unit; each leg changes a block.
 #[test]
 fn all_legs_of_a_transaction(rt: HostRuntime) {
-    let mut script = Script::mounted(rt.alloc(), 65536);
+    let mut script = Script::mounted(rt.alloc());
     script.asks("0.1 alloc 176 9 perm\n0.1 alloc 176 8 perm\n", &[]);
     script.wants("0 EINVAL\n0 t1\n", &[]);
     for leg in 1..9u64 {
@@ -210,7 +173,7 @@ fn all_legs_of_a_transaction(rt: HostRuntime) {
 /// 10,000 lines: a mount, and then transactions that only look.
 #[test]
 fn a_script_of_10_000_lines(rt: HostRuntime) {
-    let mut script = Script::mounted(rt.alloc(), 65536);
+    let mut script = Script::mounted(rt.alloc());
     for n in 1..3334u64 {
         let answer = if n == 1 { " = 33*4096" } else { "" };
         script.asks("0.1 alloc 1 1 plain\n0.1 read t# 7", &[n]);

@@ -1,8 +1,8 @@
 //! One mount by hand over devices of which one call fails, each in turn. The script is that of a block that is logged again while its
 //! checkpoint is in flight, up to the call that fails.
 
-use crate::tests::drive::{Told, driven, home_lines, log_lines, told_by};
-use crate::tests::rows::{FLOWN_AGAIN_IN, FLOWN_AGAIN_OUT};
+use crate::drive::{Told, driven, home_lines, log_lines, told_by};
+use crate::rows::{FLOWN_AGAIN_IN, FLOWN_AGAIN_OUT};
 use std::alloc::{AllocError, Global};
 use std::test::Fail;
 use xt_base::names::Slot;

@@ -1,9 +1,9 @@
 //! Logs, and what is printed of their checkpoints.
 
-use crate::logdump::dump;
 use std::alloc::Global;
 use std::process::Abort;
 use std::test::Fail;
+use xt_offline::dump;
 
 /// `XCP1`, then the number 1 and one item: its block is 7.
 const FRONT: &[u8] = b"XCP1\0\0\0\0\0\0\0\x01\0\0\0\x01\0\0\0\0\0\0\0\x07";

@@ -1,7 +1,7 @@
 use Rattle.std.proofs.Common.{◌<◌, arith, length, subst, sym}
 use Rattle.std.proofs.lemmas.List.Elements.{All-get_or}
 use Rattle.xt_mount.specs.Accounts.{IsUnchanged}
-use Rattle.xt_offline.proofs.tests.drive.write_at.Goals as goal
+use Rattle.xt_offline_tests.proofs.drive.write_at.Goals as goal
 
 pub committed-requires : goal.committed-requires
 committed-requires c =

@@ -5,14 +5,15 @@ ghost use Rattle.xt_base.specs.Calls.{asks};
 ghost use Rattle.xt_base.specs.Jobs.{fits_plan, flush_plan, is_begun, is_waiting};
 ghost use Rattle.xt_base.specs.Maps.{is_in};
 ghost use Rattle.xt_base.specs.Order.{is_answer, is_there};
+ghost use Rattle.xt_frames.specs.Shares.{no_contents};
 ghost use Rattle.xt_mount.specs.Accounts.{IsUnchanged};
 
-use crate::lines::parse_script;
-use std::alloc::Global;
+use std::alloc::{AllocError, Global};
 use std::test::Fail;
 use xt_base::content::Content;
 use xt_base::names::{Block, JobName, Life, Slot};
 use xt_base::outcomes::Outcomes;
+use xt_base::sizes::SLOTS;
 use xt_base::steps::{Answer, HomeAnswers, LogOffer, Reply, Request, Step};
 use xt_dev::call::HomeCall;
 use xt_dev::home::HomeDevice;
@@ -20,8 +21,10 @@ use xt_dev::log::LogDevice;
 use xt_dev::offer::offer;
 use xt_dev::offer_home::offer_home;
 use xt_frames::share::FrameShare;
+use xt_frames::table::FrameTable;
 use xt_mount::mount::{Mount, Stage};
 use xt_text::buffer::Text;
+use xt_text::parse::parse_line;
 use xt_text::print_reply::{print_home_offer, print_log_offer, print_slot_reply};
 
 /// What a line of output tells.
@@ -56,6 +59,16 @@ pub fn lines_of(alloc: Global, output: &str, told: Told) -> Result<Vec<u8>, Fail
         }
     }
     Ok(lines)
+}
+
+/// The steps of the lines of a script.
+pub fn steps_of(alloc: Global, script: &str) -> Result<Vec<Step>, Fail> {
+    let mut steps = Vec::new(alloc);
+    for line in script.lines() {
+        let step = parse_line(alloc, line.as_bytes()).map_err(|_| "a line of a step")?;
+        steps.push(step)?;
+    }
+    Ok(steps)
 }
 
 /// Puts what a buffer holds behind other lines, with a newline.
@@ -276,6 +289,17 @@ fn take(
     }
 }
 
+/// The frames of a slot, without contents.
+fn share_of(alloc: Global, slot: Slot) -> Result<FrameShare, AllocError>
+    ensures { IfOk result (λ share. share ≡ no_contents slot) }
+{
+    let mut table = FrameTable::new(alloc, SLOTS as u8)?;
+    match table.take_share(slot) {
+        Some(share) => Ok(share),
+        None => unreachable!(),
+    }
+}
+
 /// The first mount of a slot, by the first step of a script.
 fn mounted(alloc: Global, step: Option<&Step>) -> Result<Mount, Fail> {
     match step {
@@ -286,8 +310,7 @@ fn mounted(alloc: Global, step: Option<&Step>) -> Result<Mount, Fail> {
                 blocks,
             },
         ) => {
-            let share = FrameShare::new(alloc, *slot)?;
-            let mount = Mount::new(alloc, share, Life(0), *log_bytes, *blocks);
+            let mount = Mount::new(alloc, share_of(alloc, *slot)?, Life(0), *log_bytes, *blocks);
             Ok(mount.map_err(|(errno, _share)| errno)?)
         }
         _ => Err(Fail::from("no mount at first")),
@@ -312,7 +335,7 @@ pub fn driven(
     log: &mut dyn LogDevice,
     home: &mut dyn HomeDevice,
 ) -> Result<(Mount, Vec<u8>), Fail> {
-    let steps = parse_script(alloc, script.as_bytes()).map_err(|_| "lines of steps")?;
+    let steps = steps_of(alloc, script)?;
     let mut mount = mounted(alloc, steps.first())?;
     let mut text = Text::new(alloc)?;
     let mut replies = Vec::new(alloc);
