@@ -1,4 +1,3 @@
-mod BenchLemmas
 mod BookLemmas
 mod ServedLemmas
 mod FactLemmas

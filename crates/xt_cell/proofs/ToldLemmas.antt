@@ -1,5 +1,5 @@
 -- What a caller knows of a call by its request: which replies it may be told, that no device was asked, and that a shutdown was shown.
-use Rattle.std.proofs.Common.{[], Bool, None, Option, Some, ap, arith, false, inl, inr, refl, slice_index, subst, sym, true, ℕ, ◌*◌, ◌+◌, ◌++◌, ◌<◌, ◌≤◌, ◌∙◌, ◌≡◌, ◌∷◌}
+use Rattle.std.proofs.Common.{[], Bool, None, Option, Some, ap, arith, false, inl, inr, refl, slice_index, subst, sym, true, ℕ, ◌++◌, ◌<◌, ◌∙◌, ◌≡◌, ◌∷◌}
 use Rattle.std.proofs.lemmas.Bool.{eqb-true, false≢true}
 use Rattle.std.proofs.lemmas.Option.{none-some, same_Some}
 use Rattle.std.specs.Prelude.{if◌then◌else◌, is_some, not, ◌&&◌, ◌==◌, ◌||◌}
@@ -7,7 +7,7 @@ use Rattle.xt_base.proofs.ReplyLemmas.{step_gets, unasked}
 use Rattle.xt_base.specs.Alone.{alone, call, called, is_refusal, turn}
 use Rattle.xt_base.specs.Calls.{alone_with, shut_for}
 use Rattle.xt_base.specs.Isolation.{is_no_memory}
-use Rattle.xt_base.specs.Replies.{is_read, may_be_told, may_get}
+use Rattle.xt_base.specs.Replies.{is_read, may_get}
 use Rattle.xt_base.specs.State.{Lone, State}
 use Rattle.xt_base.specs.declared.names.JobKind.{JobKind}
 use Rattle.xt_base.specs.declared.names.JobName.{JobName}
@@ -25,7 +25,7 @@ use Rattle.xt_cell.specs.Posts.{PostsBoth, PostsOne}
 use Rattle.xt_mount.specs.Slots.{IsServed, SlotState, lone_with}
 use Rattle.xt_queue.specs.Passes.{PostView}
 use Rattle.xt_queue.specs.Seats.{SeatView}
-use Rattle.xt_queue.specs.Words.{code_of, word_of}
+use Rattle.xt_queue.specs.Words.{word_of}
 
 -- ---- replies
 -- a reply that was refused memory may be got by any request

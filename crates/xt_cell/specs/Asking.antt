@@ -19,6 +19,11 @@ read_calls (Some block) Answer.None = []
 read_calls (Some block) (Answer.Content content) = Read block (Some content) ∷ []
 read_calls (Some block) Answer.Failed = Read block None ∷ []
 
+-- how many of the calls for an answer failed: one where it says that the read failed
+abbrev pub failed_reads : Answer → ℕ
+failed_reads Answer.Failed = 1
+failed_reads other = 0
+
 -- what a flush offers, with these answers
 abbrev pub flush_calls : HomeAnswers → Option State → List HomeCall
 flush_calls answers None = []
@@ -36,3 +41,8 @@ nearest blocks place = slice_index blocks (min place (length blocks - 1))
 abbrev pub step_calls : Step → List HomeCall
 step_calls (Call slot life request answer) = read_calls (read_block request) answer
 step_calls other = []
+
+-- how many of them failed, as the step says
+abbrev pub failed_calls : Step → ℕ
+failed_calls (Call slot life request answer) = failed_reads answer
+failed_calls other = 0

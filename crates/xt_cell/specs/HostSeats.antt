@@ -1,5 +1,5 @@
 -- What a caller keeps: its number, its counts, its receipts, and what it saw of the board.
-use Rattle.std.specs.Prelude.{List, max, slice_index, slice_set, ℕ, [], ◌++◌, ◌∷◌, ◌≡◌, ◌≤◌}
+use Rattle.std.specs.Prelude.{List, max, slice_index, slice_set, ℕ, [], ◌+◌, ◌++◌, ◌∷◌, ◌≡◌, ◌≤◌}
 use Rattle.xt_queue.specs.Boards.{Rises}
 use Rattle.xt_base.specs.declared.steps.Reply.{Reply}
 use Rattle.xt_base.specs.declared.steps.Step.{Step}
@@ -24,6 +24,10 @@ pub record Notes (slot number : ℕ) (step : Step) (reply : Reply) (old new : Ho
   pub receipts : new.receipts ≡ old.receipts ++ receipt slot number step reply ∷ []
   pub board : new.board ≡ old.board
 
+-- a seat after another seat at the board was split off it
+abbrev pub with_split : HostSeatView → HostSeatView
+with_split s = record { caller = s.caller; counts = s.counts; receipts = s.receipts; board = record { board = s.board.board; shown = s.board.shown; seen = s.board.seen; splits = s.board.splits + 1; rank = s.board.rank }; room = s.room }
+
 -- the same seat, but for its room
 pub record IsSameSeat (old new : HostSeatView) : Type 0 where
   pub caller : new.caller ≡ old.caller
@@ -31,9 +35,11 @@ pub record IsSameSeat (old new : HostSeatView) : Type 0 where
   pub receipts : new.receipts ≡ old.receipts
   pub board : new.board ≡ old.board
 
--- a seat showed a word of a slot: the greatest that it showed there is at least this, and so is what it saw; what it saw of other slots did not go down
+-- a seat showed a word of a slot: the greatest that it showed there is at least this, and so is what it saw; what it saw of other slots did not go down; no seat was split off it, and its rank stays
 pub record Shows (slot word : ℕ) (old new : SeatView) : Type 0 where
   pub board : new.board ≡ old.board
   pub shown : new.shown ≡ slice_set old.shown slot (max (slice_index old.shown slot) word)
   pub saw : word ≤ slice_index new.seen slot
   pub rises : Rises old.seen new.seen
+  pub splits : new.splits ≡ old.splits
+  pub rank : new.rank ≡ old.rank

@@ -1,13 +1,13 @@
 //! What a slot's home device is asked, and what it answered.
 
-ghost use Rattle.std.specs.Prelude.{◌≡◌, ◌<◌, ◌≤◌, ◌-◌, ◌∷◌, ◌++◌, All, [], Some, true, length, map, take, drop, replicate, false, is_ok, IfOk};
+ghost use Rattle.std.specs.Prelude.{◌≡◌, ◌<◌, ◌≤◌, ◌+◌, ◌-◌, ◌∷◌, ◌++◌, All, [], Some, true, length, map, take, drop, replicate, false, is_ok, IfOk};
 ghost use Rattle.xt_base.specs.Jobs.{fits_plan, sync_offer, write_answers, writes};
 ghost use Rattle.xt_base.specs.Maps.{is_in};
 ghost use Rattle.xt_base.specs.Order.{is_answer};
 ghost use Rattle.xt_base.specs.declared.sizes.TheConstants.{FLUSH_BLOCKS as MOST_WRITES};
-ghost use Rattle.xt_cell.specs.Asking.{committed_write, flush_calls, nearest, read_calls};
+ghost use Rattle.xt_cell.specs.Asking.{committed_write, failed_reads, flush_calls, nearest, read_calls};
 ghost use Rattle.xt_dev.specs.Devices.{Tells};
-ghost use Rattle.xt_dev.specs.Flushes.{contents};
+ghost use Rattle.xt_dev.specs.Flushes.{contents, failed_answers};
 ghost use Rattle.xt_mount.specs.Slots.{IsUnchangedIn, contents_in, form_in, plan_in};
 
 use std::alloc::{AllocError, Global};
@@ -32,6 +32,7 @@ pub fn read(home: &mut dyn HomeDevice, block: Block, bytes: Box<Vec<u8>>) -> Ans
     requires whole { length bytes.value.items ≡ BLOCK_BYTES }
     ensures answer { is_answer result ≡ true }
     ensures asked { Tells (home_tells home.old) (home_taken home.old) (read_calls (Some block) result) (home_tells home.new) (home_taken home.new) }
+    ensures failures { home_failures home.new ≡ home_failures home.old + failed_reads result }
 {
     let mut bytes = bytes;
     if home.read(block, bytes.as_mut_slice()).is_err() {
@@ -83,6 +84,7 @@ fn writes_of<'a>(slot: &'a MountSlot, blocks: &[Block]) -> [(Block, &'a [u8]); F
 pub fn flush(home: &mut dyn HomeDevice, slot: &MountSlot) -> HomeAnswers
     ensures fits { fits_plan result (plan_in slot.now.mounted) ≡ true }
     ensures offered { Tells (home_tells home.old) (home_taken home.old) (flush_calls result slot.now.mounted) (home_tells home.new) (home_taken home.new) }
+    ensures failures { home_failures home.new ≡ home_failures home.old + failed_answers result }
 {
     let plan = slot.flush_plan();
     let blocks = plan.blocks();

@@ -124,6 +124,7 @@ impl<H: House, const S: u8> SlotBook<H, S> {
     pub fn into_account(self) -> Account
         requires slot { S < SLOTS }
         ensures base { result.base ≡ self.base }
+        ensures slot { result.base.state.slot ≡ S }
         ensures entries { result.entries ≡ self.entries }
         ensures count { result.count ≡ events_of self }
     {

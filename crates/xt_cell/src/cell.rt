@@ -1,6 +1,6 @@
 //! One locked slot: its book, its devices, and its way to the queue.
 
-ghost use Rattle.std.specs.Prelude.{◌≡◌, ◌++◌, ◌<◌, ◌≤◌, ◌∷◌, ◌⊎◌, [], None, IfOk, IfSome, MatchOption, OnErr, OnOk, is_some, slice_index, false, true, ℕ};
+ghost use Rattle.std.specs.Prelude.{◌≡◌, ◌+◌, ◌++◌, ◌<◌, ◌≤◌, ◌∷◌, ◌⊎◌, [], None, IfOk, IfSome, MatchOption, OnErr, OnOk, is_some, slice_index, false, true, ℕ};
 ghost use Rattle.xt_base.specs.Alone.{reason_of};
 ghost use Rattle.xt_base.specs.Calls.{is_unmount};
 ghost use Rattle.xt_base.specs.Isolation.{is_no_memory};
@@ -12,7 +12,7 @@ ghost use Rattle.xt_base.specs.declared.steps.Answer.TheVariants as Answered;
 ghost use Rattle.xt_base.specs.declared.steps.Reply.TheVariants.{Okay};
 ghost use Rattle.xt_base.specs.declared.steps.Request.TheVariants as ARequest;
 ghost use Rattle.xt_base.specs.declared.steps.Step.{Step as AStep};
-ghost use Rattle.xt_cell.specs.Asking.{read_calls, step_calls};
+ghost use Rattle.xt_cell.specs.Asking.{failed_calls, failed_reads, read_calls, step_calls};
 ghost use Rattle.xt_cell.specs.Books.{IsSameBook, Readies, events_of, may_hold, unwritten};
 ghost use Rattle.xt_cell.specs.Counting.{counted};
 ghost use Rattle.xt_cell.specs.Cells.{IsEvent, IsShown, IsStepOf, is_shutdown, word_shown};
@@ -118,6 +118,7 @@ impl<H: House, const S: u8> SlotCell<H, S> {
     pub fn into_account(self) -> Account
         requires slot { S < SLOTS }
         ensures base { result.base ≡ self.book.base }
+        ensures slot { result.base.state.slot ≡ S }
         ensures entries { result.entries ≡ self.book.entries }
         ensures count { result.count ≡ events_of self.book }
     {
@@ -148,12 +149,15 @@ impl<H: House, const S: u8> SlotCell<H, S> {
         ensures counted { is_no_memory result ≡ false → ⟦<Shares<H> as Counts<H, S>>⟧.counts seat.new.counts ≡ counted S (⟦<Shares<H> as Counts<H, S>>⟧.counts seat.old.counts) }
         ensures kind { may_get request result ≡ true }
         ensures unasked { is_no_memory result ≡ false → is_read request ≡ false → (number : ℕ) × (seat.new.receipts ≡ seat.old.receipts ++ receipt S number (AStep.Call S at.life request Answered.None) result ∷ []) }
+        ensures failures { is_no_memory result ≡ false → (step : AStep) × (number : ℕ) × (seat.new.receipts ≡ seat.old.receipts ++ receipt S number step result ∷ []) × MatchOption self.old.home (self.new.home ≡ None) (λ h. IfSome self.new.home (λ k. home_failures k ≡ home_failures h + failed_calls step)) }
         ensures caller { seat.new.caller ≡ seat.old.caller }
         ensures log { self.new.log ≡ self.old.log }
         ensures shut { request ≡ ARequest.Shutdown → result ≡ Okay → word_of at.life None < slice_index seat.new.board.seen S }
         ensures shown { is_no_memory result ≡ false → IsShown S (word_shown (is_shutdown request) (reason_of self.old.book.state.mounted) self.new.book.state.mounted) seat.old.board seat.new.board }
         ensures board { seat.new.board.board ≡ seat.old.board.board }
         ensures rises { Rises seat.old.board.seen seat.new.board.seen }
+        ensures splits { seat.new.board.splits ≡ seat.old.board.splits }
+        ensures rank { seat.new.board.rank ≡ seat.old.board.rank }
     {
         let before = self.book.slot().shut();
         let is_asked = is_shutdown(&request);
@@ -196,6 +200,7 @@ fn asked<H: House, const S: u8>(
     ensures home { is_some home.new ≡ is_some home.old }
     ensures unasked { OnErr result (home.new ≡ home.old) }
     ensures asked { IfOk result (λ answer. MatchOption home.old (home.new ≡ None) (λ h. IfSome home.new (λ k. Tells (home_tells h) (home_taken h) (read_calls (read_block request.now) answer) (home_tells k) (home_taken k)))) }
+    ensures failures { IfOk result (λ answer. MatchOption home.old (home.new ≡ None) (λ h. IfSome home.new (λ k. home_failures k ≡ home_failures h + failed_reads answer))) }
 {
     let Some(block) = book.slot().needs(life, request) else {
         return Ok(Answer::None);
@@ -227,6 +232,7 @@ fn ready<H: House, const S: u8>(
     ensures rooms { IfOk result (λ made. may_hold made.booked ≡ true → AreReady rooms.new) }
     ensures tried { OnErr result ((home.new ≡ home.old) ⊎ ((answer : AnAnswer) × MatchOption home.old (home.new ≡ None) (λ h. IfSome home.new (λ k. Tells (home_tells h) (home_taken h) (read_calls (read_block request) answer) (home_tells k) (home_taken k))))) }
     ensures asked { IfOk result (λ made. MatchOption home.old (home.new ≡ None) (λ h. IfSome home.new (λ k. Tells (home_tells h) (home_taken h) (step_calls made.booked) (home_tells k) (home_taken k)))) }
+    ensures failures { IfOk result (λ made. MatchOption home.old (home.new ≡ None) (λ h. IfSome home.new (λ k. home_failures k ≡ home_failures h + failed_calls made.booked))) }
 {
     make_room(book, seat)?;
     rooms.prepare(alloc, &request)?;
@@ -262,6 +268,7 @@ where
     ensures tried { is_no_memory result ≡ true → (home.new ≡ home.old) ⊎ ((answer : AnAnswer) × MatchOption home.old (home.new ≡ None) (λ h. IfSome home.new (λ k. Tells (home_tells h) (home_taken h) (read_calls (read_block request) answer) (home_tells k) (home_taken k)))) }
     ensures booked { is_no_memory result ≡ false → (step : AStep) × IsStepOf S life request book.old.state.mounted step × IsEvent S step result book.old book.new seat.old seat.new poster.old poster.new × MatchOption home.old (home.new ≡ None) (λ h. IfSome home.new (λ k. Tells (home_tells h) (home_taken h) (step_calls step) (home_tells k) (home_taken k))) }
     ensures counted { is_no_memory result ≡ false → ⟦<Shares<H> as Counts<H, S>>⟧.counts seat.new.counts ≡ counted S (⟦<Shares<H> as Counts<H, S>>⟧.counts seat.old.counts) }
+    ensures failures { is_no_memory result ≡ false → (step : AStep) × (number : ℕ) × (seat.new.receipts ≡ seat.old.receipts ++ receipt S number step result ∷ []) × MatchOption home.old (home.new ≡ None) (λ h. IfSome home.new (λ k. home_failures k ≡ home_failures h + failed_calls step)) }
 {
     let Ok(step) = ready(alloc, book, seat, home, life, request, rooms) else {
         return Reply::Refused(Errno::NoMemory);

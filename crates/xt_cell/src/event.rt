@@ -39,6 +39,8 @@ pub fn show_shut<H: House, const S: u8>(
     ensures shown { IsShown S (word_shown is_asked before book.now.state.mounted) seat.old.board seat.new.board }
     ensures board { seat.new.board.board ≡ seat.old.board.board }
     ensures rises { Rises seat.old.board.seen seat.new.board.seen }
+    ensures splits { seat.new.board.splits ≡ seat.old.board.splits }
+    ensures rank { seat.new.board.rank ≡ seat.old.board.rank }
     ensures caller { seat.new.caller ≡ seat.old.caller }
     ensures counts { seat.new.counts ≡ seat.old.counts }
     ensures receipts { seat.new.receipts ≡ seat.old.receipts }

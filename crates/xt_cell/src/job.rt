@@ -1,10 +1,10 @@
 //! A checkpoint on its way to the log and back, in the hands of one worker and under no lock.
 
 ghost use Rattle.std.specs.Prelude.{◌≡◌, ◌<◌, ◌≤◌, ◌^◌, All, length, true};
-ghost use Rattle.xt_base.specs.Jobs.{fits_pieces, is_ckpt};
+ghost use Rattle.xt_base.specs.Jobs.{fits_pieces, is_ckpt, is_ok};
 ghost use Rattle.xt_base.specs.Text.{log_offers_of};
 ghost use Rattle.xt_base.specs.declared.sizes.TheConstants.{PIECE_BYTES, TEXT_PIECES};
-ghost use Rattle.xt_dev.specs.Devices.{Tells};
+ghost use Rattle.xt_dev.specs.Devices.{Tells, failures_after};
 
 use bytes::Bytes;
 use xt_base::names::{JobName, Slot, Worker};
@@ -42,6 +42,7 @@ impl CkptJob {
         ensures name { result.name ≡ self.name }
         ensures pieces { result.pieces ≡ self.pieces }
         ensures offered { Tells (log_tells self.log) (log_taken self.log) (log_offers_of result.answers self.pieces.items) (log_tells result.log) (log_taken result.log) }
+        ensures failures { log_failures result.log ≡ failures_after (is_ok result.answers.sync) (log_failures self.log) }
     {
         let CkptJob {
             worker,

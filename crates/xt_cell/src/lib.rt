@@ -20,6 +20,18 @@ pub mod running;
 pub mod seat;
 pub mod shares;
 pub mod tally;
-#[cfg(test)]
-mod tests;
 mod twin;
+
+pub use account::Account;
+pub use book::SlotBook;
+pub use cell::SlotCell;
+pub use house::{House, Of};
+pub use job::{CkptJob, DoneJob};
+pub use mount_ref::MountRef;
+pub use mounting::MountRefused;
+pub use poster::Poster;
+pub use records::{Entry, Receipt};
+pub use reserve::{Blanks, Books, Reserve};
+pub use running::EndFault;
+pub use seat::HostSeat;
+pub use shares::{Counts, Shares};

@@ -70,6 +70,8 @@ impl<H: House, const S: u8> SlotCell<H, S> {
         ensures unshown { OnErr result (seat.new.board ≡ seat.old.board) }
         ensures board { seat.new.board.board ≡ seat.old.board.board }
         ensures rises { Rises seat.old.board.seen seat.new.board.seen }
+        ensures splits { seat.new.board.splits ≡ seat.old.board.splits }
+        ensures rank { seat.new.board.rank ≡ seat.old.board.rank }
     {
         let slot = self.book.slot().slot();
         let SlotCell {

@@ -269,7 +269,7 @@ impl<H: House> Reserve<H> {
 
     /// The number of the next seat, with a tally of no event for each slot. None, and nothing changes, where the last u64 is next:
     /// the numbers and the parts end together.
-    pub fn draw(&mut self) -> Option<(Caller, Shares<H>)>
+    pub(crate) fn draw(&mut self) -> Option<(Caller, Shares<H>)>
         ensures given { IsSome result ↔ (self.old + 1 < 2 ^ 64) }
         ensures drawn { IfSome result (λ seat. (seat.0 ≡ self.old) × (seat.1 ≡ replicate SLOTS 0) × (self.new ≡ self.old + 1)) }
         ensures none { result ≡ None → self.new ≡ self.old }

@@ -1,7 +1,7 @@
 //! The jobs of a locked slot: a checkpoint's begin and end, between which its worker has the log device, and a flush.
 
 ghost use Rattle.std.specs.Bool.{Decides};
-ghost use Rattle.std.specs.Prelude.{◌≡◌, ◌+◌, ◌≤◌, All, None, IfErr, IfOk, IfSome, MatchOption, OnErr, OnOk, Some, false, is_some, length, true};
+ghost use Rattle.std.specs.Prelude.{◌≡◌, ◌+◌, ◌++◌, ◌≤◌, ◌∷◌, [], All, None, IfErr, IfOk, IfSome, MatchOption, OnErr, OnOk, Some, false, is_some, length, true, ℕ};
 ghost use Rattle.xt_base.specs.Alone.{has_begun, reason_of};
 ghost use Rattle.xt_base.specs.Isolation.{is_no_memory};
 ghost use Rattle.xt_base.specs.Jobs.{fits_pieces, fits_plan, is_begun, is_ckpt, is_waiting};
@@ -15,9 +15,10 @@ ghost use Rattle.xt_cell.specs.Cells.{IsEvent, IsFlight, IsShown, word_shown};
 ghost use Rattle.xt_cell.specs.Counting.{counted};
 ghost use Rattle.xt_cell.specs.Events.{IsBooked};
 ghost use Rattle.xt_cell.specs.Facts.{has_log, is_flown_by_job, is_last_post};
-ghost use Rattle.xt_cell.specs.HostSeats.{IsSameSeat};
+ghost use Rattle.xt_cell.specs.HostSeats.{IsSameSeat, receipt};
 ghost use Rattle.xt_cell.specs.declared.running.EndFault.TheVariants.{Memory as NoRoom, Stranger as OfNoFlight};
 ghost use Rattle.xt_dev.specs.Devices.{Tells};
+ghost use Rattle.xt_dev.specs.Flushes.{failed_answers};
 ghost use Rattle.xt_mount.specs.Slots.{pieces_in, plan_in};
 ghost use Rattle.xt_queue.specs.Names.{last_of, unposted};
 ghost use Rattle.xt_queue.specs.Boards.{Rises};
@@ -122,6 +123,8 @@ impl<H: House, const S: u8> SlotCell<H, S> {
         ensures shown { OnOk result (IsShown S (word_shown false (reason_of self.old.book.state.mounted) self.new.book.state.mounted) seat.old.board seat.new.board) }
         ensures board { seat.new.board.board ≡ seat.old.board.board }
         ensures rises { Rises seat.old.board.seen seat.new.board.seen }
+        ensures splits { seat.new.board.splits ≡ seat.old.board.splits }
+        ensures rank { seat.new.board.rank ≡ seat.old.board.rank }
     {
         let SlotCell {
             book,
@@ -167,11 +170,14 @@ impl<H: House, const S: u8> SlotCell<H, S> {
         requires waiting { mount_is (is_waiting name.now) self.old.book.state.mounted ≡ true }
         ensures refused { is_no_memory result ≡ true → IsSameBook self.old.book self.new.book × IsSameSeat seat.old seat.new × (self.new.home ≡ self.old.home) }
         ensures booked { is_no_memory result ≡ false → (answers : AnAnswer) × IsEvent S (AStep.Flush worker name.now answers) result self.old.book self.new.book seat.old seat.new self.old.poster self.new.poster × IfSome self.old.home (λ h. IfSome self.new.home (λ k. Tells (home_tells h) (home_taken h) (flush_calls answers self.old.book.state.mounted) (home_tells k) (home_taken k))) }
+        ensures failures { is_no_memory result ≡ false → (answers : AnAnswer) × (number : ℕ) × (seat.new.receipts ≡ seat.old.receipts ++ receipt S number (AStep.Flush worker name.now answers) result ∷ []) × IfSome self.old.home (λ h. IfSome self.new.home (λ k. home_failures k ≡ home_failures h + failed_answers answers)) }
         ensures counted { is_no_memory result ≡ false → ⟦<Shares<H> as Counts<H, S>>⟧.counts seat.new.counts ≡ counted S (⟦<Shares<H> as Counts<H, S>>⟧.counts seat.old.counts) }
         ensures log { self.new.log ≡ self.old.log }
         ensures shown { is_no_memory result ≡ false → IsShown S (word_shown false (reason_of self.old.book.state.mounted) self.new.book.state.mounted) seat.old.board seat.new.board }
         ensures board { seat.new.board.board ≡ seat.old.board.board }
         ensures rises { Rises seat.old.board.seen seat.new.board.seen }
+        ensures splits { seat.new.board.splits ≡ seat.old.board.splits }
+        ensures rank { seat.new.board.rank ≡ seat.old.board.rank }
     {
         let SlotCell {
             book,
@@ -334,6 +340,7 @@ fn offered<H: House, const S: u8>(
     ensures fits { fits_plan result (plan_in book.now.state.mounted) ≡ true }
     ensures home { is_some home.new ≡ true }
     ensures offered { IfSome home.old (λ h. IfSome home.new (λ k. Tells (home_tells h) (home_taken h) (flush_calls result book.now.state.mounted) (home_tells k) (home_taken k))) }
+    ensures failures { IfSome home.old (λ h. IfSome home.new (λ k. home_failures k ≡ home_failures h + failed_answers result)) }
 {
     match home {
         Some(home) => asking::flush(&mut **home, book.slot()),

@@ -1,14 +1,16 @@
 //! What a caller keeps of its calls.
 
-ghost use Rattle.std.specs.Prelude.{◌≡◌, ◌+◌, ◌++◌, ◌∷◌, ◌≤◌, ◌<◌, ◌^◌, [], OnOk, IfSome, replicate, slice_index, slice_set};
+ghost use Rattle.std.specs.Prelude.{◌≡◌, ◌+◌, ◌++◌, ◌∷◌, ◌≤◌, ◌<◌, ◌^◌, [], None, OnOk, IfSome, replicate, slice_index, slice_set};
+ghost use Rattle.xt_base.specs.declared.sizes.TheConstants.{SLOTS};
 ghost use Rattle.xt_cell.specs.Counting.{counted};
 ghost use Rattle.xt_queue.specs.Boards.{Rises};
 ghost use Rattle.xt_queue.specs.Seats.{fresh_seat};
 ghost use Rattle.xt_queue.specs.Words.{word_of};
-ghost use Rattle.xt_cell.specs.HostSeats.{IsSameSeat, Shows};
+ghost use Rattle.xt_cell.specs.HostSeats.{IsSameSeat, Shows, with_split};
 
 use crate::house::{House, Of};
 use crate::records::Receipt;
+use crate::reserve::Reserve;
 use crate::shares::{Counts, Shares};
 use std::alloc::{AllocError, Global};
 use std::marker::Model;
@@ -37,8 +39,45 @@ impl<H: House> Model for HostSeat<H> {
 }
 
 impl<H: House> HostSeat<H> {
+    /// The first seat of a host, by a reserve of which none was drawn, with a seat at the board.
+    pub fn first(alloc: Global, reserve: &mut Reserve<H>, board: Seat) -> Self
+        requires first { reserve.old ≡ 1 }
+        ensures next { reserve.new ≡ 2 }
+        ensures caller { result.caller ≡ 1 }
+        ensures counts { result.counts ≡ replicate SLOTS 0 }
+        ensures receipts { result.receipts ≡ [] }
+        ensures board { result.board ≡ board }
+    {
+        let Some((caller, shares)) = reserve.draw() else {
+            unreachable!()
+        };
+        HostSeat::new(alloc, caller, shares, board)
+    }
+
+    /// Another seat, split off this one: it has seen of the board what this one saw, and did nothing yet. None, and nothing changes, where
+    /// the numbers of callers end.
+    pub fn another(
+        &mut self,
+        alloc: Global,
+        reserve: &mut Reserve<H>,
+        board: &Board,
+    ) -> Option<Self>
+        requires board { self.old.board.board ≡ board.now }
+        ensures split { IfSome result (λ _. self.new ≡ with_split self.old) }
+        ensures kept { result ≡ None → self.new ≡ self.old }
+        ensures caller { IfSome result (λ other. other.caller ≡ reserve.old) }
+        ensures next { IfSome result (λ _. reserve.new ≡ reserve.old + 1) }
+        ensures counts { IfSome result (λ other. other.counts ≡ replicate SLOTS 0) }
+        ensures receipts { IfSome result (λ other. other.receipts ≡ []) }
+        ensures seat { IfSome result (λ other. other.board ≡ fresh_seat board.now self.old.board.seen (self.old.board.rank + 1)) }
+    {
+        let (caller, shares) = reserve.draw()?;
+        let seat = self.split(board);
+        Some(HostSeat::new(alloc, caller, shares, seat))
+    }
+
     /// The seat of a caller that did nothing yet.
-    pub fn new(alloc: Global, caller: Caller, shares: Shares<H>, board: Seat) -> Self
+    pub(crate) fn new(alloc: Global, caller: Caller, shares: Shares<H>, board: Seat) -> Self
         ensures caller { result.caller ≡ caller }
         ensures counts { result.counts ≡ shares }
         ensures receipts { result.receipts ≡ [] }
@@ -103,10 +142,10 @@ impl<H: House> HostSeat<H> {
     }
 
     /// Another seat at the board, which has seen what this one saw.
-    pub fn split(&mut self, board: &Board) -> Seat
+    fn split(&mut self, board: &Board) -> Seat
         requires board { self.old.board.board ≡ board.now }
-        ensures kept { self.new ≡ self.old }
-        ensures seat { result ≡ fresh_seat board.now self.old.board.seen }
+        ensures kept { self.new ≡ with_split self.old }
+        ensures seat { result ≡ fresh_seat board.now self.old.board.seen (self.old.board.rank + 1) }
     {
         board.split(&mut self.board)
     }
@@ -118,6 +157,8 @@ impl<H: House> HostSeat<H> {
         ensures shown { self.new.board.shown ≡ self.old.board.shown }
         ensures seen { self.new.board.seen ≡ slice_set self.old.board.seen slot (word_of result.0 result.1) }
         ensures rises { Rises self.old.board.seen self.new.board.seen }
+        ensures splits { self.new.board.splits ≡ self.old.board.splits }
+        ensures rank { self.new.board.rank ≡ self.old.board.rank }
         ensures caller { self.new.caller ≡ self.old.caller }
         ensures counts { self.new.counts ≡ self.old.counts }
         ensures receipts { self.new.receipts ≡ self.old.receipts }

@@ -27,32 +27,44 @@ const SLOTS: &[&str] = &[
     "0", "1", "2", "3", "4", "5", "6", "7", "8", "9", "10", "11", "12", "13", "14", "15",
 ];
 
-/// The command line.
-fn command<'a>(alloc: Global) -> Result<Command<'a>, AllocError> {
-    let script = Command::new(alloc, "script").about(
+/// The command line of a script.
+fn script_command<'a>(alloc: Global) -> Command<'a> {
+    Command::new(alloc, "script").about(
         "Runs the steps on standard input, one on a line, and prints each reply with its offers",
-    );
+    )
+}
+
+/// The command line of a script that is struck to one slot.
+fn strike_command<'a>(alloc: Global) -> Result<Command<'a>, AllocError> {
     let slot = Arg::new(alloc, "SLOT")
         .help("A slot, 0 to 15")
         .required(true)
         .value_parser(SLOTS);
-    let strike = Command::new(alloc, "strike")
+    Command::new(alloc, "strike")
         .about("The same with the steps of one slot alone")
-        .arg(slot)?;
+        .arg(slot)
+}
+
+/// The command line of a log that is printed.
+fn logdump_command<'a>(alloc: Global) -> Result<Command<'a>, AllocError> {
     let file = Arg::new(alloc, "FILE")
         .help("The file of a log")
         .required(true);
-    let logdump = Command::new(alloc, "logdump")
+    Command::new(alloc, "logdump")
         .about("Prints the checkpoints of a log file")
-        .arg(file)?;
+        .arg(file)
+}
+
+/// The command line.
+fn command<'a>(alloc: Global) -> Result<Command<'a>, AllocError> {
     Command::new(alloc, "xth")
         .version("0.1.0")
         .about("Transactions over the blocks of a volume, step by step")
         .bin_name("xth")?
         .subcommand_required(true)
-        .subcommand(script)?
-        .subcommand(strike)?
-        .subcommand(logdump)?
+        .subcommand(script_command(alloc))?
+        .subcommand(strike_command(alloc)?)?
+        .subcommand(logdump_command(alloc)?)?
         .subcommand(serve_command(alloc)?)
 }
 

@@ -19,7 +19,7 @@ pub struct FrameShare {
 
 impl FrameShare {
     /// The share of a slot, without contents. The one error is want of memory.
-    pub fn new(alloc: Global, slot: Slot) -> Result<Self, AllocError>
+    pub(crate) fn new(alloc: Global, slot: Slot) -> Result<Self, AllocError>
         ensures { IfOk result (λ share. share ≡ no_contents slot) }
     {
         let busy = BusyFrames::new(alloc)?;

@@ -1,7 +1,4 @@
-mod AgreeLemmas
-mod ReceiptLemmas
 mod ServedLemmas
-pub mod CommandLemmas
 mod WorkLemmas
-pub mod CrossLemmas
 mod WaitLemmas
+pub mod CrossLemmas

@@ -9,8 +9,9 @@ use Rattle.xt_base.specs.declared.steps.Step.TheVariants.{Call}
 use Rattle.xt_cell.specs.HostSeats.{HostSeatView, receipt}
 use Rattle.xt_cell.specs.declared.mount_ref.MountRef.{MountRef}
 use Rattle.xt_host.proofs.WorkLemmas.{each_append}
-use Rattle.xt_host.specs.Tokens.{Served}
-use Rattle.xt_host.specs.Waiting.{IsTryOf, Tried, is_again}
+use Rattle.xt_receipts.specs.Tokens.{Served}
+use Rattle.xt_receipts.specs.Again.{is_again}
+use Rattle.xt_host.specs.Waiting.{IsTryOf, Tried}
 use Rattle.xt_host.specs.Work.{counted_each}
 
 -- a reply that asks to try again is not ENOMEM
@@ -26,6 +27,8 @@ module _ (at : MountRef) (request : Request) where
     receipts = sym (append-nil s.receipts);
     counts = refl;
     caller = refl;
+    splits = refl;
+    rank = refl;
   }
 
   -- one try more
@@ -40,4 +43,6 @@ module _ (at : MountRef) (request : Request) where
         receipts = got.receipts ∙ ap (λ rs. rs ++ one ∷ []) before.receipts ∙ append_assoc a.receipts before.tries (one ∷ []);
         counts = got.counts ∙ ap (λ counts. counted_each (one ∷ []) counts) before.counts ∙ sym (each_append before.tries (one ∷ []) a.counts);
         caller = got.caller ∙ before.caller;
+        splits = got.splits ∙ before.splits;
+        rank = got.rank ∙ before.rank;
       }

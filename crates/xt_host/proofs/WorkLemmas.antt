@@ -13,7 +13,8 @@ use Rattle.xt_base.specs.declared.steps.Step.TheVariants.{Begin, Flush}
 use Rattle.xt_cell.specs.Counting.{counted}
 use Rattle.xt_cell.specs.HostSeats.{HostSeatView, IsSameSeat, receipt}
 use Rattle.xt_cell.specs.declared.records.Receipt.{Receipt}
-use Rattle.xt_host.specs.Calls.{Receives}
+use Rattle.xt_receipts.specs.Calls.{Receives}
+use Rattle.xt_queue.specs.Seats.{SeatView}
 use Rattle.xt_host.specs.Work.{IsJobStep, IsWorkOf, Worked, counted_each}
 
 -- the counts after two lists of receipts
@@ -30,6 +31,8 @@ module _ (worker : ℕ) where
     counts = same.counts;
     own = All-nil (IsWorkOf worker taken);
     caller = same.caller;
+    splits = ap (λ (b : SeatView). b.splits) same.board;
+    rank = ap (λ (b : SeatView). b.rank) same.board;
   }
 
   -- one step after another
@@ -40,6 +43,8 @@ module _ (worker : ℕ) where
     counts = q.counts ∙ ap (counted_each q.gained) p.counts ∙ sym (each_append p.gained q.gained a.counts);
     own = All-append (IsWorkOf worker taken) p.gained q.gained p.own q.own;
     caller = q.caller ∙ p.caller;
+    splits = q.splits ∙ p.splits;
+    rank = q.rank ∙ p.rank;
   }
 
   -- of more names
@@ -50,6 +55,8 @@ module _ (worker : ℕ) where
     counts = p.counts;
     own = λ i d less. let own = p.own i d less in (own.0, more own.0 own.1, own.2, own.3);
     caller = p.caller;
+    splits = p.splits;
+    rank = p.rank;
   }
 
   -- one name more
@@ -68,6 +75,8 @@ module _ (worker : ℕ) where
         counts = receives.counts;
         own = All-cons (IsWorkOf worker (name ∷ [])) (receipt name.slot receives.number step reply) [] (name, (0, omega arith, refl), refl, is) (All-nil (IsWorkOf worker (name ∷ [])));
         caller = receives.caller;
+        splits = receives.splits;
+        rank = receives.rank;
       })
 
   -- nothing was done, twice

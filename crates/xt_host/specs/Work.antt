@@ -24,10 +24,12 @@ abbrev pub counted_each : List Receipt → List ℕ → List ℕ
 counted_each [] counts = counts
 counted_each (r ∷ rs) counts = counted_each rs (counted r.slot counts)
 
--- a seat has receipts more only of this worker's steps of names that it took, and counted one event for each of them
+-- a seat has receipts more only of this worker's steps of names that it took, and counted one event for each of them; no seat was split off, and the rank stays
 pub record Worked (worker : ℕ) (taken : List JobName) (old new : HostSeatView) : Type 0 where
   pub gained : List Receipt
   pub receipts : new.receipts ≡ old.receipts ++ gained
   pub counts : new.counts ≡ counted_each gained old.counts
   pub own : All (IsWorkOf worker taken) gained
   pub caller : new.caller ≡ old.caller
+  pub splits : new.board.splits ≡ old.board.splits
+  pub rank : new.board.rank ≡ old.board.rank

@@ -3,21 +3,22 @@
 ghost use Rattle.std.specs.Prelude.{◌≡◌, ◌<◌, IfErr, IfOk, None, OnOk, slice_index};
 ghost use Rattle.xt_base.specs.declared.steps.Reply.TheVariants as AReply;
 ghost use Rattle.xt_base.specs.declared.steps.Request.TheVariants as ARequest;
-ghost use Rattle.xt_host.specs.Tokens.{Served, forced};
+ghost use Rattle.xt_receipts.specs.Tokens.{Served, forced};
 ghost use Rattle.xt_queue.specs.Boards.{Rises};
 ghost use Rattle.xt_queue.specs.Words.{word_of};
 
 use crate::host::Host;
-use crate::outcomes::Forced;
-use crate::told::{force, okay};
 use std::sync::Wait;
 use xt_base::names::CkptNo;
 use xt_base::steps::{Errno, Request};
 use xt_cell::house::House;
 use xt_cell::mount_ref::MountRef;
 use xt_cell::seat::HostSeat;
+use xt_receipts::outcomes::Forced;
+use xt_receipts::told::{force, okay};
+use xt_slots::desk::Desk;
 
-impl<H: House> Host<H> {
+impl<H: House, D> Host<H, D> {
     /// Asks that all that is committed reach the log. EIO on a shut mount, ENODEV and ESTALE where that mount is gone.
     pub fn force<R: Wait>(
         &self,
@@ -25,6 +26,8 @@ impl<H: House> Host<H> {
         seat: &mut HostSeat<H>,
         at: MountRef,
     ) -> Result<Forced, Errno>
+    where
+        D: Desk<H, R>,
         requires board { seat.old.board.board ≡ self.now.board }
         ensures forced { IfOk result (λ what. Served at ARequest.Force (forced what) seat.old seat.new) }
         ensures refused { IfErr result (λ errno. Served at ARequest.Force (AReply.Refused errno) seat.old seat.new) }
@@ -42,6 +45,8 @@ impl<H: House> Host<H> {
         at: MountRef,
         number: CkptNo,
     ) -> Result<Forced, Errno>
+    where
+        D: Desk<H, R>,
         requires board { seat.old.board.board ≡ self.now.board }
         ensures forced { IfOk result (λ what. Served at (ARequest.ForceTo number) (forced what) seat.old seat.new) }
         ensures refused { IfErr result (λ errno. Served at (ARequest.ForceTo number) (AReply.Refused errno) seat.old seat.new) }
@@ -53,6 +58,8 @@ impl<H: House> Host<H> {
 
     /// Asks that blocks be written home. EIO on a shut mount, ENODEV and ESTALE where that mount is gone.
     pub fn push<R: Wait>(&self, rt: &R, seat: &mut HostSeat<H>, at: MountRef) -> Result<(), Errno>
+    where
+        D: Desk<H, R>,
         requires board { seat.old.board.board ≡ self.now.board }
         ensures asked { OnOk result (Served at ARequest.Push AReply.Okay seat.old seat.new) }
         ensures refused { IfErr result (λ errno. Served at ARequest.Push (AReply.Refused errno) seat.old seat.new) }
@@ -70,6 +77,8 @@ impl<H: House> Host<H> {
         seat: &mut HostSeat<H>,
         at: MountRef,
     ) -> Result<(), Errno>
+    where
+        D: Desk<H, R>,
         requires board { seat.old.board.board ≡ self.now.board }
         ensures shut { OnOk result (Served at ARequest.Shutdown AReply.Okay seat.old seat.new) }
         ensures seen { OnOk result (word_of at.life None < slice_index seat.new.board.seen at.slot) }
@@ -83,6 +92,8 @@ impl<H: House> Host<H> {
     /// Opens no transaction from here on; those that are open go on. EIO on a shut mount, EBUSY on a frozen one, ENODEV and ESTALE where
     /// that mount is gone.
     pub fn freeze<R: Wait>(&self, rt: &R, seat: &mut HostSeat<H>, at: MountRef) -> Result<(), Errno>
+    where
+        D: Desk<H, R>,
         requires board { seat.old.board.board ≡ self.now.board }
         ensures frozen { OnOk result (Served at ARequest.Freeze AReply.Okay seat.old seat.new) }
         ensures refused { IfErr result (λ errno. Served at ARequest.Freeze (AReply.Refused errno) seat.old seat.new) }
@@ -94,6 +105,8 @@ impl<H: House> Host<H> {
 
     /// Opens transactions again. EINVAL where the mount is not frozen, ENODEV and ESTALE where it is gone.
     pub fn thaw<R: Wait>(&self, rt: &R, seat: &mut HostSeat<H>, at: MountRef) -> Result<(), Errno>
+    where
+        D: Desk<H, R>,
         requires board { seat.old.board.board ≡ self.now.board }
         ensures thawed { OnOk result (Served at ARequest.Thaw AReply.Okay seat.old seat.new) }
         ensures refused { IfErr result (λ errno. Served at ARequest.Thaw (AReply.Refused errno) seat.old seat.new) }

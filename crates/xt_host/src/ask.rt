@@ -5,7 +5,7 @@ ghost use Rattle.xt_base.specs.Calls.{is_unmount};
 ghost use Rattle.xt_base.specs.Replies.{may_get};
 ghost use Rattle.xt_base.specs.declared.steps.Reply.TheVariants.{Okay};
 ghost use Rattle.xt_base.specs.declared.steps.Request.TheVariants as ARequest;
-ghost use Rattle.xt_host.specs.Tokens.{Served};
+ghost use Rattle.xt_receipts.specs.Tokens.{Served};
 ghost use Rattle.xt_queue.specs.Boards.{Rises};
 ghost use Rattle.xt_queue.specs.Words.{word_of};
 
@@ -15,8 +15,9 @@ use xt_base::steps::{Reply, Request};
 use xt_cell::house::House;
 use xt_cell::mount_ref::MountRef;
 use xt_cell::seat::HostSeat;
+use xt_slots::desk::Desk;
 
-impl<H: House> Host<H> {
+impl<H: House, D> Host<H, D> {
     /// Asks a mount: its reply, which is one that the request may get.
     #[tactic(auto, using(crate::proofs::ServedLemmas::served_of))]
     pub(crate) fn ask<R: Wait>(
@@ -26,6 +27,8 @@ impl<H: House> Host<H> {
         at: MountRef,
         request: Request,
     ) -> Reply
+    where
+        D: Desk<H, R>,
         requires board { seat.old.board.board ≡ self.now.board }
         requires kind { is_unmount request ≡ false }
         ensures served { Served at request result seat.old seat.new }

@@ -2,18 +2,19 @@
 
 ghost use Rattle.std.specs.Prelude.{◌≡◌, true};
 ghost use Rattle.xt_base.specs.Replies.{may_get};
-ghost use Rattle.xt_host.specs.Tokens.{Served};
-ghost use Rattle.xt_host.specs.Waiting.{AtLast, is_again, request_of};
+ghost use Rattle.xt_receipts.specs.Tokens.{Served};
+ghost use Rattle.xt_host.specs.Waiting.{AtLast, request_of};
 ghost use Rattle.xt_queue.specs.Boards.{Rises};
 
-use crate::commands::{Command, Outcome};
 use crate::host::Host;
 use std::sync::Wait;
 use xt_base::names::{Block, CkptNo, TransNo};
-use xt_base::steps::{Errno, Reply, Request};
+use xt_base::steps::{Reply, Request};
 use xt_cell::house::House;
 use xt_cell::mount_ref::MountRef;
 use xt_cell::seat::HostSeat;
+use xt_receipts::told::asks_again;
+use xt_slots::desk::Desk;
 
 /// What is tried: each try makes its request anew.
 #[derive(Clone, Copy)]
@@ -45,14 +46,7 @@ impl Attempt {
     }
 }
 
-/// Whether a reply asks that its request be tried again: EAGAIN, and a force that waits for a checkpoint.
-pub fn asks_again(reply: &Reply) -> bool
-    ensures { result ≡ is_again reply.now }
-{
-    matches!(reply, Reply::Refused(Errno::Again) | Reply::Wait(_))
-}
-
-impl<H: House> Host<H> {
+impl<H: House, D> Host<H, D> {
     /// Tries a request once; where its reply asks to try again, it comes after a change of the slot, or earlier for no reason.
     #[tactic(auto, using(crate::proofs::ServedLemmas::served_of))]
     fn attempt<R: Wait>(
@@ -62,21 +56,16 @@ impl<H: House> Host<H> {
         at: &MountRef,
         attempt: &Attempt,
     ) -> Reply
+    where
+        D: Desk<H, R>,
         requires board { seat.old.board.board ≡ self.now.board }
         ensures served { Served at.now (request_of attempt.now) result seat.old seat.new }
         ensures kind { may_get (request_of attempt.now) result ≡ true }
         ensures board { seat.new.board.board ≡ seat.old.board.board }
         ensures rises { Rises seat.old.board.seen seat.new.board.seen }
     {
-        let command = Command::Call {
-            at: *at,
-            request: attempt.request(),
-            waits: true,
-        };
-        match self.serve(rt, seat, command) {
-            Outcome::Called(reply) => reply,
-            _ => unreachable!(),
-        }
+        self.slots
+            .ask(rt, seat, &self.board, *at, attempt.request(), true)
     }
 
     /// Tries a request until its reply is not one that asks to try again.
@@ -87,6 +76,8 @@ impl<H: House> Host<H> {
         at: &MountRef,
         attempt: &Attempt,
     ) -> Reply
+    where
+        D: Desk<H, R>,
         requires board { seat.old.board.board ≡ self.now.board }
         ensures served { AtLast at.now (request_of attempt.now) result seat.old seat.new }
         ensures kind { may_get (request_of attempt.now) result ≡ true }

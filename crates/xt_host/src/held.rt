@@ -3,18 +3,19 @@
 ghost use Rattle.std.specs.Prelude.{◌≡◌, IfErr, OnOk};
 ghost use Rattle.xt_base.specs.declared.steps.Reply.TheVariants as AReply;
 ghost use Rattle.xt_base.specs.declared.steps.Request.TheVariants as ARequest;
-ghost use Rattle.xt_host.specs.Tokens.{Served};
+ghost use Rattle.xt_receipts.specs.Tokens.{Served};
 ghost use Rattle.xt_queue.specs.Boards.{Rises};
 
 use crate::host::Host;
-use crate::tokens::{HeldBuf, Trans};
-use crate::told::okay;
 use std::sync::Wait;
 use xt_base::steps::{Errno, Request};
 use xt_cell::house::House;
 use xt_cell::seat::HostSeat;
+use xt_receipts::tokens::{HeldBuf, Trans};
+use xt_receipts::told::{let_go, okay};
+use xt_slots::desk::Desk;
 
-impl<H: House> Host<H> {
+impl<H: House, D> Host<H, D> {
     /// Hands a held buffer to a transaction of its mount, which has its block from then on. Where it is refused the buffer comes back:
     /// EIO on a shut mount, ENODEV and ESTALE where that mount is gone.
     pub fn join<R: Wait>(
@@ -24,6 +25,8 @@ impl<H: House> Host<H> {
         trans: &mut Trans,
         held: HeldBuf,
     ) -> Result<(), (HeldBuf, Errno)>
+    where
+        D: Desk<H, R>,
         requires board { seat.old.board.board ≡ self.now.board }
         requires mount { held.at ≡ trans.old.at }
         ensures trans { trans.new ≡ trans.old }
@@ -34,12 +37,12 @@ impl<H: House> Host<H> {
         ensures rises { Rises seat.old.board.seen seat.new.board.seen }
     {
         let request = Request::Join {
-            trans: trans.number,
-            block: held.block,
+            trans: trans.number(),
+            block: held.block(),
         };
-        match okay(self.ask(rt, seat, trans.at, request)) {
+        match okay(self.ask(rt, seat, trans.at(), request)) {
             Ok(()) => {
-                let HeldBuf { at: _, block: _ } = held;
+                let_go(held);
                 Ok(())
             }
             Err(errno) => Err((held, errno)),
@@ -53,6 +56,8 @@ impl<H: House> Host<H> {
         seat: &mut HostSeat<H>,
         held: HeldBuf,
     ) -> Result<(), (HeldBuf, Errno)>
+    where
+        D: Desk<H, R>,
         requires board { seat.old.board.board ≡ self.now.board }
         ensures released { OnOk result (Served held.at (ARequest.Release held.block) AReply.Okay seat.old seat.new) }
         ensures back { IfErr result (λ back. back.0 ≡ held) }
@@ -60,10 +65,12 @@ impl<H: House> Host<H> {
         ensures board { seat.new.board.board ≡ seat.old.board.board }
         ensures rises { Rises seat.old.board.seen seat.new.board.seen }
     {
-        let request = Request::Release { block: held.block };
-        match okay(self.ask(rt, seat, held.at, request)) {
+        let request = Request::Release {
+            block: held.block(),
+        };
+        match okay(self.ask(rt, seat, held.at(), request)) {
             Ok(()) => {
-                let HeldBuf { at: _, block: _ } = held;
+                let_go(held);
                 Ok(())
             }
             Err(errno) => Err((held, errno)),

@@ -4,20 +4,21 @@ ghost use Rattle.std.specs.Prelude.{◌≡◌, IfErr, IfOk};
 ghost use Rattle.xt_base.specs.Calls.{committed_of, held_of, okay_of};
 ghost use Rattle.xt_base.specs.declared.steps.Reply.TheVariants as AReply;
 ghost use Rattle.xt_base.specs.declared.steps.Request.TheVariants as ARequest;
-ghost use Rattle.xt_host.specs.Tokens.{NotCommitted, NotRolled, Served};
+ghost use Rattle.xt_receipts.specs.Tokens.{NotCommitted, NotRolled, Served};
 ghost use Rattle.xt_queue.specs.Boards.{Rises};
 
 use crate::host::Host;
-use crate::outcomes::{CommitFault, LegFault, RollFault};
-use crate::tokens::{HeldList, Trans};
-use crate::told::{cancelled, ended};
 use std::sync::Wait;
 use xt_base::names::CkptNo;
 use xt_base::steps::{Errno, Request};
 use xt_cell::house::House;
 use xt_cell::seat::HostSeat;
+use xt_receipts::outcomes::{CommitFault, RollFault};
+use xt_receipts::tokens::{HeldList, Trans};
+use xt_receipts::told::{LegFault, cancelled, ended, over};
+use xt_slots::desk::Desk;
 
-impl<H: House> Host<H> {
+impl<H: House, D> Host<H, D> {
     /// Ends the transaction and commits its leg: the number of the checkpoint that the leg goes into, 0 for a clean leg, and the buffers
     /// that stay held. EIO on a shut mount where the leg changed something: then the leg is given up, and the transaction is over too.
     /// Any other refusal changes nothing: ENOMEM where memory is refused; EINVAL, ENODEV and ESTALE where there is no such transaction.
@@ -27,6 +28,8 @@ impl<H: House> Host<H> {
         seat: &mut HostSeat<H>,
         trans: Trans,
     ) -> Result<(CkptNo, HeldList), CommitFault>
+    where
+        D: Desk<H, R>,
         requires board { seat.old.board.board ≡ self.now.board }
         ensures at { IfOk result (λ done. done.1.at ≡ trans.at) }
         ensures committed { IfOk result (λ done. Served trans.at (ARequest.Commit trans.number) (committed_of done.0 (held_of done.1.blocks)) seat.old seat.new) }
@@ -35,15 +38,15 @@ impl<H: House> Host<H> {
         ensures rises { Rises seat.old.board.seen seat.new.board.seen }
     {
         let request = Request::Commit {
-            trans: trans.number,
+            trans: trans.number(),
         };
-        match ended(trans.at, self.ask(rt, seat, trans.at, request)) {
+        match ended(trans.at(), self.ask(rt, seat, trans.at(), request)) {
             Ok((number, held)) => {
-                let Trans { at: _, number: _ } = trans;
+                over(trans);
                 Ok((number, held))
             }
             Err(LegFault::Aborted(held)) => {
-                let Trans { at: _, number: _ } = trans;
+                over(trans);
                 Err(CommitFault::Aborted(held))
             }
             Err(LegFault::Refused(errno)) => Err(CommitFault::Back(trans, errno)),
@@ -59,6 +62,8 @@ impl<H: House> Host<H> {
         seat: &mut HostSeat<H>,
         trans: Trans,
     ) -> Result<(CkptNo, HeldList, Trans), RollFault>
+    where
+        D: Desk<H, R>,
         requires board { seat.old.board.board ≡ self.now.board }
         ensures at { IfOk result (λ done. done.1.at ≡ trans.at) }
         ensures trans { IfOk result (λ done. done.2 ≡ trans) }
@@ -68,9 +73,9 @@ impl<H: House> Host<H> {
         ensures rises { Rises seat.old.board.seen seat.new.board.seen }
     {
         let request = Request::Roll {
-            trans: trans.number,
+            trans: trans.number(),
         };
-        match ended(trans.at, self.ask(rt, seat, trans.at, request)) {
+        match ended(trans.at(), self.ask(rt, seat, trans.at(), request)) {
             Ok((number, held)) => Ok((number, held, trans)),
             Err(LegFault::Aborted(held)) => Err(RollFault::Aborted(trans, held)),
             Err(LegFault::Refused(errno)) => Err(RollFault::Back(trans, errno)),
@@ -85,6 +90,8 @@ impl<H: House> Host<H> {
         seat: &mut HostSeat<H>,
         trans: Trans,
     ) -> Result<HeldList, (Trans, Errno)>
+    where
+        D: Desk<H, R>,
         requires board { seat.old.board.board ≡ self.now.board }
         ensures at { IfOk result (λ held. held.at ≡ trans.at) }
         ensures cancelled { IfOk result (λ held. Served trans.at (ARequest.Cancel trans.number) (okay_of (held_of held.blocks)) seat.old seat.new) }
@@ -94,11 +101,11 @@ impl<H: House> Host<H> {
         ensures rises { Rises seat.old.board.seen seat.new.board.seen }
     {
         let request = Request::Cancel {
-            trans: trans.number,
+            trans: trans.number(),
         };
-        match cancelled(trans.at, self.ask(rt, seat, trans.at, request)) {
+        match cancelled(trans.at(), self.ask(rt, seat, trans.at(), request)) {
             Ok(held) => {
-                let Trans { at: _, number: _ } = trans;
+                over(trans);
                 Ok(held)
             }
             Err(errno) => Err((trans, errno)),

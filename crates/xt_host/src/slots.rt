@@ -12,14 +12,11 @@ ghost use Rattle.xt_base.specs.declared.steps.HomeAnswers.{HomeAnswers as AnAnsw
 ghost use Rattle.xt_base.specs.declared.steps.Reply.TheVariants.{Life as LifeReply, Okay, Refused};
 ghost use Rattle.xt_base.specs.declared.steps.Request.TheVariants as ARequest;
 ghost use Rattle.xt_base.specs.declared.steps.Step.{Step as AStep};
-ghost use Rattle.xt_cell.specs.Counting.{counted};
 ghost use Rattle.xt_cell.specs.HostSeats.{IsSameSeat, Shows};
-ghost use Rattle.xt_host.specs.Commands.{Did, MayBe};
-ghost use Rattle.xt_host.specs.Calls.{IsReceived, Receives};
+ghost use Rattle.xt_receipts.specs.Calls.{Receives};
 ghost use Rattle.xt_queue.specs.Boards.{Rises};
 ghost use Rattle.xt_queue.specs.Words.{word_of};
 
-use crate::commands::{Command, Outcome};
 use crate::host::Host;
 use std::sync::Wait;
 use xt_base::names::{JobName, Slot, Worker};
@@ -33,36 +30,10 @@ use xt_cell::seat::HostSeat;
 use xt_dev::home::HomeDevice;
 use xt_dev::log::LogDevice;
 use xt_queue::jobs::WorkPass;
+use xt_slots::commands::{Command, Outcome};
+use xt_slots::desk::{Desk, Slots};
 
-impl<H: House> Host<H> {
-    /// Locks the slot of a command, and does it there.
-    pub(crate) fn serve<R: Wait>(&self, rt: &R, seat: &mut HostSeat<H>, command: Command) -> Outcome
-        requires kind { MayBe command }
-        requires board { seat.old.board.board ≡ self.now.board }
-        ensures did { Did command seat.old seat.new result }
-        ensures board { seat.new.board.board ≡ seat.old.board.board }
-    {
-        match command.slot().index() {
-            0 => self.c0.serve(rt, seat, &self.board, command),
-            1 => self.c1.serve(rt, seat, &self.board, command),
-            2 => self.c2.serve(rt, seat, &self.board, command),
-            3 => self.c3.serve(rt, seat, &self.board, command),
-            4 => self.c4.serve(rt, seat, &self.board, command),
-            5 => self.c5.serve(rt, seat, &self.board, command),
-            6 => self.c6.serve(rt, seat, &self.board, command),
-            7 => self.c7.serve(rt, seat, &self.board, command),
-            8 => self.c8.serve(rt, seat, &self.board, command),
-            9 => self.c9.serve(rt, seat, &self.board, command),
-            10 => self.c10.serve(rt, seat, &self.board, command),
-            11 => self.c11.serve(rt, seat, &self.board, command),
-            12 => self.c12.serve(rt, seat, &self.board, command),
-            13 => self.c13.serve(rt, seat, &self.board, command),
-            14 => self.c14.serve(rt, seat, &self.board, command),
-            15 => self.c15.serve(rt, seat, &self.board, command),
-            _ => unreachable!(),
-        }
-    }
-
+impl<H: House, D> Host<H, D> {
     /// Serves a request to a mount, by whatever thread: one event of its slot, and nothing of another's. ENOMEM where memory is refused:
     /// then nothing was booked, and the same request may be tried again. An unmount is no such request.
     pub fn call<R: Wait>(
@@ -72,6 +43,8 @@ impl<H: House> Host<H> {
         at: MountRef,
         request: Request,
     ) -> Reply
+    where
+        D: Desk<H, R>,
         requires board { seat.old.board.board ≡ self.now.board }
         requires kind { is_unmount request ≡ false }
         ensures refused { is_no_memory result ≡ true → IsSameSeat seat.old seat.new }
@@ -82,17 +55,22 @@ impl<H: House> Host<H> {
         ensures board { seat.new.board.board ≡ seat.old.board.board }
         ensures rises { Rises seat.old.board.seen seat.new.board.seen }
     {
-        let command = Command::Call {
-            at,
-            request,
-            waits: false,
-        };
-        match self.serve(rt, seat, command) {
-            Outcome::Called(reply) => reply,
-            _ => unreachable!(),
-        }
+        self.slots.ask(rt, seat, &self.board, at, request, false)
     }
 
+    /// Takes the name at the front of the queue; None only where no name waits. What the name is of is to be done: a checkpoint by
+    /// `begin`, `CkptJob::run` and `end`, a flush by `flush`, each by one worker.
+    pub fn take<R: Wait>(&self, rt: &R, pass: &mut WorkPass) -> Option<JobName>
+        requires queue { pass.old.queue ≡ arc_value self.now.queue }
+        ensures queue { pass.new.queue ≡ pass.old.queue }
+        ensures worker { pass.new.worker ≡ pass.old.worker }
+        ensures taken { MatchOption result (pass.new.taken ≡ pass.old.taken) (λ name. pass.new.taken ≡ pass.old.taken ++ name ∷ []) }
+    {
+        self.queue.take(rt, pass)
+    }
+}
+
+impl<H: House> Host<H, Slots<H>> {
     /// Mounts a slot anew over these devices, and shows the new life on the board. Where it is refused both devices come back: `Busy`
     /// where the slot is in use, `Invalid` and `NoSpace` for a log or a home device of a wrong size; ENOMEM, and then nothing was booked.
     pub fn mount<R: Wait>(
@@ -114,9 +92,10 @@ impl<H: House> Host<H> {
         ensures unshown { OnErr result (seat.new.board ≡ seat.old.board) }
         ensures board { seat.new.board.board ≡ seat.old.board.board }
     {
-        match self.serve(
+        match self.slots.serve(
             rt,
             seat,
+            &self.board,
             Command::Mount {
                 slot,
                 log_bytes,
@@ -144,21 +123,13 @@ impl<H: House> Host<H> {
         ensures received { IfErr result (λ errno. is_no_memory (Refused errno) ≡ false → Receives at.slot (AStep.Call at.slot at.life ARequest.Unmount Answered.None) (Refused errno) seat.old seat.new) }
         ensures board { seat.new.board ≡ seat.old.board }
     {
-        match self.serve(rt, seat, Command::Unmount { at }) {
+        match self
+            .slots
+            .serve(rt, seat, &self.board, Command::Unmount { at })
+        {
             Outcome::Unmounted(result) => result,
             _ => unreachable!(),
         }
-    }
-
-    /// Takes the name at the front of the queue; None only where no name waits. What the name is of is to be done: a checkpoint by
-    /// `begin`, `CkptJob::run` and `end`, a flush by `flush`, each by one worker.
-    pub fn take<R: Wait>(&self, rt: &R, pass: &mut WorkPass) -> Option<JobName>
-        requires queue { pass.old.queue ≡ arc_value self.now.queue }
-        ensures queue { pass.new.queue ≡ pass.old.queue }
-        ensures worker { pass.new.worker ≡ pass.old.worker }
-        ensures taken { MatchOption result (pass.new.taken ≡ pass.old.taken) (λ name. pass.new.taken ≡ pass.old.taken ++ name ∷ []) }
-    {
-        self.queue.take(rt, pass)
     }
 
     /// Begins a checkpoint for a worker, where its name waits in its slot; None where it does not. With the reply comes the job, which has
@@ -178,9 +149,10 @@ impl<H: House> Host<H> {
         ensures named { IfSome result (λ began. IfSome began.1 (λ job. (job.worker ≡ worker) × (job.name ≡ name.now))) }
         ensures board { seat.new.board ≡ seat.old.board }
     {
-        match self.serve(
+        match self.slots.serve(
             rt,
             seat,
+            &self.board,
             Command::Begin {
                 worker,
                 name: *name,
@@ -205,7 +177,10 @@ impl<H: House> Host<H> {
         ensures board { seat.new.board.board ≡ seat.old.board.board }
         ensures rises { Rises seat.old.board.seen seat.new.board.seen }
     {
-        match self.serve(rt, seat, Command::End { done }) {
+        match self
+            .slots
+            .serve(rt, seat, &self.board, Command::End { done })
+        {
             Outcome::Ended(result) => result,
             _ => unreachable!(),
         }
@@ -227,9 +202,10 @@ impl<H: House> Host<H> {
         ensures board { seat.new.board.board ≡ seat.old.board.board }
         ensures rises { Rises seat.old.board.seen seat.new.board.seen }
     {
-        match self.serve(
+        match self.slots.serve(
             rt,
             seat,
+            &self.board,
             Command::Flush {
                 worker,
                 name: *name,

@@ -3,13 +3,10 @@
 ghost use Rattle.std.specs.Prelude.{◌≡◌, IfErr, IfOk, OnOk};
 ghost use Rattle.xt_base.specs.declared.steps.Reply.TheVariants as AReply;
 ghost use Rattle.xt_base.specs.declared.steps.Request.TheVariants as ARequest;
-ghost use Rattle.xt_host.specs.Tokens.{Served, released};
+ghost use Rattle.xt_receipts.specs.Tokens.{Served, released};
 ghost use Rattle.xt_queue.specs.Boards.{Rises};
 
 use crate::host::Host;
-use crate::outcomes::Relse;
-use crate::tokens::Trans;
-use crate::told::{okay, opened, relse, viewed};
 use std::sync::Wait;
 use xt_base::content::{Content, Data};
 use xt_base::names::Block;
@@ -17,8 +14,12 @@ use xt_base::steps::{Errno, Request};
 use xt_cell::house::House;
 use xt_cell::mount_ref::MountRef;
 use xt_cell::seat::HostSeat;
+use xt_receipts::outcomes::Relse;
+use xt_receipts::tokens::Trans;
+use xt_receipts::told::{okay, opened, relse, viewed};
+use xt_slots::desk::Desk;
 
-impl<H: House> Host<H> {
+impl<H: House, D> Host<H, D> {
     /// Opens a transaction: log bytes for a leg, how many legs are reserved at once, 1 to 8, and whether it may roll. EINVAL where these
     /// do not fit together or the log, EIO on a shut mount, EAGAIN on a frozen one, beside 32 open transactions, and where no log space
     /// is left, ENOSPC where the numbers end; ENODEV and ESTALE where that mount is gone; ENOMEM where memory is refused.
@@ -31,6 +32,8 @@ impl<H: House> Host<H> {
         count: u32,
         perm: bool,
     ) -> Result<Trans, Errno>
+    where
+        D: Desk<H, R>,
         requires board { seat.old.board.board ≡ self.now.board }
         ensures at { IfOk result (λ trans. trans.at ≡ at) }
         ensures opened { IfOk result (λ trans. Served at (ARequest.Alloc unit count perm) (AReply.Trans trans.number) seat.old seat.new) }
@@ -52,6 +55,8 @@ impl<H: House> Host<H> {
         trans: &mut Trans,
         block: Block,
     ) -> Result<(), Errno>
+    where
+        D: Desk<H, R>,
         requires board { seat.old.board.board ≡ self.now.board }
         ensures trans { trans.new ≡ trans.old }
         ensures locked { OnOk result (Served trans.old.at (ARequest.Get trans.old.number block) AReply.Okay seat.old seat.new) }
@@ -60,10 +65,10 @@ impl<H: House> Host<H> {
         ensures rises { Rises seat.old.board.seen seat.new.board.seen }
     {
         let request = Request::Get {
-            trans: trans.number,
+            trans: trans.number(),
             block,
         };
-        okay(self.ask(rt, seat, trans.at, request))
+        okay(self.ask(rt, seat, trans.at(), request))
     }
 
     /// Locks a block for the transaction with its content, which the home device is asked for where the block is not resident. EINVAL
@@ -76,6 +81,8 @@ impl<H: House> Host<H> {
         trans: &mut Trans,
         block: Block,
     ) -> Result<(), Errno>
+    where
+        D: Desk<H, R>,
         requires board { seat.old.board.board ≡ self.now.board }
         ensures trans { trans.new ≡ trans.old }
         ensures locked { OnOk result (Served trans.old.at (ARequest.Read trans.old.number block) AReply.Okay seat.old seat.new) }
@@ -84,10 +91,10 @@ impl<H: House> Host<H> {
         ensures rises { Rises seat.old.board.seen seat.new.board.seen }
     {
         let request = Request::Read {
-            trans: trans.number,
+            trans: trans.number(),
             block,
         };
-        okay(self.ask(rt, seat, trans.at, request))
+        okay(self.ask(rt, seat, trans.at(), request))
     }
 
     /// What the transaction sees of a block that it has. EINVAL where it does not have it.
@@ -98,6 +105,8 @@ impl<H: House> Host<H> {
         trans: &mut Trans,
         block: Block,
     ) -> Result<Content, Errno>
+    where
+        D: Desk<H, R>,
         requires board { seat.old.board.board ≡ self.now.board }
         ensures trans { trans.new ≡ trans.old }
         ensures viewed { IfOk result (λ content. Served trans.old.at (ARequest.View trans.old.number block) (AReply.Data content) seat.old seat.new) }
@@ -106,10 +115,10 @@ impl<H: House> Host<H> {
         ensures rises { Rises seat.old.board.seen seat.new.board.seen }
     {
         let request = Request::View {
-            trans: trans.number,
+            trans: trans.number(),
             block,
         };
-        viewed(self.ask(rt, seat, trans.at, request))
+        viewed(self.ask(rt, seat, trans.at(), request))
     }
 
     /// Writes bytes of a block from `first` on. EINVAL for a block that the transaction does not have, no bytes or bytes past the end of
@@ -123,6 +132,8 @@ impl<H: House> Host<H> {
         first: u32,
         bytes: Data,
     ) -> Result<(), Errno>
+    where
+        D: Desk<H, R>,
         requires board { seat.old.board.board ≡ self.now.board }
         ensures trans { trans.new ≡ trans.old }
         ensures logged { OnOk result (Served trans.old.at (ARequest.Log first trans.old.number block bytes) AReply.Okay seat.old seat.new) }
@@ -132,11 +143,11 @@ impl<H: House> Host<H> {
     {
         let request = Request::Log {
             first,
-            trans: trans.number,
+            trans: trans.number(),
             block,
             bytes,
         };
-        okay(self.ask(rt, seat, trans.at, request))
+        okay(self.ask(rt, seat, trans.at(), request))
     }
 
     /// Marks a block to stay locked when the leg ends. EINVAL for a block that the transaction does not have, or gave up for good.
@@ -147,6 +158,8 @@ impl<H: House> Host<H> {
         trans: &mut Trans,
         block: Block,
     ) -> Result<(), Errno>
+    where
+        D: Desk<H, R>,
         requires board { seat.old.board.board ≡ self.now.board }
         ensures trans { trans.new ≡ trans.old }
         ensures marked { OnOk result (Served trans.old.at (ARequest.Hold trans.old.number block) AReply.Okay seat.old seat.new) }
@@ -155,10 +168,10 @@ impl<H: House> Host<H> {
         ensures rises { Rises seat.old.board.seen seat.new.board.seen }
     {
         let request = Request::Hold {
-            trans: trans.number,
+            trans: trans.number(),
             block,
         };
-        okay(self.ask(rt, seat, trans.at, request))
+        okay(self.ask(rt, seat, trans.at(), request))
     }
 
     /// Takes that mark away. EINVAL where there is none.
@@ -169,6 +182,8 @@ impl<H: House> Host<H> {
         trans: &mut Trans,
         block: Block,
     ) -> Result<(), Errno>
+    where
+        D: Desk<H, R>,
         requires board { seat.old.board.board ≡ self.now.board }
         ensures trans { trans.new ≡ trans.old }
         ensures unmarked { OnOk result (Served trans.old.at (ARequest.Unhold trans.old.number block) AReply.Okay seat.old seat.new) }
@@ -177,10 +192,10 @@ impl<H: House> Host<H> {
         ensures rises { Rises seat.old.board.seen seat.new.board.seen }
     {
         let request = Request::Unhold {
-            trans: trans.number,
+            trans: trans.number(),
             block,
         };
-        okay(self.ask(rt, seat, trans.at, request))
+        okay(self.ask(rt, seat, trans.at(), request))
     }
 
     /// Gives back one lock of a block. EINVAL for a block that the transaction does not have.
@@ -191,6 +206,8 @@ impl<H: House> Host<H> {
         trans: &mut Trans,
         block: Block,
     ) -> Result<Relse, Errno>
+    where
+        D: Desk<H, R>,
         requires board { seat.old.board.board ≡ self.now.board }
         ensures trans { trans.new ≡ trans.old }
         ensures released { IfOk result (λ what. Served trans.old.at (ARequest.Relse trans.old.number block) (released what) seat.old seat.new) }
@@ -199,10 +216,10 @@ impl<H: House> Host<H> {
         ensures rises { Rises seat.old.board.seen seat.new.board.seen }
     {
         let request = Request::Relse {
-            trans: trans.number,
+            trans: trans.number(),
             block,
         };
-        relse(self.ask(rt, seat, trans.at, request))
+        relse(self.ask(rt, seat, trans.at(), request))
     }
 
     /// Gives a block up for good: it stays locked until a checkpoint that says so has landed. EINVAL for a block that the transaction
@@ -214,6 +231,8 @@ impl<H: House> Host<H> {
         trans: &mut Trans,
         block: Block,
     ) -> Result<(), Errno>
+    where
+        D: Desk<H, R>,
         requires board { seat.old.board.board ≡ self.now.board }
         ensures trans { trans.new ≡ trans.old }
         ensures gone { OnOk result (Served trans.old.at (ARequest.Inval trans.old.number block) AReply.Okay seat.old seat.new) }
@@ -222,9 +241,9 @@ impl<H: House> Host<H> {
         ensures rises { Rises seat.old.board.seen seat.new.board.seen }
     {
         let request = Request::Inval {
-            trans: trans.number,
+            trans: trans.number(),
             block,
         };
-        okay(self.ask(rt, seat, trans.at, request))
+        okay(self.ask(rt, seat, trans.at(), request))
     }
 }

@@ -9,17 +9,18 @@ ghost use Rattle.xt_queue.specs.Boards.{Rises};
 
 use crate::attempt::Attempt;
 use crate::host::Host;
-use crate::outcomes::{Forced, LegFault, RollFault};
-use crate::tokens::{HeldList, Trans};
-use crate::told::{ended, force, okay, opened};
 use std::sync::Wait;
 use xt_base::names::{Block, CkptNo};
 use xt_base::steps::Errno;
 use xt_cell::house::House;
 use xt_cell::mount_ref::MountRef;
 use xt_cell::seat::HostSeat;
+use xt_receipts::outcomes::{Forced, RollFault};
+use xt_receipts::tokens::{HeldList, Trans};
+use xt_receipts::told::{LegFault, ended, force, okay, opened};
+use xt_slots::desk::Desk;
 
-impl<H: House> Host<H> {
+impl<H: House, D> Host<H, D> {
     /// Opens a transaction, as `begin_trans`, and waits where that answers EAGAIN: while the mount is frozen, beside 32 open
     /// transactions, and until there is log space. Each try is a call of its own, with its receipt. Any other refusal ends it, ENOMEM too.
     pub fn begin_trans_wait<R: Wait>(
@@ -31,6 +32,8 @@ impl<H: House> Host<H> {
         count: u32,
         perm: bool,
     ) -> Result<Trans, Errno>
+    where
+        D: Desk<H, R>,
         requires board { seat.old.board.board ≡ self.now.board }
         ensures at { IfOk result (λ trans. trans.at ≡ at) }
         ensures opened { IfOk result (λ trans. AtLast at (ARequest.Alloc unit count perm) (AReply.Trans trans.number) seat.old seat.new) }
@@ -52,6 +55,8 @@ impl<H: House> Host<H> {
         trans: &mut Trans,
         block: Block,
     ) -> Result<(), Errno>
+    where
+        D: Desk<H, R>,
         requires board { seat.old.board.board ≡ self.now.board }
         ensures trans { trans.new ≡ trans.old }
         ensures locked { OnOk result (AtLast trans.old.at (ARequest.Get trans.old.number block) AReply.Okay seat.old seat.new) }
@@ -60,10 +65,10 @@ impl<H: House> Host<H> {
         ensures rises { Rises seat.old.board.seen seat.new.board.seen }
     {
         let attempt = Attempt::Get {
-            trans: trans.number,
+            trans: trans.number(),
             block,
         };
-        okay(self.ask_wait(rt, seat, &trans.at, &attempt))
+        okay(self.ask_wait(rt, seat, &trans.at(), &attempt))
     }
 
     /// Locks a block for the transaction with its content, as `read`, and waits while it is locked elsewhere. Each try is a call of its
@@ -75,6 +80,8 @@ impl<H: House> Host<H> {
         trans: &mut Trans,
         block: Block,
     ) -> Result<(), Errno>
+    where
+        D: Desk<H, R>,
         requires board { seat.old.board.board ≡ self.now.board }
         ensures trans { trans.new ≡ trans.old }
         ensures locked { OnOk result (AtLast trans.old.at (ARequest.Read trans.old.number block) AReply.Okay seat.old seat.new) }
@@ -83,10 +90,10 @@ impl<H: House> Host<H> {
         ensures rises { Rises seat.old.board.seen seat.new.board.seen }
     {
         let attempt = Attempt::Read {
-            trans: trans.number,
+            trans: trans.number(),
             block,
         };
-        okay(self.ask_wait(rt, seat, &trans.at, &attempt))
+        okay(self.ask_wait(rt, seat, &trans.at(), &attempt))
     }
 
     /// Commits the leg and goes on with a clean one, as `roll`, and waits where its last leg finds no log space for another. Each try is
@@ -97,6 +104,8 @@ impl<H: House> Host<H> {
         seat: &mut HostSeat<H>,
         trans: Trans,
     ) -> Result<(CkptNo, HeldList, Trans), RollFault>
+    where
+        D: Desk<H, R>,
         requires board { seat.old.board.board ≡ self.now.board }
         ensures at { IfOk result (λ done. done.1.at ≡ trans.at) }
         ensures trans { IfOk result (λ done. done.2 ≡ trans) }
@@ -106,9 +115,9 @@ impl<H: House> Host<H> {
         ensures rises { Rises seat.old.board.seen seat.new.board.seen }
     {
         let attempt = Attempt::Roll {
-            trans: trans.number,
+            trans: trans.number(),
         };
-        match ended(trans.at, self.ask_wait(rt, seat, &trans.at, &attempt)) {
+        match ended(trans.at(), self.ask_wait(rt, seat, &trans.at(), &attempt)) {
             Ok((number, held)) => Ok((number, held, trans)),
             Err(LegFault::Aborted(held)) => Err(RollFault::Aborted(trans, held)),
             Err(LegFault::Refused(errno)) => Err(RollFault::Back(trans, errno)),
@@ -124,6 +133,8 @@ impl<H: House> Host<H> {
         at: MountRef,
         number: CkptNo,
     ) -> Result<(), Errno>
+    where
+        D: Desk<H, R>,
         requires board { seat.old.board.board ≡ self.now.board }
         ensures done { OnOk result (AtLast at (ARequest.ForceTo number) AReply.Done seat.old seat.new) }
         ensures refused { IfErr result (λ errno. AtLast at (ARequest.ForceTo number) (AReply.Refused errno) seat.old seat.new) }

@@ -20,8 +20,9 @@ use xt_cell::job::{CkptJob, DoneJob};
 use xt_cell::running::EndFault;
 use xt_cell::seat::HostSeat;
 use xt_queue::jobs::WorkPass;
+use xt_slots::desk::Slots;
 
-impl<H: House> Host<H> {
+impl<H: House> Host<H, Slots<H>> {
     /// Takes names and does each of them to its end, until the gate does not go on, which it is asked each time no name waits. A
     /// checkpoint is begun and ended under its slot's lock, and run under none. A name that no longer waits in its slot is left. Where
     /// memory is refused the same is tried again. None, unless the end of a job finds another flight, or none: then that job comes back.

@@ -1,10 +1,10 @@
 -- Each kind of step keeps the rule of the board.
-use Rattle.std.proofs.Common.{arith, ap, length, max, refl, replicate, set, subst, suc, sym, zero, List, [], inl, inr, ⊎_elim, ℕ, ◌++◌, ◌<◌, ◌∙◌, ◌≡◌, ◌≢◌, ◌≤◌, ◌∷◌}
+use Rattle.std.proofs.Common.{arith, ap, length, max, refl, replicate, set, subst, suc, sym, zero, List, [], inl, inr, ⊎_elim, ℕ, ◌+◌, ◌<◌, ◌∙◌, ◌≡◌, ◌≢◌, ◌≤◌, ◌∷◌}
 use Rattle.std.proofs.lemmas.List.{get_or-set_other, get_or-set_same, length-set}
-use Rattle.atomic_table.proofs.Lists.{at_longer, at_set, at_snoc, set_again, set_else, set_here}
+use Rattle.atomic_table.proofs.Lists.{at_longer, at_set, at_snoc, set_else, set_here}
 use Rattle.atomic_table.specs.Table.{Act, Allows, Me, Splits, State}
 use Rattle.std.specs.Prelude.{slice_index}
-use Rattle.xt_queue.specs.Boards.{BoardRule, Fits, Peeks, Rises, Shows, WasShown, blank_words, board_view, with_seen, with_shown}
+use Rattle.xt_queue.specs.Boards.{BoardRule, Fits, Peeks, Rises, Shows, WasShown, blank_words, board_view, with_seen, with_shown, with_split}
 use Rattle.xt_queue.specs.Words.{IsWord}
 use Rattle.xt_queue.specs.declared.views.BoardView.{BoardView}
 use lib.ListN.{get_elem?}
@@ -160,10 +160,28 @@ blank_low zero j = refl
 blank_low (suc count) zero = refl
 blank_low (suc count) (suc j) = blank_low count j
 
+-- a split leaves what the seat showed and saw
+split_kept : (words : List ℕ) (views : List BoardView) (id : ℕ) (v : BoardView) → get_elem? views id ≡ some v → BoardRule words views → BoardRule words (set views id (with_split v))
+split_kept words views id v at rule =
+    let w : BoardView = with_split v in
+    let old = rule.fits id v at in
+    let fits : Fits words w = record { shown_count = old.shown_count; seen_count = old.seen_count; shown_seen = old.shown_seen; seen_word = old.seen_word } in
+    record {
+      count = rule.count;
+      fits = λ k u there. ⊎_elim
+          (λ (x : (k ≡ id) × (w ≡ u)). subst (Fits words) x.1 fits)
+          (λ (x : (k ≢ id) × (get_elem? views k ≡ some u)). rule.fits k u x.1)
+          (at_set views id k w u there);
+      formed = rule.formed;
+      was_shown = λ j. still_shown words words views id j v w at refl (λ e. e) (rule.was_shown j);
+    }
+
 -- a new seat that showed nothing keeps the rule
-pub splits : (id : ℕ) (v : BoardView) → Splits Holds id v v (board_view blank_words v.seen)
+pub splits : (id : ℕ) (v : BoardView) → Splits Holds id v (with_split v) (board_view blank_words v.seen 0 (v.rank + 1))
 splits id v s rule at =
-    let r : BoardView = board_view blank_words v.seen in
+    let r : BoardView = board_view blank_words v.seen 0 (v.rank + 1) in
+    let views : List BoardView = set s.views id (with_split v) in
+    let kept : BoardRule s.words views = split_kept s.words s.views id v at rule in
     let old = rule.fits id v at in
     let fits : Fits s.words r = record {
       shown_count = refl;
@@ -171,12 +189,12 @@ splits id v s rule at =
       shown_seen = λ j. (let none = blank_low 16 j in omega arith);
       seen_word = old.seen_word;
     } in
-    subst (λ views. BoardRule s.words (views ++ r ∷ [])) (sym (set_again s.views id v at)) (record {
-      count = rule.count;
-      fits = λ k u there. ⊎_elim (λ (x : get_elem? s.views k ≡ some u). rule.fits k u x) (λ (x : r ≡ u). subst (Fits s.words) x fits) (at_snoc s.views r u k there);
-      formed = rule.formed;
+    record {
+      count = kept.count;
+      fits = λ k u there. ⊎_elim (λ (x : get_elem? views k ≡ some u). kept.fits k u x) (λ (x : r ≡ u). subst (Fits s.words) x fits) (at_snoc views r u k there);
+      formed = kept.formed;
       was_shown = λ j. ⊎_elim
           (λ (none : slice_index s.words j ≡ 0). inl none)
-          (λ (by : (place : ℕ) × (u : BoardView) × (get_elem? s.views place ≡ some u) × (slice_index u.shown j ≡ slice_index s.words j)). inr (by.0, by.1, at_longer s.views (r ∷ []) by.0 by.1 by.2, by.3))
-          (rule.was_shown j);
-    })
+          (λ (by : (place : ℕ) × (u : BoardView) × (get_elem? views place ≡ some u) × (slice_index u.shown j ≡ slice_index s.words j)). inr (by.0, by.1, at_longer views (r ∷ []) by.0 by.1 by.2, by.3))
+          (kept.was_shown j);
+    }

@@ -1,5 +1,4 @@
 pub mod NameLemmas
 pub mod RuleLemmas
 pub mod BoardLemmas
-pub mod PassLemmas
 pub mod LawLemmas

@@ -1,5 +1,5 @@
 -- The rule of the board, over its words and what each seat has shown and seen, and its kinds of step.
-use Rattle.std.specs.Prelude.{List, length, max, replicate, slice_index, slice_set, ℕ, ◌≡◌, ◌≤◌, ◌⊎◌}
+use Rattle.std.specs.Prelude.{List, length, max, replicate, slice_index, slice_set, ℕ, ◌+◌, ◌≡◌, ◌≤◌, ◌⊎◌}
 use Rattle.xt_base.specs.declared.sizes.TheConstants.{SLOTS}
 use Rattle.xt_queue.specs.Words.{IsWord}
 use Rattle.xt_queue.specs.declared.views.BoardView.{BoardView}
@@ -10,13 +10,13 @@ use mathlib.Core.Option.{some}
 abbrev pub blank_words : List ℕ
 blank_words = replicate SLOTS 0
 
--- the view of a seat that showed and saw these words
-abbrev pub board_view : List ℕ → List ℕ → BoardView
-board_view shown seen = record { shown = shown; seen = seen }
+-- the view of a seat that showed and saw these words, off which so many were split, so many splits from the first
+abbrev pub board_view : List ℕ → List ℕ → ℕ → ℕ → BoardView
+board_view shown seen splits rank = record { shown = shown; seen = seen; splits = splits; rank = rank }
 
 -- the view of the first seat
 abbrev pub blank : BoardView
-blank = board_view blank_words blank_words
+blank = board_view blank_words blank_words 0 0
 
 -- no number of a list went down
 abbrev pub Rises : List ℕ → List ℕ → Type 0
@@ -57,11 +57,15 @@ pub record BoardStep (slot found new : ℕ) (v w : BoardView) : Type 0 where
 
 -- the view after a word was found at a slot
 abbrev pub with_seen : BoardView → ℕ → ℕ → BoardView
-with_seen v slot word = board_view v.shown (slice_set v.seen slot word)
+with_seen v slot word = board_view v.shown (slice_set v.seen slot word) v.splits v.rank
 
 -- the view after a word was shown at a slot where another, or the same, was found
 abbrev pub with_shown : BoardView → ℕ → ℕ → ℕ → BoardView
-with_shown v slot word found = board_view (slice_set v.shown slot (max (slice_index v.shown slot) word)) (slice_set v.seen slot (max found word))
+with_shown v slot word found = board_view (slice_set v.shown slot (max (slice_index v.shown slot) word)) (slice_set v.seen slot (max found word)) v.splits v.rank
+
+-- the view after one more seat was split off
+abbrev pub with_split : BoardView → BoardView
+with_split v = board_view v.shown v.seen (v.splits + 1) v.rank
 
 -- a look: the word found is at least what the seat had seen, becomes what it has seen, and stays
 abbrev pub Peeks : BoardView → ℕ → ℕ → BoardView → Type 0

@@ -6,8 +6,6 @@ pub mod board;
 pub mod jobs;
 pub mod laws;
 mod rule;
-#[cfg(test)]
-mod tests;
 mod views;
 mod words;
 

@@ -93,9 +93,10 @@ impl Play<(), BoardView> for Show {
 pub struct Beside;
 
 impl Split<BoardView> for Beside {
-    ghost use Rattle.xt_queue.specs.Boards.{blank_words, board_view};
+    ghost use Rattle.std.specs.Prelude.{◌+◌};
+    ghost use Rattle.xt_queue.specs.Boards.{blank_words, board_view, with_split};
 
-    ghost left = { λ v. v };
+    ghost left = { with_split };
 
-    ghost right = { λ v. board_view blank_words v.seen };
+    ghost right = { λ v. board_view blank_words v.seen 0 (v.rank + 1) };
 }

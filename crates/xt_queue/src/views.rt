@@ -19,4 +19,8 @@ pub struct BoardView {
     pub shown: LinkedList<u64>,
     /// The word that the seat last saw of each slot, its own shows counted; 0 before the first.
     pub seen: LinkedList<u64>,
+    /// How many seats were split off it.
+    pub splits: u64,
+    /// How many splits it is from the board's first seat: 0 for that one alone.
+    pub rank: u64,
 }

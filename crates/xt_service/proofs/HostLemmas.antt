@@ -44,6 +44,8 @@ receives_forgotten slot step reply old mid new f r = record {
   receipts = r.receipts ∙ ap (λ rs. rs ++ receipt slot r.number step reply ∷ []) f.receipts;
   counts = r.counts ∙ ap (counted slot) f.counts;
   caller = r.caller ∙ f.caller;
+  splits = r.splits ∙ ap (λ b. b.splits) f.board;
+  rank = r.rank ∙ ap (λ b. b.rank) f.board;
 }
 
 -- a device answered only where the request is a read

@@ -7,6 +7,9 @@ pub mod HostCrossing
 pub mod HostLemmas
 pub mod IntakeLemmas
 pub mod Loops
+pub mod SeatLemmas
 pub mod SessionMaps
+pub mod SplitLemmas
 pub mod StreamLemmas
 pub mod TableLemmas
+pub mod UnmountLemmas

@@ -1,5 +1,6 @@
 -- What holds of each seat and of each session of a table.
-use Rattle.std.proofs.Common.{rules, ap, subst, sym, IfSome, None, Some, ℕ, ◌∙◌}
+use Rattle.std.proofs.Common.{rules, ap, option_to_list, subst, sym, All, IfSome, List, None, Option, Some, ℕ, ◌++◌, ◌≡◌, ◌∙◌}
+use Rattle.std.proofs.lemmas.List.Elements.{All-pop}
 use Rattle.std.specs.Option.{ForSome}
 use Rattle.slab.specs.Slab.{get, Slab, Updates}
 use mathlib.Core.Logic.{dite}
@@ -17,3 +18,7 @@ module _ {T : Type 0} (P : T → Type 0) where
   placed old new key x change fits all k = dite (ℕ_discrete k key)
       (λ same y is. subst (λ slot. IfSome slot P) (sym change.changed ∙ ap (λ j. get new j) (sym same) ∙ is) fits)
       (λ apart y is. all k y (sym (change.others k apart) ∙ is))
+
+  -- the last one taken out of a list
+  pub popped : (xs ys : List T) (r : Option T) (x : T) → xs ≡ ys ++ option_to_list r → r ≡ Some x → All P xs → All P ys × P x
+  popped xs ys r x parts is all = let h = All-pop P xs ys r parts all in (h.0, subst (λ o. IfSome o P) is h.1)

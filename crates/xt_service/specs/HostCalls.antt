@@ -38,7 +38,7 @@ pub record IsTold (at : MountRef) (request : Request) (reply : Reply) (old new :
   pub board : new.board.board ≡ old.board.board
   pub shut : request ≡ Shutdown → reply ≡ Okay → word_of at.life None < slice_index new.board.seen at.slot
 
--- what a seat sees of a slot was told; its counts and its receipts stand
+-- what a seat sees of a slot was told; its counts and its receipts stand, no seat was split off it, and its rank stays
 pub record IsShown (slot : ℕ) (reply : Reply) (old new : HostSeatView) : Type 0 where
   pub life : ℕ
   pub reason : Option Reason
@@ -50,6 +50,8 @@ pub record IsShown (slot : ℕ) (reply : Reply) (old new : HostSeatView) : Type 
   pub counts : new.counts ≡ old.counts
   pub receipts : new.receipts ≡ old.receipts
   pub caller : new.caller ≡ old.caller
+  pub splits : new.board.splits ≡ old.board.splits
+  pub rank : new.board.rank ≡ old.board.rank
 
 -- ---- one line
 -- the host was asked, and the names changed by what it told

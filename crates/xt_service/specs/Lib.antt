@@ -4,5 +4,6 @@ pub mod HostCalls
 pub mod HostSession
 pub mod Intake
 pub mod Names
+pub mod Seats
 pub mod Session
 pub mod Turns

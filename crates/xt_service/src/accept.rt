@@ -12,6 +12,7 @@ use std::net::{TcpListener, TcpStream};
 use std::sync::{Arc, Wait};
 use std::thread::Threads;
 use xt_cell::house::House;
+use xt_host::desk::Desk;
 use xt_host::host::Host;
 
 /// The next stream of a listener. A client that went away before it was accepted is passed over.
@@ -27,10 +28,14 @@ fn next_stream(listener: &TcpListener) -> io::Result<TcpStream> {
 
 /// Serves so many sessions of a host, each in a thread of its own; while all places of the table are taken it accepts no stream. It
 /// returns when the last has begun. An error is one of accepting; then no more sessions are served, and those that run go on to their ends.
-pub fn accept_sessions<H: House + Send + Sync + 'static, R: Threads + Wait + Copy + Send + 'static>(
+pub fn accept_sessions<
+    H: House + Send + Sync + 'static,
+    D: Desk<H, R> + Drop + Send + Sync + 'static,
+    R: Threads + Wait + Copy + Send + 'static,
+>(
     rt: R,
     alloc: Global,
-    host: &Arc<Host<H>, Global>,
+    host: &Arc<Host<H, D>, Global>,
     listener: &TcpListener,
     table: &mut Table<H>,
     count: u32,

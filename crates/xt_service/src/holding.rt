@@ -20,6 +20,7 @@ use xt_base::steps::{Errno, Reply, Request};
 use xt_cell::house::House;
 use xt_cell::mount_ref::MountRef;
 use xt_cell::seat::HostSeat;
+use xt_host::desk::Desk;
 use xt_host::host::Host;
 
 /// What one session has: its seat at the host, and the names of its transactions and of its held buffers, ascending.
@@ -60,9 +61,9 @@ fn has_named(names: &[Name], at: &MountRef, number: Option<u64>) -> bool
 
 /// Asks the host by a seat that forgets its earlier receipts.
 #[tactic(auto, using(crate::proofs::HostLemmas::told_of))]
-fn ask<H: House, T: Wait>(
+fn ask<H: House, D: Desk<H, T>, T: Wait>(
     rt: &T,
-    host: &Host<H>,
+    host: &Host<H, D>,
     seat: &mut HostSeat<H>,
     at: MountRef,
     request: Request,
@@ -106,7 +107,13 @@ impl<H: House> Holding<H> {
 
     /// Asks the host, with room for the names that the reply may bring, and changes the names by the reply. ENOMEM where there is no
     /// such room, and then the host is not asked.
-    fn ask<T: Wait>(&mut self, rt: &T, host: &Host<H>, at: &MountRef, request: Request) -> Reply
+    fn ask<D: Desk<H, T>, T: Wait>(
+        &mut self,
+        rt: &T,
+        host: &Host<H, D>,
+        at: &MountRef,
+        request: Request,
+    ) -> Reply
         requires board { self.old.seat.board.board ≡ host.now.board }
         requires kind { is_unmount request ≡ false }
         ensures asked { IsAsked at.now request result self.old self.new }
@@ -127,10 +134,10 @@ impl<H: House> Holding<H> {
     }
 
     /// Answers a request: EINVAL where it names what the session does not hold.
-    pub(crate) fn serve<T: Wait>(
+    pub(crate) fn serve<D: Desk<H, T>, T: Wait>(
         &mut self,
         rt: &T,
-        host: &Host<H>,
+        host: &Host<H, D>,
         at: &MountRef,
         request: Request,
     ) -> Reply
@@ -147,7 +154,7 @@ impl<H: House> Holding<H> {
     }
 
     /// What its seat sees of a slot.
-    pub(crate) fn peek(&mut self, host: &Host<H>, slot: Slot) -> Reply
+    pub(crate) fn peek<D>(&mut self, host: &Host<H, D>, slot: Slot) -> Reply
         requires board { self.old.seat.board.board ≡ host.now.board }
         ensures { IsPeeked slot result self.old self.new }
     {
@@ -175,7 +182,7 @@ impl<H: House> Holding<H> {
 
     /// Gives all back: its transactions are cancelled, ascending, and then its held buffers are released, ascending. What finds no memory
     /// is tried again.
-    pub(crate) fn give_back<T: Wait>(&mut self, rt: &T, host: &Host<H>)
+    pub(crate) fn give_back<D: Desk<H, T>, T: Wait>(&mut self, rt: &T, host: &Host<H, D>)
         requires board { self.old.seat.board.board ≡ host.now.board }
         ensures ends { Ends self.old self.new }
         ensures board { self.new.seat.board.board ≡ self.old.seat.board.board }

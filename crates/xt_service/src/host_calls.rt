@@ -12,22 +12,23 @@ use xt_base::steps::{Reply, Request, Step};
 use xt_cell::house::House;
 use xt_cell::mount_ref::MountRef;
 use xt_cell::seat::HostSeat;
+use xt_host::desk::{Desk, Slots};
 use xt_host::host::Host;
 use xt_text::line::Line;
 
 /// What answers the lines of one session over a host that others use too: it has a seat of its own, and the names of the
 /// transactions and of the held buffers that are the session's.
 #[derive(Drop)]
-pub struct HostCalls<'a, H: House, T: Wait> {
+pub struct HostCalls<'a, H: House, T: Wait, D = Slots<H>> {
     rt: &'a T,
-    host: &'a Host<H>,
+    host: &'a Host<H, D>,
     holding: Holding<H>,
     ghost tied: { holding.seat.board.board ≡ host.now.board },
 }
 
-impl<'a, H: House, T: Wait> HostCalls<'a, H, T> {
+impl<'a, H: House, T: Wait, D: Desk<H, T>> HostCalls<'a, H, T, D> {
     /// A session that holds nothing. It takes no memory. The seat is its own from here on.
-    pub fn new(rt: &'a T, alloc: Global, host: &'a Host<H>, seat: HostSeat<H>) -> Self
+    pub fn new(rt: &'a T, alloc: Global, host: &'a Host<H, D>, seat: HostSeat<H>) -> Self
         requires board { seat.board.board ≡ host.now.board }
         ensures seat { result.holding.seat ≡ seat }
         ensures trans { result.holding.trans ≡ [] }
@@ -57,7 +58,7 @@ impl<'a, H: House, T: Wait> HostCalls<'a, H, T> {
     }
 }
 
-impl<'a, H: House, T: Wait> Calls for HostCalls<'a, H, T> {
+impl<'a, H: House, T: Wait, D: Desk<H, T>> Calls for HostCalls<'a, H, T, D> {
     ghost answers = { λ old line reply new. Answers old.holding line reply new.holding };
 
     ghost ends = { λ old new. Ends old.holding new.holding };

@@ -2,6 +2,7 @@
 
 ghost use Rattle.std.specs.Prelude.{◌≡◌};
 ghost use Rattle.xt_service.specs.HostSession.{IsHostSession};
+ghost use Rattle.xt_service.specs.Seats.{IsUsed};
 
 use crate::host_calls::HostCalls;
 use crate::session::session;
@@ -11,20 +12,22 @@ use std::io::{Read, Write};
 use std::sync::Wait;
 use xt_cell::house::House;
 use xt_cell::seat::HostSeat;
+use xt_host::desk::Desk;
 use xt_host::host::Host;
 
 /// Serves one session over a host, from its first line to its end: how it ended, and its seat, which holds nothing and may serve
 /// another session, or be handed to the end of the host.
-pub fn host_session<H: House, T: Wait, R: Read, W: Write>(
+pub fn host_session<H: House, D: Desk<H, T>, T: Wait, R: Read, W: Write>(
     rt: &T,
     alloc: Global,
-    host: &Host<H>,
+    host: &Host<H, D>,
     seat: HostSeat<H>,
     reader: &mut R,
     writer: &mut W,
 ) -> (HostSeat<H>, SessionEnd)
     requires board { seat.board.board ≡ host.now.board }
     ensures session { IsHostSession seat result.0 (R.remaining reader.old) (R.remaining reader.new) (W.contents writer.old) (W.contents writer.new) result.1 }
+    ensures used { IsUsed seat result.0 }
     ensures board { result.0.board.board ≡ host.now.board }
 {
     let mut calls = HostCalls::new(rt, alloc, host, seat);

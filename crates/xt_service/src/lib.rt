@@ -19,3 +19,11 @@ pub mod service;
 pub mod session;
 pub mod session_end;
 pub mod table;
+pub mod workplace;
+
+pub use calls::Calls;
+pub use host_calls::HostCalls;
+pub use service::{Service, ServiceEnd};
+pub use session::SESSION_BYTES;
+pub use session_end::SessionEnd;
+pub use workplace::Workplace;

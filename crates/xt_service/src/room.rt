@@ -41,13 +41,20 @@ impl<H: House> Room<H> {
 }
 
 /// Puts seats of a host among others, in room that was made before.
-pub fn put_seats<H: House>(host: &Host<H>, seats: &mut Vec<HostSeat<H>>, more: Vec<HostSeat<H>>)
+pub fn put_seats<H: House, D>(
+    host: &Host<H, D>,
+    seats: &mut Vec<HostSeat<H>>,
+    more: Vec<HostSeat<H>>,
+)
     requires room { vec_len seats.old + vec_len more ≤ vec_capacity seats.old }
     requires boards { All (λ seat. seat.board.board ≡ host.now.board) seats.old.items }
     requires more_boards { All (λ seat. seat.board.board ≡ host.now.board) more.items }
+    requires unsplit { All (λ seat. seat.board.splits ≡ 0) seats.old.items }
+    requires more_unsplit { All (λ seat. seat.board.splits ≡ 0) more.items }
     ensures len { vec_len seats.new ≡ vec_len seats.old + vec_len more }
     ensures capacity { vec_capacity seats.old ≤ vec_capacity seats.new }
     ensures boards { All (λ seat. seat.board.board ≡ host.now.board) seats.new.items }
+    ensures unsplit { All (λ seat. seat.board.splits ≡ 0) seats.new.items }
 {
     let _ = host;
     let mut more = more;
@@ -58,8 +65,8 @@ pub fn put_seats<H: House>(host: &Host<H>, seats: &mut Vec<HostSeat<H>>, more: V
 }
 
 /// Puts the seats and passes of benches of a host among others, in room that was made before.
-pub fn put_benches<H: House>(
-    host: &Host<H>,
+pub fn put_benches<H: House, D>(
+    host: &Host<H, D>,
     seats: &mut Vec<HostSeat<H>>,
     passes: &mut Vec<WorkPass>,
     benches: Vec<Bench<H>>,
@@ -69,10 +76,14 @@ pub fn put_benches<H: House>(
     requires boards { All (λ seat. seat.board.board ≡ host.now.board) seats.old.items }
     requires queues { All (λ pass. pass.queue ≡ arc_value host.now.queue) passes.old.items }
     requires benches { All (λ bench. (bench.seat.board.board ≡ host.now.board) × (bench.pass.queue ≡ arc_value host.now.queue)) benches.items }
+    requires unsplit { All (λ seat. seat.board.splits ≡ 0) seats.old.items }
+    requires benches_unsplit { All (λ bench. bench.seat.board.splits ≡ 0) benches.items }
     ensures seats { vec_len seats.new ≡ vec_len seats.old + vec_len benches }
     ensures passes { vec_len passes.new ≡ vec_len passes.old + vec_len benches }
     ensures boards { All (λ seat. seat.board.board ≡ host.now.board) seats.new.items }
     ensures queues { All (λ pass. pass.queue ≡ arc_value host.now.queue) passes.new.items }
+    ensures unsplit { All (λ seat. seat.board.splits ≡ 0) seats.new.items }
+    ensures capacity { vec_capacity seats.old ≤ vec_capacity seats.new }
 {
     let _ = host;
     for bench in benches {

@@ -3,7 +3,10 @@
 ghost use Rattle.std.specs.Prelude.{◌≡◌, ◌≤◌, ◌+◌, ◌⊎◌, All, IfErr, IfOk, OnOk, vec_capacity, vec_len};
 ghost use Rattle.std.specs.Arc.{arc_value};
 ghost use Rattle.slab.specs.Slab.{slab_len};
+ghost use Rattle.std.specs.List.{Contains};
 ghost use Rattle.xt_base.specs.declared.steps.Errno.TheVariants.{NoMemory, NoSpace};
+ghost use Rattle.xt_cell.specs.HostSeats.{HostSeatView as AHostSeat};
+ghost use Rattle.xt_service.specs.Seats.{HasWorked, IsSplitOff, IsUsed, Unmounts};
 ghost use Rattle.xt_service.specs.declared.ended.TheConstants.{PLACES};
 
 use crate::accept::accept_sessions;
@@ -12,6 +15,7 @@ use crate::door::Door;
 use crate::ended::{Ended, PLACES};
 use crate::room::{Room, put_benches, put_seats};
 use crate::table::Table;
+use crate::workplace::Workplace;
 use std::alloc::{AllocError, Global};
 use std::net::TcpListener;
 use std::snapshot::Snapshot;
@@ -30,16 +34,17 @@ use xt_queue::jobs::WorkPass;
 /// How often all mounts are written out at the end of a service.
 const ROUNDS: u32 = 4;
 
-/// What a worker's thread promises: the bench that it gives back is of the same host as the one that it was given.
+/// What a worker's thread promises: that it did only the work of names that it took, by the seat of the bench that it was given, and gives
+/// that bench back, which is of the same host still.
 #[derive(Drop)]
-pub struct SameHost<H: House>(pub Snapshot<Bench<H>>);
+pub struct OnlyWork<H: House>(pub Snapshot<Bench<H>>);
 
-impl<H: House> Promise<Bench<H>> for SameHost<H> {
-    ghost kept_by = { λ promise bench. (bench.seat.board.board ≡ promise.0.value.seat.board.board) × (bench.pass.queue ≡ promise.0.value.pass.queue) };
+impl<H: House> Promise<Bench<H>> for OnlyWork<H> {
+    ghost kept_by = { λ promise bench. HasWorked promise.0.value.pass.worker bench.pass.taken promise.0.value.seat bench.seat × (bench.pass.queue ≡ promise.0.value.pass.queue) };
 }
 
 /// A worker in a thread of its own, which gives its bench back at its end.
-type Worker<H> = PromisedHandle<Bench<H>, SameHost<H>>;
+type Worker<H> = PromisedHandle<Bench<H>, OnlyWork<H>>;
 
 /// A service of a host: a seat of its own, its sessions, its workers, and room for all that it gives back at its end.
 #[derive(Drop)]
@@ -55,11 +60,12 @@ pub struct Service<H: House> {
     ghost benches_room: { vec_len crew.workers ≤ vec_capacity room.benches },
 }
 
-/// The workers of a service, each in a thread of its own, and the door at which they stop.
+/// The workers of a service, each in a thread of its own by a seat off which none was split, and the door at which they stop.
 #[derive(Drop)]
 struct Crew<H: House> {
     workers: Vec<Worker<H>>,
     door: Arc<Door, Global>,
+    ghost unsplit: { All (λ worker. worker.promise.0.value.seat.board.splits ≡ 0) workers.items },
 }
 
 /// What the end of a service leaves.
@@ -73,16 +79,18 @@ pub struct ServiceEnd<H: House> {
 }
 
 /// Fills a table with places, by seats that are drawn for them: ENOSPC where the numbers of callers end.
-fn add_places<H: House, R: Wait>(
+#[tactic(auto, using(crate::proofs::SplitLemmas::split_none, crate::proofs::SplitLemmas::split_more, crate::proofs::SplitLemmas::split_same))]
+fn add_places<H: House, D, R: Wait>(
     rt: &R,
-    host: &Host<H>,
+    host: &Host<H, D>,
     own: &mut HostSeat<H>,
     table: &mut Table<H>,
 ) -> Result<(), Errno>
     requires board { own.old.board.board ≡ host.now.board }
     requires like { table.old.like.value.board.board ≡ host.now.board }
     requires empty { slab_len table.old.sessions + vec_len table.old.free ≡ 0 }
-    ensures own { own.new ≡ own.old }
+    ensures own { IsSplitOff own.old own.new }
+    ensures splits { OnOk result (own.new.board.splits ≡ own.old.board.splits + PLACES) }
     ensures space { IfErr result (λ errno. errno ≡ NoSpace) }
     ensures like { table.new.like ≡ table.old.like }
     ensures places { OnOk result (slab_len table.new.sessions + vec_len table.new.free ≡ PLACES) }
@@ -95,14 +103,16 @@ fn add_places<H: House, R: Wait>(
 }
 
 /// A full table of a host: ENOMEM where memory is refused, ENOSPC where the numbers of callers end.
-fn full_table<H: House, R: Wait>(
+#[tactic(auto, using(crate::proofs::SplitLemmas::split_none))]
+fn full_table<H: House, D, R: Wait>(
     rt: &R,
     alloc: Global,
-    host: &Host<H>,
+    host: &Host<H, D>,
     own: &mut HostSeat<H>,
 ) -> Result<Table<H>, Errno>
     requires board { own.old.board.board ≡ host.now.board }
-    ensures own { own.new ≡ own.old }
+    ensures own { IsSplitOff own.old own.new }
+    ensures splits { OnOk result (own.new.board.splits ≡ own.old.board.splits + PLACES) }
     ensures refused { IfErr result (λ errno. (errno ≡ NoMemory) ⊎ (errno ≡ NoSpace)) }
     ensures like { IfOk result (λ table. table.like.value.board.board ≡ host.now.board) }
     ensures places { IfOk result (λ table. slab_len table.sessions + vec_len table.free ≡ PLACES) }
@@ -118,9 +128,9 @@ fn full_table<H: House, R: Wait>(
 }
 
 /// Works at a bench until a door is shut.
-fn work_at<H: House, R: Wait + Clock + Copy>(
+fn work_at<H: House, D: Workplace<H, R> + Drop, R: Wait + Clock + Copy>(
     rt: R,
-    host: Arc<Host<H>, Global>,
+    host: Arc<Host<H, D>, Global>,
     bench: Bench<H>,
     door: Arc<Door, Global>,
 ) -> Bench<H>
@@ -128,6 +138,7 @@ fn work_at<H: House, R: Wait + Clock + Copy>(
     requires queue { bench.pass.queue ≡ arc_value (arc_value host).queue }
     ensures board { result.seat.board.board ≡ (arc_value host).board }
     ensures queue { result.pass.queue ≡ arc_value (arc_value host).queue }
+    ensures worked { HasWorked bench.pass.worker result.pass.taken bench.seat result.seat }
 {
     let mut bench = bench;
     bench.work_until(&rt, &host, &door);
@@ -135,23 +146,28 @@ fn work_at<H: House, R: Wait + Clock + Copy>(
 }
 
 /// A worker at a bench of a host, in a thread of its own. The one error is want of memory, or of a thread.
-fn hire<H: House + Send + Sync + 'static, R: Threads + Wait + Clock + Copy + Send + 'static>(
+fn hire<
+    H: House + Send + Sync + 'static,
+    D: Workplace<H, R> + Drop + Send + Sync + 'static,
+    R: Threads + Wait + Clock + Copy + Send + 'static,
+>(
     rt: R,
-    host: &Arc<Host<H>, Global>,
+    host: &Arc<Host<H, D>, Global>,
     bench: Bench<H>,
     door: &Arc<Door, Global>,
 ) -> Result<Worker<H>, AllocError>
     requires board { bench.seat.board.board ≡ (arc_value host.now).board }
     requires queue { bench.pass.queue ≡ arc_value (arc_value host.now).queue }
+    ensures bench { IfOk result (λ worker. worker.promise.0.value ≡ bench) }
     ensures board { IfOk result (λ worker. worker.promise.0.value.seat.board.board ≡ (arc_value host.now).board) }
     ensures queue { IfOk result (λ worker. worker.promise.0.value.pass.queue ≡ arc_value (arc_value host.now).queue) }
 {
     let theirs = Arc::try_clone(host)?;
     let shut = Arc::try_clone(door)?;
-    let promise = SameHost(Snapshot::of(&bench));
+    let promise = OnlyWork(Snapshot::of(&bench));
     let work = move || -> Bench<H>
         requires { (bench.seat.board.board ≡ (arc_value theirs).board) × (bench.pass.queue ≡ arc_value (arc_value theirs).queue) }
-        ensures { (result.seat.board.board ≡ bench.seat.board.board) × (result.pass.queue ≡ bench.pass.queue) }
+        ensures { HasWorked bench.pass.worker result.pass.taken bench.seat result.seat × (result.pass.queue ≡ bench.pass.queue) }
     { work_at(rt, theirs, bench, shut) };
     Ok(thread::spawn_with(&rt, promise, work)?)
 }
@@ -169,12 +185,13 @@ impl<H: House> Crew<H> {
     }
 
     /// Has the workers stop, and waits until all have: their benches, in room that was made before.
-    fn dismiss<R: Threads>(self, rt: &R, host: &Host<H>, room: Vec<Bench<H>>) -> Vec<Bench<H>>
+    fn dismiss<D, R: Threads>(self, rt: &R, host: &Host<H, D>, room: Vec<Bench<H>>) -> Vec<Bench<H>>
         requires none { vec_len room ≡ 0 }
         requires room { vec_len self.workers ≤ vec_capacity room }
         requires workers { All (λ worker. (worker.promise.0.value.seat.board.board ≡ host.now.board) × (worker.promise.0.value.pass.queue ≡ arc_value host.now.queue)) self.workers.items }
         ensures count { vec_len result ≡ vec_len self.workers }
         ensures benches { All (λ bench. (bench.seat.board.board ≡ host.now.board) × (bench.pass.queue ≡ arc_value host.now.queue)) result.items }
+        ensures unsplit { All (λ bench. bench.seat.board.splits ≡ 0) result.items }
     {
         let _ = host;
         let Crew { workers, door } = self;
@@ -189,17 +206,22 @@ impl<H: House> Crew<H> {
 
 impl<H: House + Send + Sync + 'static> Crew<H> {
     /// A worker for each pass: ENOMEM where memory or a thread is refused, ENOSPC where the numbers of callers end.
-    fn add_all<R: Threads + Wait + Clock + Copy + Send + 'static>(
+    #[tactic(auto, using(crate::proofs::SplitLemmas::split_none, crate::proofs::SplitLemmas::split_same))]
+    fn add_all<
+        D: Workplace<H, R> + Drop + Send + Sync + 'static,
+        R: Threads + Wait + Clock + Copy + Send + 'static,
+    >(
         &mut self,
         rt: R,
-        host: &Arc<Host<H>, Global>,
+        host: &Arc<Host<H, D>, Global>,
         own: &mut HostSeat<H>,
         passes: Vec<WorkPass>,
     ) -> Result<(), Errno>
         requires board { own.old.board.board ≡ (arc_value host.now).board }
         requires queues { All (λ pass. pass.queue ≡ arc_value (arc_value host.now).queue) passes.items }
         requires workers { All (λ worker. (worker.promise.0.value.seat.board.board ≡ (arc_value host.now).board) × (worker.promise.0.value.pass.queue ≡ arc_value (arc_value host.now).queue)) self.old.workers.items }
-        ensures own { own.new ≡ own.old }
+        ensures own { IsSplitOff own.old own.new }
+        ensures splits { OnOk result (own.new.board.splits ≡ own.old.board.splits + vec_len passes) }
         ensures refused { IfErr result (λ errno. (errno ≡ NoMemory) ⊎ (errno ≡ NoSpace)) }
         ensures count { OnOk result (vec_len self.new.workers ≡ vec_len self.old.workers + vec_len passes) }
         ensures most { vec_len self.new.workers ≤ vec_len self.old.workers + vec_len passes }
@@ -222,6 +244,7 @@ impl<H: House + Send + Sync + 'static> Crew<H> {
 impl<H: House + Send + Sync + 'static> Service<H> {
     /// A service over a host: a worker in a thread of its own for each pass, and no session yet. ENOMEM where memory or a thread is
     /// refused, ENOSPC where the numbers of callers end; then the workers that there are have stopped.
+    #[tactic(auto, using(crate::proofs::SplitLemmas::split_both))]
     pub fn start<R: Threads + Wait + Clock + Copy + Send + 'static>(
         rt: R,
         alloc: Global,
@@ -232,7 +255,8 @@ impl<H: House + Send + Sync + 'static> Service<H> {
         requires board { seat.board.board ≡ (arc_value host.now).board }
         requires queues { All (λ pass. pass.queue ≡ arc_value (arc_value host.now).queue) passes.items }
         ensures refused { IfErr result (λ errno. (errno ≡ NoMemory) ⊎ (errno ≡ NoSpace)) }
-        ensures own { IfOk result (λ service. service.own ≡ seat) }
+        ensures own { IfOk result (λ service. IsSplitOff seat service.own) }
+        ensures splits { IfOk result (λ service. service.own.board.splits ≡ seat.board.splits + PLACES + vec_len passes) }
         ensures count { IfOk result (λ service. vec_len service.crew.workers ≡ vec_len passes) }
         ensures places { IfOk result (λ service. slab_len service.table.sessions + vec_len service.table.free ≡ PLACES) }
         ensures workers { IfOk result (λ service. All (λ worker. (worker.promise.0.value.seat.board.board ≡ (arc_value host.now).board) × (worker.promise.0.value.pass.queue ≡ arc_value (arc_value host.now).queue)) service.crew.workers.items) }
@@ -280,9 +304,9 @@ impl<H: House + Send + Sync + 'static> Service<H> {
 }
 
 /// Has each mount written out once.
-fn write_out_each<H: House, R: Wait>(
+fn write_out_each<H: House, D: Workplace<H, R>, R: Wait>(
     rt: &R,
-    host: &Host<H>,
+    host: &Host<H, D>,
     bench: &mut Bench<H>,
     mounts: &[MountRef],
 )
@@ -290,6 +314,7 @@ fn write_out_each<H: House, R: Wait>(
     requires queue { bench.old.pass.queue ≡ arc_value host.now.queue }
     ensures board { bench.new.seat.board.board ≡ host.now.board }
     ensures queue { bench.new.pass.queue ≡ arc_value host.now.queue }
+    ensures used { IsUsed bench.old.seat bench.new.seat }
 {
     for at in mounts {
         bench.write_out(rt, host, at);
@@ -297,9 +322,9 @@ fn write_out_each<H: House, R: Wait>(
 }
 
 /// Has all mounts written out, again and again: what one force and one push leave is written by a later one.
-fn write_out_all<H: House, R: Wait>(
+fn write_out_all<H: House, D: Workplace<H, R>, R: Wait>(
     rt: &R,
-    host: &Host<H>,
+    host: &Host<H, D>,
     bench: &mut Bench<H>,
     mounts: &[MountRef],
 )
@@ -307,6 +332,7 @@ fn write_out_all<H: House, R: Wait>(
     requires queue { bench.old.pass.queue ≡ arc_value host.now.queue }
     ensures board { bench.new.seat.board.board ≡ host.now.board }
     ensures queue { bench.new.pass.queue ≡ arc_value host.now.queue }
+    ensures used { IsUsed bench.old.seat bench.new.seat }
 {
     for _ in 0..ROUNDS {
         write_out_each(rt, host, bench, mounts);
@@ -314,15 +340,17 @@ fn write_out_all<H: House, R: Wait>(
 }
 
 /// Has all mounts written out by one of some benches, if there is one: the benches.
-fn write_out_by<H: House, R: Wait>(
+fn write_out_by<H: House, D: Workplace<H, R>, R: Wait>(
     rt: &R,
-    host: &Host<H>,
+    host: &Host<H, D>,
     benches: Vec<Bench<H>>,
     mounts: &[MountRef],
 ) -> Vec<Bench<H>>
     requires benches { All (λ bench. (bench.seat.board.board ≡ host.now.board) × (bench.pass.queue ≡ arc_value host.now.queue)) benches.items }
+    requires unsplit { All (λ bench. bench.seat.board.splits ≡ 0) benches.items }
     ensures count { vec_len result ≡ vec_len benches }
     ensures benches { All (λ bench. (bench.seat.board.board ≡ host.now.board) × (bench.pass.queue ≡ arc_value host.now.queue)) result.items }
+    ensures unsplit { All (λ bench. bench.seat.board.splits ≡ 0) result.items }
 {
     let mut benches = benches;
     if let Some(mut bench) = benches.pop() {
@@ -332,35 +360,21 @@ fn write_out_by<H: House, R: Wait>(
     benches
 }
 
-/// Unmounts a mount, and lets its devices go: why it is still mounted, if it is.
-fn unmount<H: House, R: Wait>(
-    rt: &R,
-    host: &Host<H>,
-    seat: &mut HostSeat<H>,
-    at: &MountRef,
-) -> Option<Errno>
-    requires board { seat.old.board.board ≡ host.now.board }
-    ensures board { seat.new.board.board ≡ host.now.board }
-{
-    match host.unmount(rt, seat, *at) {
-        Ok(_devices) => None,
-        Err(errno) => Some(errno),
-    }
-}
-
 /// Unmounts all mounts: why each slot is still mounted, of those that are.
-fn unmount_each<H: House, R: Wait>(
+fn unmount_each<H: House, D: Workplace<H, R>, R: Wait>(
     rt: &R,
-    host: &Host<H>,
+    host: &Host<H, D>,
     seat: &mut HostSeat<H>,
     mounts: &[MountRef],
 ) -> [Option<Errno>; SLOTS]
     requires board { seat.old.board.board ≡ host.now.board }
+    ensures unmounts { Unmounts seat.old mounts.now seat.new result }
+    ensures used { IsUsed seat.old seat.new }
     ensures board { seat.new.board.board ≡ host.now.board }
 {
     let mut kept = [None; SLOTS];
     for at in mounts {
-        kept[at.slot.index()] = unmount(rt, host, seat, at);
+        kept[at.slot.index()] = D::unmount(rt, host, seat, *at);
     }
     kept
 }
@@ -368,10 +382,10 @@ fn unmount_each<H: House, R: Wait>(
 impl<H: House> Service<H> {
     /// Ends a service: its workers stop, what its mounts have committed is written to the logs and home, and the mounts are unmounted. The
     /// mounts are ascending by slot. All seats and passes come back, with which the host is then to be closed.
-    pub fn end<R: Threads + Wait>(
+    pub fn end<D: Workplace<H, R>, R: Threads + Wait>(
         self,
         rt: &R,
-        host: &Host<H>,
+        host: &Host<H, D>,
         mounts: &[MountRef],
     ) -> ServiceEnd<H>
         requires board { self.own.board.board ≡ host.now.board }
@@ -380,6 +394,8 @@ impl<H: House> Service<H> {
         ensures passes { vec_len result.passes ≡ vec_len self.crew.workers }
         ensures boards { All (λ seat. seat.board.board ≡ host.now.board) result.seats.items }
         ensures queues { All (λ pass. pass.queue ≡ arc_value host.now.queue) result.passes.items }
+        ensures splits { All (λ seat. (seat.board.splits ≡ 0) ⊎ IsUsed self.own seat) result.seats.items }
+        ensures kept { (own : AHostSeat) × Contains result.seats.items own × Unmounts self.own mounts.now own result.kept }
     {
         let Service {
             mut own,
@@ -397,8 +413,8 @@ impl<H: House> Service<H> {
         let benches = write_out_by(rt, host, benches, mounts);
         let kept = unmount_each(rt, host, &mut own, mounts);
         put_seats(host, &mut seats, table.into_seats());
-        seats.push_reserved(own);
         put_benches(host, &mut seats, &mut passes, benches);
+        seats.push_reserved(own);
         ServiceEnd {
             kept,
             seats,

@@ -1,10 +1,12 @@
 //! The sessions that run, at most sixteen at a time, each in a thread of its own.
 
-ghost use Rattle.std.specs.Prelude.{◌≡◌, ◌≤◌, ◌<◌, ◌+◌, ℕ, All, IfErr, IfOk, vec_len, vec_capacity};
+ghost use Rattle.std.specs.Prelude.{◌≡◌, ◌≤◌, ◌<◌, ◌+◌, ℕ, All, IfErr, IfOk, None, vec_len, vec_capacity};
 ghost use Rattle.slab.specs.Slab.{get, slab_len};
 ghost use Rattle.std.specs.Arc.{arc_value};
 ghost use Rattle.std.specs.Option.{ForSome};
+ghost use Rattle.xt_service.specs.HostSession.{IsHostSession};
 ghost use Rattle.xt_service.specs.declared.ended.TheConstants.{PLACES};
+ghost use Rattle.xt_service.specs.declared.session_end.SessionEnd.{SessionEnd as AnEnd};
 
 use crate::ended::{Ended, PLACES};
 use crate::host_session::host_session;
@@ -17,20 +19,23 @@ use std::thread;
 use std::thread::{Promise, PromisedHandle, Threads};
 use xt_cell::house::House;
 use xt_cell::seat::HostSeat;
+use xt_host::desk::Desk;
 use xt_host::host::Host;
 
-/// What a session's thread promises: the seat that it gives back is of the same host as the one that it was given.
+/// What a session's thread promises: that it served one whole session by the seat that it was given, and gives that seat back. Of what a
+/// stream carries nothing is known.
 #[derive(Drop)]
-pub struct SameBoard<H: House>(pub Snapshot<HostSeat<H>>);
+pub struct OneSession<H: House>(pub Snapshot<HostSeat<H>>);
 
-impl<H: House> Promise<HostSeat<H>> for SameBoard<H> {
-    ghost kept_by = { λ promise seat. seat.board.board ≡ promise.0.value.board.board };
+impl<H: House> Promise<HostSeat<H>> for OneSession<H> {
+    ghost kept_by = { λ promise seat. (end : AnEnd) × IsHostSession promise.0.value seat None None None None end };
 }
 
 /// A session in a thread of its own, which gives its seat back at its end.
-type Session<H> = PromisedHandle<HostSeat<H>, SameBoard<H>>;
+type Session<H> = PromisedHandle<HostSeat<H>, OneSession<H>>;
 
-/// The sessions that run, by the numbers that they tell at their ends, and the seats of those that may begin.
+/// The sessions that run, by the numbers that they tell at their ends, and the seats of those that may begin. Off none of these seats
+/// another was split.
 #[derive(Drop)]
 pub struct Table<H: House> {
     sessions: Slab<Session<H>>,
@@ -42,18 +47,21 @@ pub struct Table<H: House> {
     ghost keys: { PLACES ≤ sessions.capacity },
     ghost room: { PLACES ≤ vec_capacity free },
     ghost seats: { All (λ seat. seat.board.board ≡ like.value.board.board) free.items },
+    ghost unsplit: { All (λ seat. seat.board.splits ≡ 0) free.items },
     ghost promised: { (number : ℕ) → ForSome (get sessions number) (λ session. session.promise.0.value.board.board ≡ like.value.board.board) },
+    ghost promised_unsplit: { (number : ℕ) → ForSome (get sessions number) (λ session. session.promise.0.value.board.splits ≡ 0) },
 }
 
 /// Serves a session over a stream to its end, and closes the stream: the seat.
-fn serve_stream<H: House, R: Wait>(
+fn serve_stream<H: House, D: Desk<H, R>, R: Wait>(
     rt: &R,
     alloc: Global,
-    host: &Host<H>,
+    host: &Host<H, D>,
     seat: HostSeat<H>,
     stream: TcpStream,
 ) -> HostSeat<H>
     requires board { seat.board.board ≡ host.now.board }
+    ensures session { (end : AnEnd) × IsHostSession seat result None None None None end }
     ensures board { result.board.board ≡ host.now.board }
 {
     let _ = stream.set_nodelay(true);
@@ -62,16 +70,17 @@ fn serve_stream<H: House, R: Wait>(
 }
 
 /// Serves a session over a stream, and then tells of its end under its number.
-fn serve_told<H: House, R: Wait + Copy>(
+fn serve_told<H: House, D: Desk<H, R> + Drop, R: Wait + Copy>(
     rt: R,
     alloc: Global,
-    host: Arc<Host<H>, Global>,
+    host: Arc<Host<H, D>, Global>,
     seat: HostSeat<H>,
     stream: TcpStream,
     ended: Arc<Ended, Global>,
     number: usize,
 ) -> HostSeat<H>
     requires board { seat.board.board ≡ (arc_value host).board }
+    ensures session { (end : AnEnd) × IsHostSession seat result None None None None end }
     ensures board { result.board.board ≡ (arc_value host).board }
 {
     let seat = serve_stream(&rt, alloc, &host, seat, stream);
@@ -80,26 +89,31 @@ fn serve_told<H: House, R: Wait + Copy>(
 }
 
 /// Serves a session in a thread of its own: its handle. Where no thread can be made it is served here: its seat, once it has ended.
-fn start<H: House + Send + Sync + 'static, R: Threads + Wait + Copy + Send + 'static>(
+fn start<
+    H: House + Send + Sync + 'static,
+    D: Desk<H, R> + Drop + Send + Sync + 'static,
+    R: Threads + Wait + Copy + Send + 'static,
+>(
     rt: R,
     alloc: Global,
-    host: &Arc<Host<H>, Global>,
+    host: &Arc<Host<H, D>, Global>,
     seat: HostSeat<H>,
     stream: TcpStream,
     ended: &Arc<Ended, Global>,
     number: usize,
 ) -> Result<Session<H>, HostSeat<H>>
     requires board { seat.board.board ≡ (arc_value host.now).board }
-    ensures session { IfOk result (λ session. session.promise.0.value.board.board ≡ (arc_value host.now).board) }
+    ensures session { IfOk result (λ session. session.promise.0.value ≡ seat) }
+    ensures ended { IfErr result (λ back. (end : AnEnd) × IsHostSession seat back None None None None end) }
     ensures seat { IfErr result (λ back. back.board.board ≡ (arc_value host.now).board) }
 {
     let (Ok(theirs), Ok(told)) = (Arc::try_clone(host), Arc::try_clone(ended)) else {
         return Err(serve_stream(&rt, alloc, host, seat, stream));
     };
-    let promise = SameBoard(Snapshot::of(&seat));
+    let promise = OneSession(Snapshot::of(&seat));
     let session = move || -> HostSeat<H>
         requires { seat.board.board ≡ (arc_value theirs).board }
-        ensures { result.board.board ≡ seat.board.board }
+        ensures { (end : AnEnd) × IsHostSession seat result None None None None end }
     { serve_told(rt, alloc, theirs, seat, stream, told, number) };
     match thread::spawn_with(&rt, promise, session) {
         Ok(session) => Ok(session),
@@ -145,10 +159,11 @@ impl<H: House> Table<H> {
         self.sessions.len() + self.free.len()
     }
 
-    /// One more place, which is free, by a seat of the table's host.
+    /// One more place, which is free, by a seat of the table's host, off which none was split.
     pub fn add(&mut self, seat: HostSeat<H>)
         requires room { slab_len self.old.sessions + vec_len self.old.free < PLACES }
         requires board { seat.board.board ≡ self.old.like.value.board.board }
+        requires unsplit { seat.board.splits ≡ 0 }
         ensures running { slab_len self.new.sessions ≡ slab_len self.old.sessions }
         ensures free { vec_len self.new.free ≡ vec_len self.old.free + 1 }
         ensures like { self.new.like ≡ self.old.like }
@@ -210,13 +225,10 @@ impl<H: House> Table<H> {
 impl<H: House + Send + Sync + 'static> Table<H> {
     /// Serves a session of a host over a stream, in a thread of its own and by a free place. Where no thread can be made it is served
     /// here, and this returns at its end.
-    pub fn open<R: Threads + Wait + Copy + Send + 'static>(
-        &mut self,
-        rt: R,
-        alloc: Global,
-        host: &Arc<Host<H>, Global>,
-        stream: TcpStream,
-    )
+    pub fn open<
+        D: Desk<H, R> + Drop + Send + Sync + 'static,
+        R: Threads + Wait + Copy + Send + 'static,
+    >(&mut self, rt: R, alloc: Global, host: &Arc<Host<H, D>, Global>, stream: TcpStream)
         requires free { 0 < vec_len self.old.free }
         requires board { self.old.like.value.board.board ≡ (arc_value host.now).board }
         ensures like { self.new.like ≡ self.old.like }

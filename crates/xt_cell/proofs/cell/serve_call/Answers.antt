@@ -50,6 +50,11 @@ returns-then-not-is_no_memory-clause-booked g c = λ no.
       c.in-Ok.ensures.asked,
     )
 
+pub returns-then-not-is_no_memory-clause-failures : goal.returns-then-not-is_no_memory-clause-failures
+returns-then-not-is_no_memory-clause-failures g c = λ no.
+    let booked = booked_from _ _ _ _ _ _ _ _ _ c.ready.ensures.book c.ready.ensures.seat (c.call-reply.ensures.booked no) in
+    (_, _, booked.receipt.receipts, c.in-Ok.ensures.failures)
+
 pub returns-else-not-is_no_memory-clause-tried : goal.returns-else-not-is_no_memory-clause-tried
 returns-else-not-is_no_memory-clause-tried g c = λ no_memory.
     let told = rw c.in-Ok.ensures.step.is at c.in-Ok.ensures.asked in

@@ -9,6 +9,7 @@ use Rattle.xt_host_speed.proofs.crew.by_two.Goals as goal
 use Rattle.xt_host_speed.specs.contracts.crew.by_two.dyn-1 as one
 use Rattle.xt_host_speed.specs.contracts.crew.by_two.dyn-2 as two
 use Rattle.xt_queue.proofs.jobs.WorkPass.TheSendSync as passes
+use Rattle.xt_slots.specs.contracts.desk.Slots as Slots
 
 -- the host is lent to the other thread; tenants go to it
 pub join-one-requires-send-F : goal.join-one-requires-send-F
@@ -19,6 +20,6 @@ join-one-requires-send-F g c κs within =
     let gb = ghosts_of (two.slots g.row.H g.row.R) g.dyn-2.0 g.dyn-2.1 in
     let a : IsSend A = search sendable in
     let b : IsSend B = search sendable in
-    let host : IsSync (Host.the_row (param 0 g.row.H) A B g.H.House ga gb) = host_sync (param 0 g.row.H) A B g.H.House ga gb g.dyn-1.2 a g.dyn-2.2 b in
+    let host : IsSync (Host.the_row (param 0 g.row.H) (Slots.the_row (param 0 g.row.H) A B g.H.House ga gb) g.H.House) = host_sync (param 0 g.row.H) A B g.H.House ga gb g.dyn-1.2 a g.dyn-2.2 b in
     let rt = c.type_bounds.sync-R in
     search (host, rt, seats.the_send, passes.the_send, crosses, sendable) depth 40

@@ -15,4 +15,7 @@ invariant-loop-bench g l = record {
   boards : All (λ seat. seat.board.board ≡ l.host.board) l.seats.items;
   queues : All (λ pass. pass.queue ≡ arc_value l.host.queue) l.passes.items;
   coming : All (λ bench. (bench.seat.board.board ≡ l.host.board) × (bench.pass.queue ≡ arc_value l.host.queue)) (into_iter_items l.bench-iterator);
+  unsplit : All (λ seat. seat.board.splits ≡ 0) l.seats.items;
+  coming_unsplit : All (λ bench. bench.seat.board.splits ≡ 0) (into_iter_items l.bench-iterator);
+  capacity : vec_capacity l.fn.seats ≤ vec_capacity l.seats;
 }

@@ -1,10 +1,12 @@
 use Rattle.std.proofs.Common.{◌≡◌}
 use Rattle.std.specs.Arc.{arc_value}
+use Rattle.xt_service.specs.Seats.{IsUsed}
 use Rattle.xt_service.proofs.service.write_out_all.Given as goal
 
--- the bench is of the host
+-- the bench is of the host, and its seat was only used
 abbrev pub invariant-loop : goal.invariant-loop
 invariant-loop g l = record {
   board : l.bench.seat.board.board ≡ l.host.board;
   queue : l.bench.pass.queue ≡ arc_value l.host.queue;
+  used : IsUsed l.fn.bench.seat l.bench.seat;
 }

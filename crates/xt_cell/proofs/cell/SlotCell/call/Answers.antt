@@ -29,6 +29,11 @@ returns-then-not-is_no_memory-clause-unasked g c = λ no other.
     let kept = unasked_receipt _ _ _ _ _ made.1 _ _ _ _ _ _ _ made.2 other in
     (kept.0, c.show_shut.ensures.receipts ∙ kept.1)
 
+pub returns-then-not-is_no_memory-clause-failures : goal.returns-then-not-is_no_memory-clause-failures
+returns-then-not-is_no_memory-clause-failures g c = λ no.
+    let told = c.serve_call-reply.ensures.failures no in
+    (told.0, told.1, c.show_shut.ensures.receipts ∙ told.2, told.3)
+
 pub returns-then-not-is_no_memory-clause-caller : goal.returns-then-not-is_no_memory-clause-caller
 returns-then-not-is_no_memory-clause-caller g c =
     let made = c.serve_call-reply.ensures.booked (sym c.is_no_memory.ensures ∙ c.if-not-is_no_memory.true) in

@@ -22,3 +22,9 @@ returns-clause-booked g c = λ happened.
       },
       told,
     )
+
+pub returns-clause-failures : goal.returns-clause-failures
+returns-clause-failures g c = λ happened.
+    let event = c.serve_flush-reply.ensures.booked in
+    let booked = booked_from _ _ _ _ _ _ _ _ _ c.make_room.ensures.book c.make_room.ensures.seat event.booked in
+    (c.offered-answers.result, _, c.show_shut.ensures.receipts ∙ event.receipts ∙ booked.receipt.receipts, c.offered-answers.ensures.failures)

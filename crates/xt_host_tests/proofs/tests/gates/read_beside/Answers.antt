@@ -8,6 +8,7 @@ use Rattle.xt_host_tests.proofs.tests.gates.read_beside.Goals as goal
 use Rattle.xt_host.specs.contracts.host.Host as Host
 use Rattle.xt_host_tests.specs.contracts.tests.gates.read_beside.dyn-1 as one
 use Rattle.xt_host_tests.specs.contracts.tests.gates.read_beside.dyn-2 as two
+use Rattle.xt_slots.specs.contracts.desk.Slots as Slots
 
 -- the host is lent to the other thread; a seat goes to it
 pub join-requires-send-F : goal.join-requires-send-F
@@ -18,6 +19,6 @@ join-requires-send-F g c κs within =
     let gb = ghosts_of (two.slots g.row.H g.row.R) g.dyn-2.0 g.dyn-2.1 in
     let a : IsSend A = search sendable in
     let b : IsSend B = search sendable in
-    let host : IsSync (Host.the_row (param 0 g.row.H) A B g.H.House ga gb) = host_sync (param 0 g.row.H) A B g.H.House ga gb g.dyn-1.2 a g.dyn-2.2 b in
+    let host : IsSync (Host.the_row (param 0 g.row.H) (Slots.the_row (param 0 g.row.H) A B g.H.House ga gb) g.H.House) = host_sync (param 0 g.row.H) A B g.H.House ga gb g.dyn-1.2 a g.dyn-2.2 b in
     let rt = c.type_bounds.sync-R in
     search (host, rt, seats.the_send, crosses, sendable) depth 60

@@ -7,3 +7,8 @@ pub invariant_of-self-clause-seats : goal.invariant_of-self-clause-seats
 invariant_of-self-clause-seats g c =
     subst (All (λ seat. seat.board.board ≡ c.args.self.now.like.value.board.board)) (sym c.push_reserved.ensures.items)
     (All-push (λ seat. seat.board.board ≡ c.args.self.now.like.value.board.board) _ _ c.args.self.now.seats c.requires.board)
+
+-- and off none of them another was split
+pub invariant_of-self-clause-unsplit : goal.invariant_of-self-clause-unsplit
+invariant_of-self-clause-unsplit g c =
+    subst (All (λ seat. seat.board.splits ≡ 0)) (sym c.push_reserved.ensures.items) (All-push (λ seat. seat.board.splits ≡ 0) _ _ c.args.self.now.unsplit c.requires.unsplit)

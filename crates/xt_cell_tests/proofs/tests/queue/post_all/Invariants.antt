@@ -1,0 +1,10 @@
+use Rattle.std.proofs.Common.{◌+◌, ◌<◌, ◌≡◌, ◌⊎◌}
+use Rattle.xt_queue.specs.Names.{last_of, unposted}
+use Rattle.xt_cell_tests.proofs.tests.queue.post_all.Given as goal
+
+abbrev pub invariant-loop : goal.invariant-loop
+invariant-loop g l = record {
+  queue : l.pass.queue ≡ l.queue;
+  slot : l.pass.slot ≡ l.index;
+  next : (((last_of unposted l.pass.posted).0 ≡ 1) × (l.serial ≡ (last_of unposted l.pass.posted).1 + 1)) ⊎ (((last_of unposted l.pass.posted).0 < 1) × (l.serial ≡ 1));
+}

@@ -1,5 +1,0 @@
-use Rattle.xt_host.proofs.AgreeLemmas.{answered}
-use Rattle.xt_host.proofs.comparing.compare_all.Goals as goal
-
-pub returns : goal.returns
-returns g c = (c.args.books.now, c.requires, c.all_true.ensures, answered _ _ _ c.compare.ensures.order c.compare.ensures.agree c.compare.ensures.fault)

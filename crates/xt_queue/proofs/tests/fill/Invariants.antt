@@ -1,8 +1,0 @@
-use Rattle.std.proofs.Common.{◌-◌, ◌≡◌}
-use Rattle.xt_queue.specs.Passes.{fresh_posts}
-use Rattle.xt_queue.proofs.tests.fill.Given as goal
-
-abbrev pub invariant-loop-low : goal.invariant-loop-low
-invariant-loop-low g l = record {
-  posts : l.posts.items ≡ fresh_posts l.queue (16 - l.low);
-}

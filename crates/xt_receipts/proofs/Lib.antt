@@ -1,0 +1,2 @@
+mod AgreeLemmas
+mod ReceiptLemmas

@@ -1,6 +1,0 @@
-use Rattle.std.proofs.Common.{◌≡◌}
-use Rattle.xt_service.proofs.bench.give_back.Given as goal
-
--- the seat is of the host's board
-abbrev pub invariant-loop : goal.invariant-loop
-invariant-loop g l = l.seat.board.board ≡ l.host.board

@@ -1,0 +1,84 @@
+-- What each command makes of the seat that it is given by.
+use Rattle.std.specs.Prelude.{Bool, IfErr, IfOk, IfSome, List, None, OnErr, OnOk, false, slice_index, true, ℕ, ⊤, ◌<◌, ◌≡◌}
+use Rattle.xt_base.specs.Calls.{is_unmount}
+use Rattle.xt_base.specs.Isolation.{is_no_memory}
+use Rattle.xt_base.specs.Jobs.{is_ckpt}
+use Rattle.xt_base.specs.Replies.{is_read, may_get}
+use Rattle.xt_base.specs.declared.steps.Answer.{Answer}
+use Rattle.xt_base.specs.declared.steps.Answer.TheVariants as Answered
+use Rattle.xt_base.specs.declared.steps.HomeAnswers.{HomeAnswers}
+use Rattle.xt_base.specs.declared.steps.Reply.TheVariants.{Life, Okay, Refused}
+use Rattle.xt_base.specs.declared.steps.Request.TheVariants as ARequest
+use Rattle.xt_base.specs.declared.steps.Step.{Step}
+use Rattle.xt_cell.specs.HostSeats.{HostSeatView, IsSameSeat, Shows}
+use Rattle.xt_receipts.specs.Calls.{Receives}
+use Rattle.xt_slots.specs.declared.commands.Command.{Command}
+use Rattle.xt_slots.specs.declared.commands.Command.TheVariants as Do
+use Rattle.xt_slots.specs.declared.commands.Outcome.{Outcome}
+use Rattle.xt_slots.specs.declared.commands.Outcome.TheVariants as Came
+use Rattle.xt_queue.specs.Boards.{Rises}
+use Rattle.xt_queue.specs.Words.{word_of}
+
+-- a seat as it is, but for its counts
+abbrev pub with_counts : List ℕ → HostSeatView → HostSeatView
+with_counts counts s = record { caller = s.caller; counts = counts; receipts = s.receipts; board = s.board; room = s.room }
+
+module _ {A B : Type 0} {IsA : A → Type 0} {IsB : B → Type 0} where
+  -- the slot of a command
+  abbrev pub slot_of : Command A B IsA IsB → ℕ
+  slot_of (Do.Call at request waits) = at.slot
+  slot_of (Do.Mount slot log_bytes blocks home log) = slot
+  slot_of (Do.Unmount at) = at.slot
+  slot_of (Do.Begin worker name) = name.slot
+  slot_of (Do.End done) = done.name.slot
+  slot_of (Do.Flush worker name) = name.slot
+
+  -- whether a command is a call that waits
+  abbrev pub does_wait : Command A B IsA IsB → Bool
+  does_wait (Do.Call at request waits) = waits
+  does_wait other = false
+
+  -- no call is an unmount, and a job is begun or flushed by its kind
+  abbrev pub MayBe : Command A B IsA IsB → Type 0
+  MayBe (Do.Call at request waits) = is_unmount request ≡ false
+  MayBe (Do.Begin worker name) = is_ckpt name.kind ≡ true
+  MayBe (Do.Flush worker name) = is_ckpt name.kind ≡ false
+  MayBe other = ⊤
+
+  -- what comes of a command, and of the seat
+  abbrev pub Did : Command A B IsA IsB → HostSeatView → HostSeatView → Outcome A B IsA IsB → Type 0
+  Did (Do.Call at request waits) old new (Came.Called reply) =
+      (is_no_memory reply ≡ true → IsSameSeat old new)
+      × (is_no_memory reply ≡ false → (answer : Answer) × Receives at.slot (Step.Call at.slot at.life request answer) reply old new)
+      × (is_no_memory reply ≡ false → is_read request ≡ false → Receives at.slot (Step.Call at.slot at.life request Answered.None) reply old new)
+      × (may_get request reply ≡ true)
+      × (request ≡ ARequest.Shutdown → reply ≡ Okay → word_of at.life None < slice_index new.board.seen at.slot)
+      × Rises old.board.seen new.board.seen
+  Did (Do.Unmount at) old new (Came.Unmounted result) =
+      IfErr result (λ errno. is_no_memory (Refused errno) ≡ true → IsSameSeat old new)
+      × OnOk result (Receives at.slot (Step.Call at.slot at.life ARequest.Unmount Answered.None) Okay old new)
+      × IfErr result (λ errno. is_no_memory (Refused errno) ≡ false → Receives at.slot (Step.Call at.slot at.life ARequest.Unmount Answered.None) (Refused errno) old new)
+      × (new.board ≡ old.board)
+  Did (Do.Mount slot log_bytes blocks home log) old new (Came.Mounted result) =
+      IfErr result (λ back. is_no_memory (Refused back.errno) ≡ true → IsSameSeat old new)
+      × IfOk result (λ at. (at.slot ≡ slot) × Receives slot (Step.Mount slot log_bytes blocks) (Life at.life) old new)
+      × IfErr result (λ back. is_no_memory (Refused back.errno) ≡ false → Receives slot (Step.Mount slot log_bytes blocks) (Refused back.errno) old new)
+      × IfErr result (λ back. (back.home ≡ home) × (back.log ≡ log))
+      × IfOk result (λ at. Shows slot (word_of at.life None) old.board new.board)
+      × OnErr result (new.board ≡ old.board)
+  Did (Do.Begin worker name) old new (Came.Begun result) =
+      (result ≡ None → IsSameSeat old new)
+      × IfSome result (λ began. is_no_memory began.0 ≡ true → IsSameSeat old new)
+      × IfSome result (λ began. is_no_memory began.0 ≡ false → Receives name.slot (Step.Begin worker name) began.0 old new)
+      × IfSome result (λ began. IfSome began.1 (λ job. (job.worker ≡ worker) × (job.name ≡ name)))
+      × (new.board ≡ old.board)
+  Did (Do.End done) old new (Came.Ended result) =
+      IfErr result (λ back. (back.0 ≡ done) × IsSameSeat old new)
+      × IfOk result (λ reply. Receives done.name.slot (Step.End done.worker done.name done.answers) reply old new)
+      × Rises old.board.seen new.board.seen
+  Did (Do.Flush worker name) old new (Came.Flushed result) =
+      (result ≡ None → IsSameSeat old new)
+      × IfSome result (λ reply. is_no_memory reply ≡ true → IsSameSeat old new)
+      × IfSome result (λ reply. is_no_memory reply ≡ false → (answers : HomeAnswers) × Receives name.slot (Step.Flush worker name answers) reply old new)
+      × Rises old.board.seen new.board.seen
+  Did other old new answer = ⊥

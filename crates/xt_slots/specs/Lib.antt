@@ -1,0 +1,3 @@
+pub mod Books
+pub mod Commands
+pub use Rattle.xt_receipts.specs.Calls
