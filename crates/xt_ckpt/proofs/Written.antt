@@ -25,7 +25,7 @@ some_word k set back =
     ]
 
 -- the text of one item
-item_is : (block : ℕ) (set content : List ℕ) → block < 2 ^ 64 → word_of set < 2 ^ 32 → places_of (word_of set) ≡ set → length content ≡ 128 * length set
+pub item_is : (block : ℕ) (set content : List ℕ) → block < 2 ^ 64 → word_of set < 2 ^ 32 → places_of (word_of set) ≡ set → length content ≡ 128 * length set
     → IsItem (item_text block set content) (record { block = block; chunks = set; content = content })
 item_is block [] content range word back form =
     let none : content ≡ [] = nil_from_length content form in

@@ -1,0 +1,92 @@
+-- What was written over a home device makes of its image what the texts say.
+use Rattle.std.proofs.Common.{◌≡◌, ◌∙◌, ◌<◌, ◌∷◌, Bool, List, None, Option, Some, [], ap, arith, false, inl, inr, length, refl, subst, suc, sym, true, ℕ}
+use Rattle.std.proofs.lemmas.Bool.{cases_eq, eq-eqb, false≢true, ne_eqb}
+use Rattle.std.specs.Prelude.{if◌then◌else◌, unwrap_or, ◌==◌}
+use Rattle.xt_base.proofs.MapLemmas.{at_first, at_later, some_none}
+use Rattle.xt_base.proofs.RisingLemmas.{none_below}
+use Rattle.xt_base.specs.Maps.{at, has}
+use Rattle.xt_base.specs.Sound.{RisesFrom}
+use Rattle.xt_base.specs.Text.{chunk, chunk_bytes, content_at, zeros}
+use Rattle.xt_dev.specs.declared.call.HomeCall.{HomeCall}
+use Rattle.xt_recover.proofs.LaidLemmas.{IsGoodSet, IsWellLaid, chunk_laid, gathered_kept, gathered_says}
+use Rattle.xt_recover.proofs.ReadLemmas.{length_bytes}
+use Rattle.xt_recover.proofs.SaidLemmas.{chunk_found}
+use Rattle.xt_recover.specs.Gathering.{IsGathered}
+use Rattle.xt_recover.specs.Overlaid.{Overlaid, nothing, overlaid_chunk}
+use Rattle.xt_recover.specs.Recovering.{AreAnswered, TellsRecovered, with_block}
+use Rattle.xt_recover.specs.Writing.{AreWritten, TellsWritten, chunks_at, merged}
+use Rattle.xt_recovery.proofs.LogLemmas.{first_if, second_if}
+use Rattle.xt_recovery.specs.Log.{Image}
+
+-- a chunk of a content with some of another's in the place of its own
+by_found : (t : Bool) (v w : List ℕ) → unwrap_or (if t then Some v else None) w ≡ (if t then v else w)
+by_found true v w = refl
+by_found false v w = refl
+
+pub chunk_merged : (set new old : List ℕ) (k : ℕ) → IsGoodSet set → length new ≡ 4096 → length old ≡ 4096 → k < 32 → chunk (merged set new old) k ≡ (if has set k then chunk new k else chunk old k)
+chunk_merged set new old k good new_whole old_whole less =
+    (chunk_laid set (chunk_bytes new set) old k good.once good.small (length_bytes new set new_whole good.small) old_whole less).0
+    ∙ ap (λ o. unwrap_or o (chunk old k)) (chunk_found new set k new_whole good.small) ∙ by_found (has set k) (chunk new k) (chunk old k)
+
+good_of : (l : Overlaid) (b : ℕ) (o : Option (List ℕ)) → at b l.chunks ≡ o → IsWellLaid l → IsGoodSet (unwrap_or o [])
+good_of l b None is h = record { once = tt; small = λ c there. absurd (false≢true there) }
+good_of l b (Some set) is h = h.sets b set is
+
+-- what a chunk is to be after these contents were written
+abbrev pub written_at : Overlaid → Option (List ℕ) → ℕ → ℕ → List ℕ → List ℕ
+written_at l None b k old = old
+written_at l (Some v) b k old = if has (chunks_at l b) k then chunk v k else old
+
+-- the image after contents were written, block by block
+image_written : (l : Overlaid) (n : ℕ) (es : List (ℕ × List ℕ)) (calls : List HomeCall) (old new : Image) (b k : ℕ) → IsWellLaid l → RisesFrom n es → ((c : ℕ) (v : List ℕ) → at c es ≡ Some v → length v ≡ 4096) → AreWritten l es calls → AreAnswered calls old new → k < 32
+    → new b k ≡ written_at l (at b es) b k (old b k)
+image_written l n [] calls old new b k h rise whole written answered less = (subst (λ cs. AreAnswered cs old new) written answered) b k less
+image_written l n (e ∷ es) calls old new b k h rise whole written answered less =
+    let before : List ℕ = written.0 in
+    let rest : List HomeCall = written.1 in
+    let e_whole : length e.1 ≡ 4096 = whole e.0 e.1 (at_first e.0 e es refl) in
+    let both = subst (λ cs. AreAnswered cs old new) written.3 answered in
+    let next : Image = with_block e.0 (merged (chunks_at l e.0) e.1 before) old in
+    let later : (c : ℕ) (v : List ℕ) → at c es ≡ Some v → length v ≡ 4096 = λ c v is. whole c v (at_later c e es (λ same. above c v same is) ∙ is) in
+    let tail = image_written l (suc e.0) es rest next new b k h rise.1 later written.4 both.1 less in
+    elim (cases_eq b e.0) [
+      | inl same ↦
+          let none : at b es ≡ None = none_below b (suc e.0) es (omega (arith, same)) rise.1 in
+          tail ∙ ap (λ o. written_at l o b k (next b k)) none
+          ∙ first_if (b == e.0) (chunk (merged (chunks_at l e.0) e.1 before) k) (old b k) (eq-eqb b e.0 same)
+          ∙ chunk_merged (chunks_at l e.0) e.1 before k (good_of l e.0 (at e.0 l.chunks) refl h) e_whole written.2 less
+          ∙ ap (λ (x : List ℕ). if has (chunks_at l e.0) k then chunk e.1 k else x) (both.0 k less)
+          ∙ ap (λ (x : ℕ). if has (chunks_at l x) k then chunk e.1 k else old x k) (sym same)
+          ∙ sym (ap (λ o. written_at l o b k (old b k)) (at_first b e es same))
+      | inr other ↦
+          tail ∙ ap (λ (x : List ℕ). written_at l (at b es) b k x) (second_if (b == e.0) (chunk (merged (chunks_at l e.0) e.1 before) k) (old b k) (ne_eqb b e.0 other))
+          ∙ sym (ap (λ o. written_at l o b k (old b k)) (at_later b e es other))
+    ]
+  where
+    above : (c : ℕ) (v : List ℕ) → c ≡ e.0 → at c es ≡ Some v → ⊥
+    above c v same is = some_none v ⊥ (sym is ∙ none_below c (suc e.0) es (omega (arith, same)) rise.1)
+
+-- what is gathered, over an image
+says_at : (l : Overlaid) (b k : ℕ) (o : Option (List ℕ)) (old : List ℕ) → at b l.contents ≡ o → IsWellLaid l → written_at l o b k old ≡ unwrap_or (overlaid_chunk l b k) old
+says_at l b k None old is h =
+    sym (ap (λ x. unwrap_or (if has (unwrap_or x []) k then Some (chunk (content_at 4096 b l.contents) k) else None) old) (h.both b is))
+says_at l b k (Some v) old is h =
+    sym (by_found (has (chunks_at l b) k) (chunk v k) old) ∙ sym (ap (λ o. unwrap_or (if has (chunks_at l b) k then Some (chunk (unwrap_or o (zeros 4096)) k) else None) old) is)
+
+-- what was gathered of a log and written over a device
+pub recovered_tells : (log : List ℕ) (l : Overlaid) (told tell : Bool) (before after : List HomeCall) → IsGathered log nothing l → TellsWritten l told before tell after → TellsRecovered log told before tell after
+recovered_tells log l told tell before after gathered written =
+    let kept : IsWellLaid l = subst IsWellLaid (sym gathered.laid) (gathered_kept log gathered.texts gathered.read) in
+    record {
+      texts = gathered.texts;
+      read = gathered.read;
+      calls = written.calls;
+      tells = written.tells;
+      image = λ old new answered b k less.
+          image_written l 0 l.contents written.calls old new b k kept kept.contents_rise kept.whole written.written answered less
+          ∙ says_at l b k (at b l.contents) (old b k) refl kept
+          ∙ ap (λ m. unwrap_or (overlaid_chunk m b k) (old b k)) gathered.laid ∙ ap (λ o. unwrap_or o (old b k)) (gathered_says log gathered.texts b k gathered.read less);
+    }
+
+pub recovered_from : (log : List ℕ) (first l : Overlaid) (told tell : Bool) (before after : List HomeCall) → first ≡ nothing → IsGathered log first l → TellsWritten l told before tell after → TellsRecovered log told before tell after
+recovered_from log first l told tell before after is gathered written = recovered_tells log l told tell before after (subst (λ f. IsGathered log f l) is gathered) written

@@ -1,0 +1,10 @@
+pub mod TextEntries
+pub mod SaidLemmas
+pub mod ReadLemmas
+pub mod BytesTheorem
+pub mod AgainLemmas
+pub mod PlaceLemmas
+pub mod LaidLemmas
+pub mod GatherLemmas
+pub mod WriteLemmas
+pub mod ImageLemmas

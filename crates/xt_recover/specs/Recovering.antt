@@ -1,0 +1,38 @@
+-- What recovery does to a home device, and to the image that it stands for.
+use Rattle.std.specs.Prelude.{Bool, false, List, None, Some, [], if◌then◌else◌, reverse, true, ℕ, ◌++◌, ◌<◌, ◌==◌, ◌∷◌, ◌≡◌}
+use Rattle.xt_base.specs.Text.{chunk}
+use Rattle.xt_base.specs.declared.steps.HomeOffer.{HomeOffer}
+use Rattle.xt_ckpt.specs.Grammar.{Entry}
+use Rattle.xt_dev.specs.Devices.{Tells}
+use Rattle.xt_dev.specs.declared.call.HomeCall.{HomeCall}
+use Rattle.xt_recover.specs.Reading.{ReadsAs}
+use Rattle.xt_recover.specs.Replay.{replayed_image}
+use Rattle.xt_recover.specs.declared.recovering.RecoverFault.{RecoverFault}
+use Rattle.xt_recovery.specs.DiskSteps.{Agree}
+use Rattle.xt_recovery.specs.Log.{Image}
+
+-- the image after a block was written
+abbrev pub with_block : ℕ → List ℕ → Image → Image
+with_block b content image q k = if q == b then chunk content k else image q k
+
+-- calls that succeeded, answered as an image answers them: a read gives what it has, a write makes it have that
+abbrev pub AreAnswered : List HomeCall → Image → Image → Type 0
+AreAnswered [] old new = Agree new old
+AreAnswered (HomeCall.Read b None ∷ cs) old new = AreAnswered cs old new
+AreAnswered (HomeCall.Read b (Some content) ∷ cs) old new = ((k : ℕ) → k < 32 → chunk content k ≡ old b k) × AreAnswered cs old new
+AreAnswered (HomeCall.Offer (HomeOffer.Write b content ok) ∷ cs) old new = AreAnswered cs (with_block b content old) new
+AreAnswered (HomeCall.Offer (HomeOffer.Sync ok) ∷ cs) old new = AreAnswered cs old new
+
+-- the device was told calls that end with a sync, and if it answered them as an image does, its image is the one that the texts of the log, laid
+-- over it the newest first, give
+pub record TellsRecovered (log : List ℕ) (told : Bool) (before : List HomeCall) (tell : Bool) (after : List HomeCall) : Type 0 where
+  pub texts : List (List Entry)
+  pub read : ReadsAs log texts
+  pub calls : List HomeCall
+  pub tells : Tells told before (calls ++ HomeCall.Offer (HomeOffer.Sync true) ∷ []) tell after
+  pub image : (old new : Image) → AreAnswered calls old new → Agree new (replayed_image (reverse texts) old)
+
+-- whether recovery stopped before it asked the home device anything
+abbrev pub is_log_fault : RecoverFault → Bool
+is_log_fault (RecoverFault.Log fault) = true
+is_log_fault (RecoverFault.Home fault) = false

@@ -1,0 +1,39 @@
+-- What is written of what was gathered over a home device.
+use Rattle.std.specs.Prelude.{Bool, List, Some, [], length, true, unwrap_or, ℕ, ◌++◌, ◌∷◌, ◌≡◌}
+use Rattle.xt_base.specs.Maps.{at}
+use Rattle.xt_base.specs.Text.{chunk_bytes}
+use Rattle.xt_base.specs.declared.sizes.TheConstants.{BLOCK_BYTES}
+use Rattle.xt_base.specs.declared.steps.HomeOffer.{HomeOffer}
+use Rattle.xt_dev.specs.Devices.{Tells}
+use Rattle.xt_dev.specs.declared.call.HomeCall.{HomeCall}
+use Rattle.xt_recover.specs.Overlaid.{Overlaid}
+use Rattle.xt_recover.specs.Chunks.{with_chunks}
+
+-- a content, with some chunks of another one in the place of its own
+abbrev pub merged : List ℕ → List ℕ → List ℕ → List ℕ
+merged set new old = with_chunks set (chunk_bytes new set) old
+
+-- the chunks that were gathered of a block
+abbrev pub chunks_at : Overlaid → ℕ → List ℕ
+chunks_at l b = unwrap_or (at b l.chunks) []
+
+-- a block is read, and written with what was gathered of it in the place of its own
+abbrev pub block_calls : Overlaid → ℕ × List ℕ → List ℕ → List HomeCall
+block_calls l e old = HomeCall.Read e.0 (Some old) ∷ HomeCall.Offer (HomeOffer.Write e.0 (merged (chunks_at l e.0) e.1 old) true) ∷ []
+
+-- so is each block that was gathered
+abbrev pub AreWritten : Overlaid → List (ℕ × List ℕ) → List HomeCall → Type 0
+AreWritten l [] calls = calls ≡ []
+AreWritten l (e ∷ es) calls = (old : List ℕ) × (rest : List HomeCall) × (length old ≡ BLOCK_BYTES) × (calls ≡ block_calls l e old ++ rest) × AreWritten l es rest
+
+-- one block was, as the device tells
+pub record TellsBlock (l : Overlaid) (e : ℕ × List ℕ) (told : Bool) (before : List HomeCall) (tell : Bool) (after : List HomeCall) : Type 0 where
+  pub old : List ℕ
+  pub whole : length old ≡ BLOCK_BYTES
+  pub tells : Tells told before (block_calls l e old) tell after
+
+-- all were, and then the device was asked to make them safe
+pub record TellsWritten (l : Overlaid) (told : Bool) (before : List HomeCall) (tell : Bool) (after : List HomeCall) : Type 0 where
+  pub calls : List HomeCall
+  pub written : AreWritten l l.contents calls
+  pub tells : Tells told before (calls ++ HomeCall.Offer (HomeOffer.Sync true) ∷ []) tell after

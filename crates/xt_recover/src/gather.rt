@@ -1,0 +1,75 @@
+//! The texts of a log, gathered.
+
+ghost use Rattle.std.specs.Prelude.{◌≡◌, ◌<◌, ◌≤◌, ◌+◌, All, IfOk, IfSome, IsNone, OnOk, drop, length};
+ghost use Rattle.xt_ckpt.specs.Fields.{IsUnfinished};
+ghost use Rattle.xt_recover.specs.Gathering.{IsGathered, IsTextLaid};
+ghost use Rattle.xt_ckpt.specs.Grammar.{entries};
+ghost use Rattle.xt_ckpt.specs.Items.{HasForm};
+ghost use Rattle.xt_recover.specs.Overlaid.{overlaid, with_items};
+
+use crate::overlay::Overlay;
+use std::alloc::{AllocError, Global};
+use thiserror::Error;
+use xt_ckpt::{Checkpoint, ReadFault, Rooms, read_checkpoint_into};
+
+/// Why a log was not gathered.
+#[derive(Clone, Copy, Debug, PartialEq, Eq, Error)]
+pub enum LogFault {
+    /// The field at this offset of the log breaks its rule. No crash leaves such a log.
+    #[error("fault {0}")]
+    Broken(usize),
+    /// Memory was refused.
+    #[error("out of memory")]
+    Memory,
+}
+
+/// Gathers the texts of a log, from the first on, up to bytes that are no text yet, as a crash leaves them: answers how
+/// many bytes the texts have.
+pub fn gather(alloc: Global, log: &[u8], overlay: &mut Overlay) -> Result<usize, LogFault>
+    ensures gathered { OnOk result (IsGathered log.now (overlaid overlay.old) (overlaid overlay.new)) }
+    ensures within { IfOk result (λ len. len ≤ length log.now) }
+{
+    let mut rooms = Rooms::new(alloc);
+    let mut at = 0;
+    while let Some(len) = take_text(&mut rooms, log, at, overlay)? {
+        at += len;
+    }
+    Ok(at)
+}
+
+/// Lays the text at an offset of the log, and answers how many bytes it has; None where it is no text yet.
+fn take_text(
+    rooms: &mut Rooms,
+    log: &[u8],
+    at: usize,
+    overlay: &mut Overlay,
+) -> Result<Option<usize>, LogFault>
+    requires place { at ≤ length log.now }
+    ensures text { IfOk result (λ found. IfSome found (λ len. IsTextLaid len (drop at log.now) (overlaid overlay.old) (overlaid overlay.new))) }
+    ensures some { IfOk result (λ found. IfSome found (λ len. 0 < len)) }
+    ensures within { IfOk result (λ found. IfSome found (λ len. at + len ≤ length log.now)) }
+    ensures end { IfOk result (λ found. IsNone found → IsUnfinished (drop at log.now)) }
+    ensures same { IfOk result (λ found. IsNone found → overlaid overlay.new ≡ overlaid overlay.old) }
+{
+    match read_checkpoint_into(rooms, &log[at..]) {
+        Ok(Some((checkpoint, len))) => {
+            lay_text(overlay, &checkpoint)?;
+            rooms.give_back(checkpoint);
+            Ok(Some(len))
+        }
+        Ok(None) => Ok(None),
+        Err(ReadFault::Ckpt(fault)) => Err(LogFault::Broken(at.saturating_add(fault.at))),
+        Err(ReadFault::Memory) => Err(LogFault::Memory),
+    }
+}
+
+/// Lays the items of a checkpoint.
+fn lay_text(overlay: &mut Overlay, checkpoint: &Checkpoint) -> Result<(), LogFault>
+    requires form { All HasForm checkpoint.now.items.items }
+    ensures { OnOk result (overlaid overlay.new ≡ with_items (entries checkpoint.now.items.items) (overlaid overlay.old)) }
+{
+    match overlay.lay(&checkpoint.items) {
+        Ok(()) => Ok(()),
+        Err(AllocError) => Err(LogFault::Memory),
+    }
+}

@@ -1,0 +1,53 @@
+//! The bytes of chunks, put at their places in a content.
+
+ghost use Rattle.std.specs.Int.{bit_at};
+ghost use Rattle.std.specs.Prelude.{◌≡◌, ◌+◌, ◌*◌, ◌≤◌, ◌<◌, ◌==◌, drop, if◌then◌else◌, length, take};
+ghost use Rattle.xt_base.specs.Calls.{overwritten};
+ghost use Rattle.xt_base.specs.Chunks.{places_of};
+ghost use Rattle.xt_recover.specs.Chunks.{with_chunks};
+
+use xt_base::content::Content;
+use xt_base::sizes::{CHUNK_BYTES, CHUNKS};
+
+/// Puts the bytes of the chunks that a word has, which stand one after another, at their places.
+pub(crate) fn lay_marked(content: &mut Content, word: u32, bytes: &[u8])
+    requires form { length bytes.now ≡ CHUNK_BYTES * length (places_of word) }
+    ensures { content.new ≡ with_chunks (places_of word) bytes.now content.old }
+{
+    let mut place = 0;
+    for k in 0..CHUNKS {
+        place = lay_if_marked(content, word, k, bytes, place);
+    }
+}
+
+/// Whether a word of bits has chunk `k`.
+fn is_marked(word: u32, k: u32) -> bool
+    requires { k < CHUNKS }
+    ensures { result ≡ (bit_at word k == 1) }
+{
+    word >> k & 1 == 1
+}
+
+/// Puts the bytes from a place on into chunk `k`, if the word has it, and answers the place behind them.
+fn lay_if_marked(content: &mut Content, word: u32, k: u32, bytes: &[u8], place: usize) -> usize
+    requires chunk { k < CHUNKS }
+    requires within { place + (if bit_at word k == 1 then CHUNK_BYTES else 0) ≤ length bytes.now }
+    ensures content { content.new ≡ (if bit_at word k == 1 then overwritten (CHUNK_BYTES * k) (take CHUNK_BYTES (drop place bytes.now)) content.old else content.old) }
+    ensures place { result ≡ place + (if bit_at word k == 1 then CHUNK_BYTES else 0) }
+{
+    if is_marked(word, k) {
+        lay_chunk(content, k, &bytes[place..place + CHUNK_BYTES]);
+        place + CHUNK_BYTES
+    } else {
+        place
+    }
+}
+
+/// Puts the bytes of one chunk at its place.
+fn lay_chunk(content: &mut Content, k: u32, bytes: &[u8])
+    requires chunk { k < CHUNKS }
+    requires whole { length bytes.now ≡ CHUNK_BYTES }
+    ensures { content.new ≡ overwritten (CHUNK_BYTES * k) bytes.now content.old }
+{
+    content.write(k as usize * CHUNK_BYTES, bytes);
+}

@@ -1,0 +1,27 @@
+-- Steps that suit a slot, with its disks.
+use Rattle.std.proofs.Common.{List, [], true, ◌∷◌, ◌≡◌}
+use Rattle.xt_base.specs.Alone.{alone}
+use Rattle.xt_base.specs.Order.{suits}
+use Rattle.xt_base.specs.State.{Lone}
+use Rattle.xt_base.specs.declared.steps.Step.{Step}
+use Rattle.xt_recovery.specs.DiskSteps.{AllSuit, AreDiskSteps, IsHomeAfterStep, IsLogCut, StepReadsHome, disks_after}
+use Rattle.xt_recovery.specs.Disks.{Disks}
+
+-- one step that suits a slot, with its disks before and after
+pub record IsSuitedStep (x : Step) (s : Lone) (d e : Disks) : Type 0 where
+  pub fits : suits x s ≡ true
+  pub told : StepReadsHome x s d.home
+  pub home : IsHomeAfterStep x s d e.home
+  pub after : e ≡ disks_after x s e.home d
+
+-- steps one after another, after each of which the log may be cut
+abbrev pub AreSuitedSteps : List Step → Lone → Disks → Disks → Type 0
+AreSuitedSteps [] s d e = e ≡ d
+AreSuitedSteps (x ∷ xs) s d e = (mid cut : Disks) × IsSuitedStep x s d mid × IsLogCut (alone x s).slot.mounted mid cut × AreSuitedSteps xs (alone x s).slot cut e
+
+-- steps that suit a slot, and what the disks do at them
+pub suited_steps : (xs : List Step) (s : Lone) (d e : Disks) → AllSuit xs s → AreDiskSteps xs s d e → AreSuitedSteps xs s d e
+suited_steps [] s d e suit served = served
+suited_steps (x ∷ xs) s d e suit served =
+    let one = served.2 in
+    (served.0, served.1, record { fits = suit.0; told = one.told; home = one.home; after = one.after }, served.3, suited_steps xs (alone x s).slot served.1 e suit.1 served.4)

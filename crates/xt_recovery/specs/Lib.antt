@@ -1,0 +1,5 @@
+pub mod Log
+pub mod Disks
+pub mod Flush
+pub mod DiskSteps
+pub mod Crash

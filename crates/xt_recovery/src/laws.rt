@@ -1,0 +1,19 @@
+//! Laws of recovery. Each function does nothing: its clause is the law.
+
+ghost use Rattle.xt_recovery.specs.Crash.{HomeHasLanded, Lands, Recovers};
+
+/// After any steps of a mount, at every crash, the texts of its log laid over its home image give what was committed at the begin of the last
+/// landed checkpoint, or of the one in flight, or of one whose end failed: all of it or none.
+pub fn recovers()
+    ensures { Recovers }
+{}
+
+/// Where no block waits to be written home, the home device has all that landed, and the log is not needed.
+pub fn home_has_landed()
+    ensures { HomeHasLanded }
+{}
+
+/// The premises can be met: there are steps after which a checkpoint has landed.
+pub fn lands()
+    ensures { Lands }
+{}
