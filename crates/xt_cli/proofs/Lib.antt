@@ -1,2 +1,1 @@
 pub mod ServeLemmas
-pub mod VolumeLemmas

@@ -4,4 +4,3 @@ pub mod fault;
 pub mod files;
 pub mod options;
 pub mod running;
-pub mod volume;

@@ -6,13 +6,14 @@ use thiserror::Error;
 use xt_base::names::Slot;
 use xt_base::steps::Errno;
 use xt_dev::fault::FileFault;
+use xt_volumes::VolumeFault;
 
 /// Why volumes are not served, or not to the end of the service.
 #[derive(Debug, Drop, Error)]
 pub enum ServeFault {
-    /// A word that spells no volume.
-    #[error("fault: volume")]
-    Volume,
+    /// Words that name no volumes that can be mounted together.
+    #[error("{0}")]
+    Volume(#[from] VolumeFault),
     /// A slot that can't be mounted.
     #[error("fault: slot {} {}", .0.index(), .1.name())]
     Slot(Slot, Errno),

@@ -1,7 +1,6 @@
 //! The files of volumes, looked at before any is made, and opened as devices.
 
 use crate::serve::fault::ServeFault;
-use crate::serve::volume::Volume;
 use std::alloc::Global;
 use std::fs;
 use std::io::{self, ErrorKind};
@@ -9,6 +8,7 @@ use std::path::{Path, PathBuf};
 use xt_base::names::Slot;
 use xt_dev::fault::FileFault;
 use xt_dev::files::{FileHome, FileLog};
+use xt_volumes::Volume;
 
 /// A volume whose files are open.
 #[derive(Drop)]

@@ -1,10 +1,10 @@
 //! What the command line says of a service.
 
 use crate::serve::fault::ServeFault;
-use crate::serve::volume::{Volume, volumes};
 use clap::builder::ValueParser;
 use clap::{Arg, ArgMatches, Command};
 use std::alloc::{AllocError, Global};
+use xt_volumes::{Volume, volumes};
 
 /// What a volume is, with an example.
 const VOLUME: &str = "A volume, SLOT:LOGBYTES:BLOCKS:HOMEFILE:LOGFILE: \

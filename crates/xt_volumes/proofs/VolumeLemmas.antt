@@ -1,0 +1,114 @@
+-- Names of files, and lists of volumes.
+use Rattle.std.proofs.Common.{rules, IsSome, IsSomeAnd, [], ◌∷◌, ◌^◌, zero, suc, All, IfSome, MatchOption, None, Option, Some, arith, ap, get_or, length, not, refl, subst, sym, IsTrue, List, Bool, true, false, ℕ, ◌+◌, ◌-◌, ◌∙◌, ◌≡◌, ◌≢◌, ◌<◌, ◌≤◌}
+use Rattle.std.proofs.lemmas.Bool.{cases_eq, cases_lt}
+use Rattle.std.proofs.lemmas.List.Elements.{All-append, All-cons, All-drop, All-take}
+use Rattle.std.proofs.lemmas.List.Edits.{get_or-insert_above, get_or-insert_at, get_or-insert_below, length-insert}
+use Rattle.std.proofs.lemmas.List.Sums.{prefix_len_passes, prefix_len_stops}
+use Rattle.std.specs.Fmt.{decimal}
+use Rattle.std.specs.List.{insert}
+use Rattle.std.proofs.lemmas.Fmt.{decimal_is_IsNumeral}
+use Rattle.std.proofs.lemmas.Str.Pattern.{IsSplitOnceResult, split_after}
+use Rattle.std.specs.Char.{digit_value}
+use Rattle.std.specs.Str.Parse.{AllDigits}
+use Rattle.std.specs.Prelude.{nat_lt}
+use denote.Bor.{Bor}
+use mathlib.Core.Logic.{⊎_elim}
+use Rattle.xt_volumes.specs.Volumes.{AreAscending, HasNoColon, IsFileName, parted, place_of}
+use Rattle.xt_base.specs.declared.sizes.TheConstants.{SLOTS}
+use Rattle.xt_volumes.specs.declared.volume.Volume.{Volume}
+
+-- a text that is not empty is the name of a file just where no colon is found in it
+pub no_colon : (found : Bool) (bs : List ℕ) → (found ≡ true → (k : ℕ) × (k < length bs) × (get_or bs k 0 ≡ 58)) × ((k : ℕ) → k < length bs → get_or bs k 0 ≡ 58 → found ≡ true) → 0 < length bs → (IsTrue (not found) → IsFileName bs) × (IsFileName bs → IsTrue (not found))
+no_colon true bs finds some = ((λ no. search rules), (λ name. let at = finds.0 refl in let wrong = name.no_colon at.0 at.1 at.2 in search rules))
+no_colon false bs finds some = ((λ yes. record { some = some; no_colon = λ k in_name is. let wrong = finds.1 k in_name is in search rules }), (λ name. search rules))
+
+-- what stands behind the place of one that was put in
+behind : (vs : List Volume) (x : Volume) (p k : ℕ) (d : Volume) → p ≤ length vs → p < k → get_or (insert vs p x) k d ≡ get_or vs (k - 1) d
+behind vs x p k d within over =
+    let one : (k - 1) + 1 ≡ k = omega (arith, over) in
+    subst (λ m. get_or (insert vs p x) m d ≡ get_or vs (k - 1) d) one (get_or-insert_above vs p x d (k - 1) (omega (arith, over)) within)
+
+-- of volumes that are two others, if these ascend
+both : (a b u v : Volume) → a ≡ u → b ≡ v → u.slot < v.slot → a.slot < b.slot
+both a b u v is_u is_v rise = subst (λ w. w.slot < b.slot) (sym is_u) (subst (λ w. u.slot < w.slot) (sym is_v) rise)
+
+-- one more at its place among some that ascend: those before it are below it, and the one that stood there is above it
+pub ascending_more : (vs : List Volume) (x : Volume) (p : ℕ) → p ≤ length vs → ((k : ℕ) (d : Volume) → k < p → (get_or vs k d).slot < x.slot) → (p < length vs → (d : Volume) → x.slot < (get_or vs p d).slot) → AreAscending vs → AreAscending (insert vs p x)
+ascending_more vs x p within below above ascending i j d order inside =
+    let more : j < length vs + 1 = subst (λ n. j < n) (length-insert vs p x within) inside in
+    let here : (k : ℕ) → k ≡ p → get_or (insert vs p x) k d ≡ x = λ k is. ap (λ m. get_or (insert vs p x) m d) is ∙ get_or-insert_at vs p x d within in
+    let before : (k : ℕ) → k < p → get_or (insert vs p x) k d ≡ get_or vs k d = λ k low. get_or-insert_below vs p x d k low within in
+    ⊎_elim
+    (λ low. both _ _ _ _ (before i (omega (arith, order, low))) (before j low) (ascending i j d order (omega (arith, low, within))))
+    (λ high. ⊎_elim
+    (λ is. both _ _ _ _ (before i (omega (arith, order, is))) (here j is) (below i d (omega (arith, order, is))))
+    (λ apart.
+    let over : p < j = omega (arith, high, apart) in
+    let last : j - 1 < length vs = omega (arith, more, over) in
+    ⊎_elim
+    (λ low. both _ _ _ _ (before i low) (behind vs x p j d within over) (ascending i (j - 1) d (omega (arith, low, over)) last))
+    (λ not_low. ⊎_elim
+    (λ is. both _ _ _ _ (here i is) (behind vs x p j d within over) (⊎_elim
+    (λ next. subst (λ m. x.slot < (get_or vs m d).slot) (sym next) (above (omega (arith, last, next)) d))
+    (λ far.
+    let first = above (omega (arith, last, over)) d in
+    let rest = ascending p (j - 1) d (omega (arith, over, far)) last in
+    omega (arith, first, rest))
+    (cases_eq (j - 1) p)))
+    (λ off.
+    let under : p < i = omega (arith, not_low, off) in
+    both _ _ _ _ (behind vs x p i d within under) (behind vs x p j d within over) (ascending (i - 1) (j - 1) d (omega (arith, under, order)) last))
+    (cases_eq i p))
+    (cases_lt i p))
+    (cases_eq j p))
+    (cases_lt j p)
+
+-- those before the place of a slot are below it
+before_place : (slot : ℕ) (vs : List Volume) (k : ℕ) (d : Volume) → k < place_of slot vs → (get_or vs k d).slot < slot
+before_place slot vs k d low = let is = prefix_len_passes (λ v. nat_lt v.slot slot) vs k d low in search (rules, is)
+
+-- the one that stands at the place is not
+at_place : (slot : ℕ) (vs : List Volume) (d : Volume) → place_of slot vs < length vs → slot ≤ (get_or vs (place_of slot vs) d).slot
+at_place slot vs d inside = let is = prefix_len_stops (λ v. nat_lt v.slot slot) vs d inside in search (rules, is)
+
+-- one more at the place of its slot, where no other has that slot
+pub ascending_placed : (vs : List Volume) (x : Volume) (p : ℕ) → p ≡ place_of x.slot vs → p ≤ length vs → (p < length vs → (d : Volume) → (get_or vs p d).slot ≢ x.slot) → AreAscending vs → AreAscending (insert vs p x)
+ascending_placed vs x p is within apart ascending = ascending_more vs x p within
+    (λ k d low. before_place x.slot vs k d (omega (arith, low, is)))
+    (λ inside d.
+    let least : x.slot ≤ (get_or vs p d).slot = subst (λ m. x.slot ≤ (get_or vs m d).slot) (sym is) (at_place x.slot vs d (omega (arith, inside, is))) in
+    omega (arith, least, apart inside d))
+    ascending
+
+-- the one that was found at a place has another slot, so it has there
+pub apart_there : (vs : List Volume) (x : Volume) (p : ℕ) (found : Option (Bor Volume)) → MatchOption found (length vs ≤ p) (λ u. (p < length vs) × ((d : Volume) → u.now ≡ get_or vs p d)) → IfSome found (λ other. other.now.slot ≢ x.slot) → p < length vs → (d : Volume) → (get_or vs p d).slot ≢ x.slot
+apart_there vs x p None got apart inside d = omega (arith, got, inside)
+apart_there vs x p (Some u) got apart inside d = λ is. apart (ap (λ v. v.slot) (got.1 d) ∙ is)
+
+-- what holds of each of some, and of one more, holds of each then
+pub All-placed : (P : Volume → Type 0) (vs : List Volume) (p : ℕ) (x : Volume) → All P vs → P x → All P (insert vs p x)
+All-placed P vs p x all one = All-append P _ _ (All-take P p vs all) (All-cons P x _ one (All-drop P p vs all))
+
+-- ---- the parts of a word
+-- no digit is a colon
+digits_have_no_colon : (ds : List ℕ) → AllDigits 10 ds → (i : ℕ) → i < length ds → get_or ds i 0 ≢ 58
+digits_have_no_colon [] all i inside is = omega (arith, inside)
+digits_have_no_colon (d ∷ ds) all zero inside is = let wrong : digit_value 58 < 10 = subst (λ x. digit_value x < 10) is all.0 in search (rules, wrong)
+digits_have_no_colon (d ∷ ds) all (suc i) inside is = digits_have_no_colon ds all.1 i (omega (arith, inside)) is
+
+-- so the decimal of a number has none
+pub decimal_has_no_colon : (n : ℕ) → n < 2 ^ 64 → HasNoColon (decimal n)
+decimal_has_no_colon n small = digits_have_no_colon (decimal n) (decimal_is_IsNumeral n small).0.1
+
+-- where a text is two with a colon between them, and the first has none, it is cut there
+pub cut_there : (bs xs ys : List ℕ) (cut : Option (Bor (List ℕ) × Bor (List ℕ))) → IsSplitOnceResult 58 bs cut → bs ≡ parted xs ys → HasNoColon xs → IsSomeAnd cut (λ x. (x.0.now ≡ xs) × (x.1.now ≡ ys))
+cut_there bs xs ys None found is none = split_after 58 bs xs ys None found (omega arith) is none
+cut_there bs xs ys (Some cut) found is none = split_after 58 bs xs ys (Some cut) found (omega arith) is none
+
+some_is : (m n : ℕ) → Some m ≡ Some n → m ≡ n
+some_is m n is = search (rules, is)
+
+-- the one that was made of the index of a slot is that slot
+pub made_slot : (made : Option ℕ) (index n : ℕ) → ((IsSome made → index < SLOTS) × (index < SLOTS → IsSome made)) → IfSome made (λ slot. slot ≡ index) → Some index ≡ Some n → n < SLOTS → made ≡ Some n
+made_slot None index n valid value read small = let there = valid.1 (subst (λ k. k < SLOTS) (sym (some_is index n read)) small) in search (rules, there)
+made_slot (Some slot) index n valid value read small = ap Some (value ∙ some_is index n read)

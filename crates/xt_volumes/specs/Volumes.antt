@@ -1,0 +1,60 @@
+-- Volumes as the command line spells them.
+use denote.Ref.{Bor}
+use Rattle.std.specs.Fmt.{decimal}
+use Rattle.std.specs.Prelude.{List, length, nat_lt, slice_index, ℕ, ◌++◌, ◌<◌, ◌≡◌, ◌≢◌, ◌≤◌, ◌^◌, ◌∷◌}
+use Rattle.std.specs.List.{AllPairs, Contains, prefix_len}
+use Rattle.std.specs.String.{string_bytes}
+use Rattle.xt_base.specs.declared.sizes.TheConstants.{LEAST_LOG, MOST_BLOCKS, MOST_LOG, SLOTS}
+use Rattle.xt_volumes.specs.declared.volume.Volume.{Volume}
+
+-- two texts with a colon between them
+abbrev pub parted : List ℕ → List ℕ → List ℕ
+parted xs ys = xs ++ 58 ∷ ys
+
+-- the word of a volume: its slot, the bytes of its log, its blocks, and the names of the files of its home device and of its log
+abbrev pub spelled : Volume → List ℕ
+spelled v = parted (decimal v.slot) (parted (decimal v.log_bytes) (parted (decimal v.blocks) (parted (string_bytes v.home) (string_bytes v.log))))
+
+-- no colon stands in a text
+abbrev pub HasNoColon : List ℕ → Type 0
+HasNoColon text = (i : ℕ) → i < length text → slice_index text i ≢ 58
+
+-- the name of a file: it is not empty, and no colon stands in it
+pub record IsFileName (name : List ℕ) : Type 0 where
+  pub some : 0 < length name
+  pub no_colon : HasNoColon name
+
+-- a word spells a volume
+pub record Spells (word : List ℕ) (v : Volume) : Type 0 where
+  pub word_is : word ≡ spelled v
+  pub in_range : (v.slot < SLOTS) × (v.log_bytes < 2 ^ 32) × (v.blocks < 2 ^ 64)
+  pub home : IsFileName (string_bytes v.home)
+  pub log : IsFileName (string_bytes v.log)
+
+-- a word spells no volume
+abbrev pub SpellsNone : List ℕ → Type 0
+SpellsNone word = (v : Volume) → Spells word v → ⊥
+
+-- one of these words spells no volume
+abbrev pub HasBadWord : List (Bor (List ℕ)) → Type 0
+HasBadWord words = (word : Bor (List ℕ)) × Contains words word × SpellsNone word.now
+
+-- these are the parts of the word of a volume
+abbrev pub ArePartsOf : Volume → Bor (List ℕ) × Bor (List ℕ) × Bor (List ℕ) × Bor (List ℕ) × Bor (List ℕ) → Type 0
+ArePartsOf v parts = (parts.0.now ≡ decimal v.slot) × (parts.1.now ≡ decimal v.log_bytes) × (parts.2.now ≡ decimal v.blocks) × (parts.3.now ≡ string_bytes v.home) × (parts.4.now ≡ string_bytes v.log)
+
+-- a volume is spelled by one of these words
+abbrev pub IsNamed : List (Bor (List ℕ)) → Volume → Type 0
+IsNamed words v = (word : Bor (List ℕ)) × Contains words word × Spells word.now v
+
+-- a mount of these sizes is not refused
+abbrev pub HasSizes : Volume → Type 0
+HasSizes v = (LEAST_LOG ≤ v.log_bytes) × (v.log_bytes ≤ MOST_LOG) × (1 ≤ v.blocks) × (v.blocks ≤ MOST_BLOCKS)
+
+-- the slots rise, so none is there twice
+abbrev pub AreAscending : List Volume → Type 0
+AreAscending vs = AllPairs (λ u v. u.slot < v.slot) vs
+
+-- how many of some volumes stand before the place of a slot
+abbrev pub place_of : ℕ → List Volume → ℕ
+place_of slot vs = prefix_len (λ v. nat_lt v.slot slot) vs

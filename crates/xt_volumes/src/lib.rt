@@ -1,0 +1,8 @@
+//! Volumes as words of a command line name them: read, looked at, and put in order.
+#![tactic(auto)]
+
+pub mod fault;
+pub mod volume;
+
+pub use fault::VolumeFault;
+pub use volume::{Volume, volumes};

@@ -1,0 +1,226 @@
+//! Volumes as the command line names them.
+
+ghost use Rattle.std.specs.Prelude.{◌≡◌, ◌≤◌, ◌<◌, ◌+◌, ◌↔◌, ◌≢◌, ◌^◌, ℕ, List, All, IsErrOf, IsSomeAnd, None, Ok, Some, IfOk, IfSome, IsTrue, OnOk, length, vec_len};
+ghost use Rattle.std.specs.Fmt.{decimal};
+ghost use Rattle.std.specs.List.{insert};
+ghost use Rattle.std.specs.String.{string_bytes};
+ghost use Rattle.xt_volumes.specs.declared.fault.VolumeFault.TheVariants.{Word as BadWord};
+ghost use Rattle.xt_base.specs.declared.sizes.TheConstants.{SLOTS};
+ghost use Rattle.xt_volumes.specs.declared.volume.Volume.{Volume as AVolume};
+ghost use Rattle.xt_volumes.specs.Volumes.{ArePartsOf, AreAscending, HasBadWord, HasNoColon, HasSizes, IsFileName, IsNamed, Spells, SpellsNone, parted, place_of, spelled};
+
+use crate::fault::VolumeFault;
+use std::alloc::{AllocError, Global};
+use xt_base::names::Slot;
+use xt_base::sizes::{LEAST_LOG, MOST_BLOCKS, MOST_LOG};
+use xt_base::steps::Errno;
+
+/// A volume: its slot, the sizes of its log in bytes and of its home device in blocks, and the names of the files of both.
+#[derive(Debug, Drop)]
+pub struct Volume {
+    pub slot: Slot,
+    pub log_bytes: u32,
+    pub blocks: u64,
+    pub home: String,
+    pub log: String,
+}
+
+/// The parts of a word: a slot, bytes, blocks, and the names of two files.
+type Parts<'a> = (&'a str, &'a str, &'a str, &'a str, &'a str);
+
+/// What stands in a text before its first colon, and what stands behind it.
+fn cut<'a>(text: &'a str) -> Option<(&'a str, &'a str)>
+    ensures { (xs ys : List ℕ) → HasNoColon xs → text.now ≡ parted xs ys → IsSomeAnd result (λ halves. (halves.0.now ≡ xs) × (halves.1.now ≡ ys)) }
+{
+    text.split_once(':')
+}
+
+/// The five parts of a word between its first four colons, if it has so many.
+fn parts<'a>(word: &'a str) -> Option<Parts<'a>>
+    ensures { (v : AVolume) → Spells word.now v → IsSomeAnd result (ArePartsOf v) }
+{
+    let (slot, rest) = cut(word)?;
+    let (log_bytes, rest) = cut(rest)?;
+    let (blocks, rest) = cut(rest)?;
+    let (home, log) = cut(rest)?;
+    Some((slot, log_bytes, blocks, home, log))
+}
+
+/// The slot that a word spells, loosely: a sign and leading zeros are let through.
+fn slot_of(word: &str) -> Option<Slot>
+    ensures { (n : ℕ) → n < SLOTS → word.now ≡ decimal n → result ≡ Some n }
+{
+    let index: u8 = word.parse().ok()?;
+    Slot::new(index)
+}
+
+/// The bytes of a log that a word spells, loosely.
+fn log_bytes_of(word: &str) -> Option<u32>
+    ensures { (n : ℕ) → n < 2 ^ 32 → word.now ≡ decimal n → result ≡ Some n }
+{
+    word.parse().ok()
+}
+
+/// The blocks that a word spells, loosely.
+fn blocks_of(word: &str) -> Option<u64>
+    ensures { (n : ℕ) → n < 2 ^ 64 → word.now ≡ decimal n → result ≡ Some n }
+{
+    word.parse().ok()
+}
+
+/// The numbers that three words spell, loosely.
+fn numbers(slot: &str, log_bytes: &str, blocks: &str) -> Option<(Slot, u32, u64)>
+    ensures { (s l b : ℕ) → s < SLOTS → l < 2 ^ 32 → b < 2 ^ 64 → slot.now ≡ decimal s → log_bytes.now ≡ decimal l → blocks.now ≡ decimal b → result ≡ Some (s, l, b) }
+{
+    let slot = slot_of(slot)?;
+    let log_bytes = log_bytes_of(log_bytes)?;
+    let blocks = blocks_of(blocks)?;
+    Some((slot, log_bytes, blocks))
+}
+
+/// Whether a word may be the name of a file here: no colon may stand in it.
+fn is_file_name(name: &str) -> bool
+    ensures { IsTrue result ↔ IsFileName name.now }
+{
+    !name.is_empty() && !name.contains(':')
+}
+
+impl Volume {
+    /// The volume that a word spells, `SLOT:LOGBYTES:BLOCKS:HOMEFILE:LOGFILE`, with the numbers as in the line `mount`; None where it spells
+    /// none. The one error is want of memory.
+    fn read(alloc: Global, word: &str) -> Result<Option<Self>, AllocError>
+        ensures spelled { IfOk result (λ found. IfSome found (Spells word.now)) }
+        ensures none { result ≡ Ok None → SpellsNone word.now }
+    {
+        let Some((slot, log_bytes, blocks, home, log)) = parts(word) else {
+            return Ok(None);
+        };
+        if !is_file_name(home) || !is_file_name(log) {
+            return Ok(None);
+        }
+        let Some((slot, log_bytes, blocks)) = numbers(slot, log_bytes, blocks) else {
+            return Ok(None);
+        };
+        let volume = Volume {
+            slot,
+            log_bytes,
+            blocks,
+            home: String::from_str(alloc, home)?,
+            log: String::from_str(alloc, log)?,
+        };
+        let spelled = volume.word(alloc)?;
+        if spelled.as_str() != word {
+            return Ok(None);
+        }
+        Ok(Some(volume))
+    }
+
+    /// The volume that a word spells, or the fault that it spells none.
+    fn parse(alloc: Global, word: &str) -> Result<Self, VolumeFault>
+        ensures spelled { IfOk result (Spells word.now) }
+        ensures bad { IsErrOf result BadWord → SpellsNone word.now }
+    {
+        match Volume::read(alloc, word) {
+            Ok(Some(volume)) => Ok(volume),
+            Ok(None) => Err(VolumeFault::Word),
+            Err(refused) => Err(VolumeFault::Memory(refused)),
+        }
+    }
+
+    /// The one word that spells it.
+    fn word(&self, alloc: Global) -> Result<String, AllocError>
+        ensures { IfOk result (λ word. string_bytes word ≡ spelled self.now) }
+    {
+        let index = self.slot.index();
+        let (log_bytes, blocks) = (self.log_bytes, self.blocks);
+        let (home, log) = (self.home.as_str(), self.log.as_str());
+        format!(in alloc; "{index}:{log_bytes}:{blocks}:{home}:{log}")
+    }
+
+    /// Whether a mount of its sizes is not refused.
+    fn has_sizes(&self) -> bool
+        ensures { IsTrue result ↔ HasSizes self.now }
+    {
+        self.log_bytes >= LEAST_LOG
+            && self.log_bytes <= MOST_LOG
+            && self.blocks >= 1
+            && self.blocks <= MOST_BLOCKS
+    }
+}
+
+/// How many of some volumes stand before the place of a slot.
+fn place(volumes: &[Volume], slot: Slot) -> usize
+    ensures value { result ≡ place_of slot volumes.now }
+    ensures range { result ≤ length volumes.now }
+{
+    volumes
+        .iter()
+        .take_while(|volume| volume.slot.index() < slot.index())
+        .count()
+}
+
+/// Why a volume can't be mounted beside the one that stands at its place, if it can't.
+fn refused(volume: &Volume, there: Option<&Volume>) -> Result<(), VolumeFault>
+    ensures good { IsErrOf result BadWord → ⊥ }
+    ensures sizes { OnOk result (HasSizes volume.now) }
+    ensures apart { OnOk result (IfSome there.entry (λ other. other.now.slot ≢ volume.now.slot)) }
+{
+    if !volume.has_sizes() {
+        return Err(VolumeFault::Slot(volume.slot, Errno::Invalid));
+    }
+    match there {
+        Some(other) if other.slot == volume.slot => {
+            Err(VolumeFault::Slot(volume.slot, Errno::Busy))
+        }
+        _ => Ok(()),
+    }
+}
+
+/// Puts a volume at its place among others that ascend by slot, unless it can't be mounted beside them.
+fn add(volumes: &mut Vec<Volume>, volume: Volume) -> Result<(), VolumeFault>
+    requires ascending { AreAscending volumes.old.items }
+    ensures good { IsErrOf result BadWord → ⊥ }
+    ensures sizes { OnOk result (HasSizes volume) }
+    ensures ascending { OnOk result (AreAscending volumes.new.items) }
+    ensures len { OnOk result (vec_len volumes.new ≡ vec_len volumes.old + 1) }
+    ensures added { OnOk result (volumes.new.items ≡ insert volumes.old.items (place_of volume.slot volumes.old.items) volume) }
+{
+    let place = place(volumes, volume.slot);
+    refused(&volume, volumes.get(place))?;
+    let Ok(()) = volumes.insert(place, volume) else {
+        return Err(VolumeFault::Memory(AllocError));
+    };
+    Ok(())
+}
+
+/// The volumes that words spell, in the order of the words.
+fn parse_all(alloc: Global, words: &[&str]) -> Result<Vec<Volume>, VolumeFault>
+    ensures named { IfOk result (λ spelled. All (IsNamed words.now) spelled.items) }
+    ensures count { IfOk result (λ spelled. vec_len spelled ≡ length words.now) }
+    ensures bad { IsErrOf result BadWord → HasBadWord words.now }
+{
+    let mut spelled = Vec::new(alloc);
+    for word in words {
+        let volume = Volume::parse(alloc, word)?;
+        let Ok(()) = spelled.push(volume) else {
+            return Err(VolumeFault::Memory(AllocError));
+        };
+    }
+    Ok(spelled)
+}
+
+/// The volumes that words spell, ascending by slot: no slot is there twice, and each has sizes that a mount may have. A word that spells
+/// none is told before all else, and then the first volume that can't be mounted beside those before it.
+pub fn volumes(alloc: Global, words: &[&str]) -> Result<Vec<Volume>, VolumeFault>
+    ensures named { IfOk result (λ volumes. All (IsNamed words.now) volumes.items) }
+    ensures count { IfOk result (λ volumes. vec_len volumes ≡ length words.now) }
+    ensures sizes { IfOk result (λ volumes. All HasSizes volumes.items) }
+    ensures ascending { IfOk result (λ volumes. AreAscending volumes.items) }
+    ensures bad { IsErrOf result BadWord → HasBadWord words.now }
+{
+    let mut volumes = Vec::new(alloc);
+    for volume in parse_all(alloc, words)? {
+        add(&mut volumes, volume)?;
+    }
+    Ok(volumes)
+}
