@@ -12,8 +12,11 @@ use Rattle.xt_recover.proofs.LaidLemmas.{IsGoodSet, IsWellLaid, chunk_laid, gath
 use Rattle.xt_recover.proofs.ReadLemmas.{length_bytes}
 use Rattle.xt_recover.proofs.SaidLemmas.{chunk_found}
 use Rattle.xt_recover.specs.Gathering.{IsGathered}
-use Rattle.xt_recover.specs.Overlaid.{Overlaid, nothing, overlaid_chunk}
-use Rattle.xt_recover.specs.Recovering.{AreAnswered, TellsRecovered, with_block}
+use Rattle.xt_recover.specs.Overlaid.{Overlaid, nothing, overlaid_chunk, with_texts}
+use Rattle.xt_recover.specs.Reading.{HasTexts}
+use Rattle.xt_recover.specs.Recovering.{AreAnswered, IsCounted, TellsRecovered, with_block}
+use Rattle.xt_recover.specs.declared.gather.LogCounts.{LogCounts}
+use Rattle.xt_recover.specs.declared.recovering.Recovered.{Recovered}
 use Rattle.xt_recover.specs.Writing.{AreWritten, TellsWritten, chunks_at, merged}
 use Rattle.xt_recovery.proofs.LogLemmas.{first_if, second_if}
 use Rattle.xt_recovery.specs.Log.{Image}
@@ -74,8 +77,8 @@ says_at l b k (Some v) old is h =
     sym (by_found (has (chunks_at l b) k) (chunk v k) old) ∙ sym (ap (λ o. unwrap_or (if has (chunks_at l b) k then Some (chunk (unwrap_or o (zeros 4096)) k) else None) old) is)
 
 -- what was gathered of a log and written over a device
-pub recovered_tells : (log : List ℕ) (l : Overlaid) (told tell : Bool) (before after : List HomeCall) → IsGathered log nothing l → TellsWritten l told before tell after → TellsRecovered log told before tell after
-recovered_tells log l told tell before after gathered written =
+pub recovered_tells : (log : List ℕ) (counts : LogCounts) (l : Overlaid) (told tell : Bool) (before after : List HomeCall) → IsGathered log counts nothing l → TellsWritten l told before tell after → TellsRecovered log told before tell after
+recovered_tells log counts l told tell before after gathered written =
     let kept : IsWellLaid l = subst IsWellLaid (sym gathered.laid) (gathered_kept log gathered.texts gathered.read) in
     record {
       texts = gathered.texts;
@@ -88,5 +91,14 @@ recovered_tells log l told tell before after gathered written =
           ∙ ap (λ m. unwrap_or (overlaid_chunk m b k) (old b k)) gathered.laid ∙ ap (λ o. unwrap_or o (old b k)) (gathered_says log gathered.texts b k gathered.read less);
     }
 
-pub recovered_from : (log : List ℕ) (first l : Overlaid) (told tell : Bool) (before after : List HomeCall) → first ≡ nothing → IsGathered log first l → TellsWritten l told before tell after → TellsRecovered log told before tell after
-recovered_from log first l told tell before after is gathered written = recovered_tells log l told tell before after (subst (λ f. IsGathered log f l) is gathered) written
+pub recovered_from : (log : List ℕ) (counts : LogCounts) (first l : Overlaid) (told tell : Bool) (before after : List HomeCall) → first ≡ nothing → IsGathered log counts first l → TellsWritten l told before tell after → TellsRecovered log told before tell after
+recovered_from log counts first l told tell before after is gathered written = recovered_tells log counts l told tell before after (subst (λ f. IsGathered log counts f l) is gathered) written
+
+-- and how much that was
+pub counted_from : (log : List ℕ) (counts : LogCounts) (first l : Overlaid) (found : Recovered) → first ≡ nothing → IsGathered log counts first l → found.texts ≡ counts.texts → found.blocks ≡ length l.contents → found.rest ≡ counts.rest → IsCounted log found
+counted_from log counts first l found is gathered texts blocks rest = record {
+  texts = gathered.texts;
+  parts = subst (HasTexts log gathered.texts) (sym rest) gathered.parts;
+  count = texts ∙ gathered.count;
+  blocks = blocks ∙ ap (λ m. length m.contents) gathered.laid ∙ ap (λ m. length (with_texts gathered.texts m).contents) is;
+}

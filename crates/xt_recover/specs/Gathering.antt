@@ -1,8 +1,11 @@
 -- What was gathered of a log.
-use Rattle.std.specs.Prelude.{List, length, take, ℕ, ◌≡◌, ◌≤◌}
+use Rattle.std.specs.Prelude.{List, length, take, ℕ, ◌+◌, ◌≡◌, ◌≤◌}
+use Rattle.xt_ckpt.specs.Fields.{IsFaultAt}
 use Rattle.xt_ckpt.specs.Grammar.{Entry, IsText}
-use Rattle.xt_recover.specs.Reading.{ReadsAs}
+use Rattle.xt_recover.specs.Reading.{HasTexts, IsBrokenAt, ReadsAs}
 use Rattle.xt_recover.specs.Overlaid.{Overlaid, with_items, with_texts}
+use Rattle.xt_recover.specs.declared.gather.LogCounts.{LogCounts}
+use Rattle.xt_recover.specs.declared.gather.LogFault.{LogFault}
 
 -- the first bytes are a text, whose items were laid
 pub record IsTextLaid (len : ℕ) (input : List ℕ) (old new : Overlaid) : Type 0 where
@@ -12,8 +15,20 @@ pub record IsTextLaid (len : ℕ) (input : List ℕ) (old new : Overlaid) : Type
   pub text : IsText (take len input) number items
   pub laid : new ≡ with_items items old
 
--- the log is read as these texts, which were laid one after another
-pub record IsGathered (log : List ℕ) (old new : Overlaid) : Type 0 where
+-- the log is read as these texts, which were laid one after another, and counted
+pub record IsGathered (log : List ℕ) (counts : LogCounts) (old new : Overlaid) : Type 0 where
   pub texts : List (List Entry)
   pub read : ReadsAs log texts
+  pub parts : HasTexts log texts counts.rest
+  pub count : counts.texts ≡ length texts
   pub laid : new ≡ with_texts texts old
+
+-- why no text was laid at an offset of a log: a field of the input there breaks its rule; of want of memory, and of a reader, nothing is said
+abbrev pub IsWhyText : ℕ → List ℕ → LogFault → Type 0
+IsWhyText at input (LogFault.Broken offset) = (inside : ℕ) × IsFaultAt inside input × (offset ≡ at + inside)
+IsWhyText at input other = Unit {0}
+
+-- why a log was not gathered: the field at the offset that is told breaks its rule; of want of memory, and of a reader, nothing is said
+abbrev pub IsWhyLog : List ℕ → LogFault → Type 0
+IsWhyLog log (LogFault.Broken offset) = IsBrokenAt offset log
+IsWhyLog log other = Unit {0}

@@ -1,9 +1,34 @@
 -- What is read of the bytes of a log.
-use Rattle.std.specs.Prelude.{List, [], ℕ, ◌++◌, ◌∷◌, ◌≡◌}
-use Rattle.xt_ckpt.specs.Fields.{IsUnfinished}
+use Rattle.std.specs.Prelude.{List, [], length, ℕ, ◌++◌, ◌+◌, ◌∷◌, ◌≡◌}
+use Rattle.xt_ckpt.specs.Fields.{IsFaultAt, IsUnfinished}
 use Rattle.xt_ckpt.specs.Grammar.{Entry, IsText}
 
 -- a log is read as these texts, the oldest first, and an unfinished end, empty where it ends with a text
 abbrev pub ReadsAs : List ℕ → List (List Entry) → Type 0
 ReadsAs bytes [] = IsUnfinished bytes
 ReadsAs bytes (t ∷ ts) = (text more : List ℕ) × (number : ℕ) × IsText text number t × (bytes ≡ text ++ more) × ReadsAs more ts
+
+-- bytes that are these texts, one behind another, and nothing else
+abbrev pub AreTexts : List ℕ → List (List Entry) → Type 0
+AreTexts bytes [] = bytes ≡ []
+AreTexts bytes (t ∷ ts) = (text more : List ℕ) × (number : ℕ) × IsText text number t × (bytes ≡ text ++ more) × AreTexts more ts
+
+-- a log is these texts, and so many bytes behind them, which are an unfinished end
+pub record HasTexts (log : List ℕ) (texts : List (List Entry)) (rest : ℕ) : Type 0 where
+  pub front : List ℕ
+  pub behind : List ℕ
+  pub parts : log ≡ front ++ behind
+  pub whole : AreTexts front texts
+  pub unfinished : IsUnfinished behind
+  pub count : rest ≡ length behind
+
+-- a log is some texts, and behind them the field at this offset of the log is all there and breaks its rule, the first that does
+pub record IsBrokenAt (offset : ℕ) (log : List ℕ) : Type 0 where
+  pub texts : List (List Entry)
+  pub front : List ℕ
+  pub behind : List ℕ
+  pub parts : log ≡ front ++ behind
+  pub whole : AreTexts front texts
+  pub inside : ℕ
+  pub broken : IsFaultAt inside behind
+  pub place : offset ≡ length front + inside

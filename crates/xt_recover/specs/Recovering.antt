@@ -1,13 +1,17 @@
 -- What recovery does to a home device, and to the image that it stands for.
-use Rattle.std.specs.Prelude.{Bool, false, List, None, Some, [], if◌then◌else◌, reverse, true, ℕ, ◌++◌, ◌<◌, ◌==◌, ◌∷◌, ◌≡◌}
+use Rattle.std.specs.Prelude.{Bool, false, List, None, Some, [], if◌then◌else◌, length, reverse, true, ℕ, ◌++◌, ◌<◌, ◌==◌, ◌∷◌, ◌≡◌}
 use Rattle.xt_base.specs.Text.{chunk}
 use Rattle.xt_base.specs.declared.steps.HomeOffer.{HomeOffer}
 use Rattle.xt_ckpt.specs.Grammar.{Entry}
 use Rattle.xt_dev.specs.Devices.{Tells}
 use Rattle.xt_dev.specs.declared.call.HomeCall.{HomeCall}
-use Rattle.xt_recover.specs.Reading.{ReadsAs}
+use Rattle.xt_recover.specs.Gathering.{IsWhyLog}
+use Rattle.xt_recover.specs.Overlaid.{nothing, with_texts}
+use Rattle.xt_recover.specs.Reading.{HasTexts, ReadsAs}
 use Rattle.xt_recover.specs.Replay.{replayed_image}
+use Rattle.xt_recover.specs.declared.gather.LogFault.{LogFault}
 use Rattle.xt_recover.specs.declared.recovering.RecoverFault.{RecoverFault}
+use Rattle.xt_recover.specs.declared.recovering.Recovered.{Recovered}
 use Rattle.xt_recovery.specs.DiskSteps.{Agree}
 use Rattle.xt_recovery.specs.Log.{Image}
 
@@ -36,3 +40,20 @@ pub record TellsRecovered (log : List ℕ) (told : Bool) (before : List HomeCall
 abbrev pub is_log_fault : RecoverFault → Bool
 is_log_fault (RecoverFault.Log fault) = true
 is_log_fault (RecoverFault.Home fault) = false
+
+-- how much was recovered of a log: its texts; the blocks that stand there once they are laid one over another; and the bytes behind them
+pub record IsCounted (log : List ℕ) (found : Recovered) : Type 0 where
+  pub texts : List (List Entry)
+  pub parts : HasTexts log texts found.rest
+  pub count : found.texts ≡ length texts
+  pub blocks : found.blocks ≡ length (with_texts texts nothing).contents
+
+-- why a log was not recovered: the field at the offset that is told breaks its rule; of other faults nothing is said
+abbrev pub IsWhy : List ℕ → RecoverFault → Type 0
+IsWhy log (RecoverFault.Log fault) = IsWhyLog log fault
+IsWhy log (RecoverFault.Home fault) = Unit {0}
+
+-- whether a fault tells of a field
+abbrev pub is_broken : LogFault → Bool
+is_broken (LogFault.Broken offset) = true
+is_broken other = false

@@ -1,11 +1,12 @@
 //! The texts of a log, gathered.
 
-ghost use Rattle.std.specs.Prelude.{◌≡◌, ◌<◌, ◌≤◌, ◌+◌, All, IfOk, IfSome, IsNone, OnOk, drop, length};
+ghost use Rattle.std.specs.Prelude.{◌≡◌, ◌<◌, ◌≤◌, ◌+◌, All, IfErr, IfOk, IfSome, IsNone, OnOk, drop, length};
 ghost use Rattle.xt_ckpt.specs.Fields.{IsUnfinished};
-ghost use Rattle.xt_recover.specs.Gathering.{IsGathered, IsTextLaid};
 ghost use Rattle.xt_ckpt.specs.Grammar.{entries};
 ghost use Rattle.xt_ckpt.specs.Items.{HasForm};
+ghost use Rattle.xt_recover.specs.Gathering.{IsGathered, IsTextLaid, IsWhyLog, IsWhyText};
 ghost use Rattle.xt_recover.specs.Overlaid.{overlaid, with_items};
+ghost use Rattle.xt_recover.specs.declared.gather.LogFault.TheVariants.{Memory};
 
 use crate::overlay::Overlay;
 use std::alloc::{AllocError, Global};
@@ -17,24 +18,36 @@ use xt_ckpt::{Checkpoint, ReadFault, Rooms, read_checkpoint_into};
 pub enum LogFault {
     /// The field at this offset of the log breaks its rule. No crash leaves such a log.
     #[error("fault {0}")]
-    Broken(usize),
+    Broken(u64),
     /// Memory was refused.
     #[error("out of memory")]
     Memory,
+    /// The reader failed.
+    #[error("the log could not be read")]
+    Read,
 }
 
-/// Gathers the texts of a log, from the first on, up to bytes that are no text yet, as a crash leaves them: answers how
-/// many bytes the texts have.
-pub fn gather(alloc: Global, log: &[u8], overlay: &mut Overlay) -> Result<usize, LogFault>
-    ensures gathered { OnOk result (IsGathered log.now (overlaid overlay.old) (overlaid overlay.new)) }
-    ensures within { IfOk result (λ len. len ≤ length log.now) }
+/// How many texts a log has, and how many bytes behind them, which are no text yet.
+#[derive(Clone, Copy, Debug, PartialEq, Eq)]
+pub struct LogCounts {
+    pub texts: u64,
+    pub rest: u64,
+}
+
+/// Gathers the texts of a log, from the first on, up to bytes that are no text yet, as a crash leaves them.
+pub fn gather(alloc: Global, log: &[u8], overlay: &mut Overlay) -> Result<LogCounts, LogFault>
+    ensures gathered { IfOk result (λ counts. IsGathered log.now counts (overlaid overlay.old) (overlaid overlay.new)) }
+    ensures why { IfErr result (λ fault. IsWhyLog log.now fault) }
 {
     let mut rooms = Rooms::new(alloc);
     let mut at = 0;
+    let mut texts = 0u64;
     while let Some(len) = take_text(&mut rooms, log, at, overlay)? {
         at += len;
+        texts += 1;
     }
-    Ok(at)
+    let rest = (log.len() - at) as u64;
+    Ok(LogCounts { texts, rest })
 }
 
 /// Lays the text at an offset of the log, and answers how many bytes it has; None where it is no text yet.
@@ -50,6 +63,7 @@ fn take_text(
     ensures within { IfOk result (λ found. IfSome found (λ len. at + len ≤ length log.now)) }
     ensures end { IfOk result (λ found. IsNone found → IsUnfinished (drop at log.now)) }
     ensures same { IfOk result (λ found. IsNone found → overlaid overlay.new ≡ overlaid overlay.old) }
+    ensures why { IfErr result (λ fault. IsWhyText at (drop at log.now) fault) }
 {
     match read_checkpoint_into(rooms, &log[at..]) {
         Ok(Some((checkpoint, len))) => {
@@ -58,15 +72,16 @@ fn take_text(
             Ok(Some(len))
         }
         Ok(None) => Ok(None),
-        Err(ReadFault::Ckpt(fault)) => Err(LogFault::Broken(at.saturating_add(fault.at))),
+        Err(ReadFault::Ckpt(fault)) => Err(LogFault::Broken((at + fault.at) as u64)),
         Err(ReadFault::Memory) => Err(LogFault::Memory),
     }
 }
 
-/// Lays the items of a checkpoint.
+/// Lays the items of a checkpoint. The one fault is want of memory.
 fn lay_text(overlay: &mut Overlay, checkpoint: &Checkpoint) -> Result<(), LogFault>
     requires form { All HasForm checkpoint.now.items.items }
-    ensures { OnOk result (overlaid overlay.new ≡ with_items (entries checkpoint.now.items.items) (overlaid overlay.old)) }
+    ensures laid { OnOk result (overlaid overlay.new ≡ with_items (entries checkpoint.now.items.items) (overlaid overlay.old)) }
+    ensures why { IfErr result (λ fault. fault ≡ Memory) }
 {
     match overlay.lay(&checkpoint.items) {
         Ok(()) => Ok(()),

@@ -1,6 +1,6 @@
 //! What the texts of a log say, gathered block by block.
 
-ghost use Rattle.std.specs.Prelude.{◌≡◌, [], All, IfOk, OnOk, unwrap_or};
+ghost use Rattle.std.specs.Prelude.{◌≡◌, [], All, IfOk, OnOk, length, unwrap_or};
 ghost use Rattle.xt_base.specs.Maps.{at, put, without};
 ghost use Rattle.xt_base.specs.Text.{content_at};
 ghost use Rattle.xt_base.specs.declared.sizes.TheConstants.{BLOCK_BYTES};
@@ -35,6 +35,13 @@ impl Overlay {
             chunks: BTreeMap::new(alloc),
             contents: BTreeMap::new(alloc),
         }
+    }
+
+    /// How many blocks it has.
+    pub(crate) fn blocks(&self) -> u64
+        ensures { result ≡ length (overlaid self.now).contents }
+    {
+        self.contents.len() as u64
     }
 
     /// Lays the items of a text over what older texts said. After want of memory it is of no use.

@@ -6,7 +6,8 @@ use Rattle.xt_recover.proofs.gather.gather.Given as goal
 abbrev pub invariant-loop-rooms : goal.invariant-loop-rooms
 invariant-loop-rooms l = record {
   within : l.at ≤ length l.log;
-  far : IsSoFar l.log l.at (overlaid l.fn.overlay) (overlaid l.overlay);
+  few : l.texts ≤ l.at;
+  far : IsSoFar l.log l.at l.texts (overlaid l.fn.overlay) (overlaid l.overlay);
 }
 
 abbrev pub decreases-loop-rooms : goal.decreases-loop-rooms
