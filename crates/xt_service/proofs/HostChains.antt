@@ -9,12 +9,12 @@ use Rattle.xt_cell.specs.declared.mount_ref.MountRef.{MountRef}
 use Rattle.xt_service.specs.Holding.{holds}
 use Rattle.xt_service.specs.HostCalls.{Answers, Ends, GaveBack, GaveBack.more, GaveBack.none, IsCalled, IsShown, IsTold, SessionView, forgotten}
 use Rattle.xt_service.proofs.SeatLemmas.{used_both, used_none, used_served}
-use Rattle.xt_service.proofs.SessionMaps.{by_part, ends_part, session_part}
+use Rattle.xt_session.proofs.SessionMaps.{by_part, ends_part, session_part}
 use Rattle.xt_service.specs.HostSession.{IsHostSession, new_session}
 use Rattle.xt_service.specs.Seats.{IsUsed}
-use Rattle.xt_service.specs.Session.{Answered, Answered.asked, Answered.bad, Answered.starved, IsSession, Ran, Says, Says.more as line_more, Says.none as line_none}
-use Rattle.xt_service.specs.declared.session_end.SessionEnd.{SessionEnd}
-use Rattle.xt_service.specs.declared.session_end.SessionEnd.TheVariants.{End, Memory, ReadFault, TooLong, WriteFault}
+use Rattle.xt_session.specs.Session.{Answered, Answered.asked, Answered.bad, Answered.starved, IsSession, Ran, Says, Says.more as line_more, Says.none as line_none}
+use Rattle.xt_session.specs.declared.session_end.SessionEnd.{SessionEnd}
+use Rattle.xt_session.specs.declared.session_end.SessionEnd.TheVariants.{End, Memory, ReadFault, TooLong, WriteFault}
 
 told_used : (at : MountRef) (request : Request) (reply : Reply) (old new : HostSeatView) → IsTold at request reply old new → IsUsed old new
 told_used at request reply old new h =

@@ -1,15 +1,8 @@
-pub mod AnswerLemmas
 pub mod Captures
-pub mod ChainLemmas
-pub mod CutLemmas
 pub mod HostChains
 pub mod HostCrossing
 pub mod HostLemmas
-pub mod IntakeLemmas
-pub mod Loops
 pub mod SeatLemmas
-pub mod SessionMaps
 pub mod SplitLemmas
-pub mod StreamLemmas
 pub mod TableLemmas
 pub mod UnmountLemmas

@@ -2,8 +2,8 @@
 use Rattle.std.specs.Prelude.{List, Option, [], ℕ, ◌≡◌}
 use Rattle.xt_cell.specs.HostSeats.{HostSeatView}
 use Rattle.xt_service.specs.HostCalls.{Answers, Ends, SessionView}
-use Rattle.xt_service.specs.Session.{IsSession}
-use Rattle.xt_service.specs.declared.session_end.SessionEnd.{SessionEnd}
+use Rattle.xt_session.specs.Session.{IsSession}
+use Rattle.xt_session.specs.declared.session_end.SessionEnd.{SessionEnd}
 
 -- a session that holds nothing yet
 abbrev pub new_session : HostSeatView → SessionView

@@ -1,9 +1,5 @@
-pub mod Cut
 pub mod Holding
 pub mod HostCalls
 pub mod HostSession
-pub mod Intake
 pub mod Names
 pub mod Seats
-pub mod Session
-pub mod Turns

@@ -4,7 +4,6 @@ ghost use Rattle.std.specs.Prelude.{◌≡◌, [], false};
 ghost use Rattle.xt_base.specs.Calls.{is_unmount};
 ghost use Rattle.xt_service.specs.HostCalls.{Answers, Ends, IsCalled};
 
-use crate::calls::Calls;
 use crate::holding::Holding;
 use std::alloc::Global;
 use std::sync::Wait;
@@ -14,6 +13,7 @@ use xt_cell::mount_ref::MountRef;
 use xt_cell::seat::HostSeat;
 use xt_host::desk::{Desk, Slots};
 use xt_host::host::Host;
+use xt_session::calls::Calls;
 use xt_text::line::Line;
 
 /// What answers the lines of one session over a host that others use too: it has a seat of its own, and the names of the

@@ -5,8 +5,6 @@ ghost use Rattle.xt_service.specs.HostSession.{IsHostSession};
 ghost use Rattle.xt_service.specs.Seats.{IsUsed};
 
 use crate::host_calls::HostCalls;
-use crate::session::session;
-use crate::session_end::SessionEnd;
 use std::alloc::Global;
 use std::io::{Read, Write};
 use std::sync::Wait;
@@ -14,6 +12,8 @@ use xt_cell::house::House;
 use xt_cell::seat::HostSeat;
 use xt_host::desk::Desk;
 use xt_host::host::Host;
+use xt_session::session::session;
+use xt_session::session_end::SessionEnd;
 
 /// Serves one session over a host, from its first line to its end: how it ended, and its seat, which holds nothing and may serve
 /// another session, or be handed to the end of the host.

@@ -6,7 +6,7 @@ ghost use Rattle.std.specs.Arc.{arc_value};
 ghost use Rattle.std.specs.Option.{ForSome};
 ghost use Rattle.xt_service.specs.HostSession.{IsHostSession};
 ghost use Rattle.xt_service.specs.declared.ended.TheConstants.{PLACES};
-ghost use Rattle.xt_service.specs.declared.session_end.SessionEnd.{SessionEnd as AnEnd};
+ghost use Rattle.xt_session.specs.declared.session_end.SessionEnd.{SessionEnd as AnEnd};
 
 use crate::ended::{Ended, PLACES};
 use crate::host_session::host_session;

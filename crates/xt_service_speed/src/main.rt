@@ -12,8 +12,8 @@ use std::env;
 use std::io::{self, Write};
 use std::time::{Clock, Instant};
 use xt_base::steps::Reply;
-use xt_service::calls::Calls;
-use xt_service::session::session;
+use xt_session::calls::Calls;
+use xt_session::session::session;
 use xt_text::line::Line;
 
 /// The lines that are sent, by their kind.

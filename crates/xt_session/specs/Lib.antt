@@ -1,0 +1,4 @@
+pub mod Cut
+pub mod Intake
+pub mod Session
+pub mod Turns
