@@ -85,10 +85,6 @@ so_far_why log at count old now (LogFault.Broken offset) so why = record {
 so_far_why log at count old now LogFault.Memory so why = tt
 so_far_why log at count old now LogFault.Read so why = tt
 
--- a field that breaks its rule begins within what is read
-pub fault_within : (input : List ℕ) (inside : ℕ) → IsFaultAt inside input → inside < length input
-fault_within input inside is = omega (arith, is.place, ap (λ t. length t) is.parts, length-append (is.front ++ is.bytes) is.rest, length-append is.front is.bytes, is.more, is.whole)
-
 -- ---- items as they are read
 form_item : (here : List ℕ) (item : Item) → IsItem here (entry item) → HasForm item
 form_item here item is = (read_entry here (entry item) is).form

@@ -1,7 +1,7 @@
 -- What was written over a home device makes of its image what the texts say.
 use Rattle.std.proofs.Common.{◌≡◌, ◌∙◌, ◌<◌, ◌∷◌, Bool, List, None, Option, Some, [], ap, arith, false, inl, inr, length, refl, subst, suc, sym, true, ℕ}
 use Rattle.std.proofs.lemmas.Bool.{cases_eq, eq-eqb, false≢true, ne_eqb}
-use Rattle.std.specs.Prelude.{if◌then◌else◌, unwrap_or, ◌==◌}
+use Rattle.std.specs.Prelude.{IfSome, if◌then◌else◌, unwrap_or, ◌==◌}
 use Rattle.xt_base.proofs.MapLemmas.{at_first, at_later, some_none}
 use Rattle.xt_base.proofs.RisingLemmas.{none_below}
 use Rattle.xt_base.specs.Maps.{at, has}
@@ -11,13 +11,16 @@ use Rattle.xt_dev.specs.declared.call.HomeCall.{HomeCall}
 use Rattle.xt_recover.proofs.LaidLemmas.{IsGoodSet, IsWellLaid, chunk_laid, gathered_kept, gathered_says}
 use Rattle.xt_recover.proofs.ReadLemmas.{length_bytes}
 use Rattle.xt_recover.proofs.SaidLemmas.{chunk_found}
-use Rattle.xt_recover.specs.Gathering.{IsGathered}
+use Rattle.xt_recover.specs.Gathering.{IsGathered, IsWhyLog}
 use Rattle.xt_recover.specs.Overlaid.{Overlaid, nothing, overlaid_chunk, with_texts}
-use Rattle.xt_recover.specs.Reading.{HasTexts}
-use Rattle.xt_recover.specs.Recovering.{AreAnswered, IsCounted, TellsRecovered, with_block}
+use Rattle.xt_recover.specs.Recovering.{AreAnswered, IsCounted, IsWhy, TellsRecovered, with_block}
 use Rattle.xt_recover.specs.declared.gather.LogCounts.{LogCounts}
-use Rattle.xt_recover.specs.declared.recovering.Recovered.{Recovered}
-use Rattle.xt_recover.specs.Writing.{AreWritten, TellsWritten, chunks_at, merged}
+use Rattle.xt_recover.specs.declared.gather.LogFault.{LogFault}
+use Rattle.xt_recover.specs.declared.recovering.RecoverFault.{RecoverFault}
+use Rattle.xt_recover.specs.declared.writing.WriteFault.{WriteFault}
+use Rattle.xt_recover.specs.Writing.{AreWritten, TellsWritten, chunks_at}
+use Rattle.xt_recover.specs.Chunks.{merged}
+use Rattle.xt_recover.proofs.PlaceLemmas.{merged_is}
 use Rattle.xt_recovery.proofs.LogLemmas.{first_if, second_if}
 use Rattle.xt_recovery.specs.Log.{Image}
 
@@ -28,7 +31,7 @@ by_found false v w = refl
 
 pub chunk_merged : (set new old : List ℕ) (k : ℕ) → IsGoodSet set → length new ≡ 4096 → length old ≡ 4096 → k < 32 → chunk (merged set new old) k ≡ (if has set k then chunk new k else chunk old k)
 chunk_merged set new old k good new_whole old_whole less =
-    (chunk_laid set (chunk_bytes new set) old k good.once good.small (length_bytes new set new_whole good.small) old_whole less).0
+    ap (λ xs. chunk xs k) (merged_is set new old new_whole good.small) ∙ (chunk_laid set (chunk_bytes new set) old k good.once good.small (length_bytes new set new_whole good.small) old_whole less).0
     ∙ ap (λ o. unwrap_or o (chunk old k)) (chunk_found new set k new_whole good.small) ∙ by_found (has set k) (chunk new k) (chunk old k)
 
 good_of : (l : Overlaid) (b : ℕ) (o : Option (List ℕ)) → at b l.chunks ≡ o → IsWellLaid l → IsGoodSet (unwrap_or o [])
@@ -94,11 +97,26 @@ recovered_tells log counts l told tell before after gathered written =
 pub recovered_from : (log : List ℕ) (counts : LogCounts) (first l : Overlaid) (told tell : Bool) (before after : List HomeCall) → first ≡ nothing → IsGathered log counts first l → TellsWritten l told before tell after → TellsRecovered log told before tell after
 recovered_from log counts first l told tell before after is gathered written = recovered_tells log counts l told tell before after (subst (λ f. IsGathered log counts f l) is gathered) written
 
--- and how much that was
-pub counted_from : (log : List ℕ) (counts : LogCounts) (first l : Overlaid) (found : Recovered) → first ≡ nothing → IsGathered log counts first l → found.texts ≡ counts.texts → found.blocks ≡ length l.contents → found.rest ≡ counts.rest → IsCounted log found
-counted_from log counts first l found is gathered texts blocks rest = record {
+-- ---- a log that is known, or not
+pub recovered_known : (had : Option (List ℕ)) (counts : LogCounts) (first l : Overlaid) (told tell : Bool) (before after : List HomeCall) → first ≡ nothing → IfSome had (λ log. IsGathered log counts first l) → TellsWritten l told before tell after → IfSome had (λ log. TellsRecovered log told before tell after)
+recovered_known None counts first l told tell before after is gathered written = tt
+recovered_known (Some log) counts first l told tell before after is gathered written = recovered_from log counts first l told tell before after is gathered written
+
+-- how much that was
+pub counted_known : (had : Option (List ℕ)) (counts : LogCounts) (first l : Overlaid) (blocks : ℕ) → first ≡ nothing → IfSome had (λ log. IsGathered log counts first l) → blocks ≡ length l.contents → IfSome had (λ log. IsCounted log (record { texts = counts.texts; blocks = blocks; rest = counts.rest }))
+counted_known None counts first l blocks is gathered count = tt
+counted_known (Some log) counts first l blocks is gathered count = record {
   texts = gathered.texts;
-  parts = subst (HasTexts log gathered.texts) (sym rest) gathered.parts;
-  count = texts ∙ gathered.count;
-  blocks = blocks ∙ ap (λ m. length m.contents) gathered.laid ∙ ap (λ m. length (with_texts gathered.texts m).contents) is;
+  parts = gathered.parts;
+  count = gathered.count;
+  blocks = count ∙ ap (λ m. length m.contents) gathered.laid ∙ ap (λ m. length (with_texts gathered.texts m).contents) is;
 }
+
+-- why it was not
+pub why_known : (had : Option (List ℕ)) (fault : LogFault) → IfSome had (λ log. IsWhyLog log fault) → IfSome had (λ log. IsWhy log (RecoverFault.Log fault))
+why_known None fault why = tt
+why_known (Some log) fault why = why
+
+pub why_home : (had : Option (List ℕ)) (fault : WriteFault) → IfSome had (λ log. IsWhy log (RecoverFault.Home fault))
+why_home None fault = tt
+why_home (Some log) fault = tt

@@ -6,7 +6,12 @@ use Rattle.std.specs.Int.{bit_at}
 use Rattle.std.specs.Prelude.{drop, if◌then◌else◌, take, ◌-◌, ◌==◌}
 use Rattle.xt_base.specs.Calls.{overwritten}
 use Rattle.xt_base.specs.Chunks.{below, chunks_where, places_of}
-use Rattle.xt_recover.specs.Chunks.{with_chunks}
+use Rattle.std.proofs.lemmas.Bool.{eq-eqb, or_left, or_right}
+use Rattle.std.proofs.lemmas.List.Concat.{flat_map-cons}
+use Rattle.xt_base.specs.Maps.{has}
+use Rattle.xt_base.specs.Text.{chunk, chunk_bytes}
+use Rattle.xt_recover.proofs.SaidLemmas.{drop_front, length_chunk, take_front}
+use Rattle.xt_recover.specs.Chunks.{merged, with_chunks}
 
 -- one chunk more, behind the others
 laid_more : (cs : List ℕ) (k : ℕ) (bytes old : List ℕ) → with_chunks (cs ++ k ∷ []) bytes old ≡ overwritten (128 * k) (take 128 (drop (128 * length cs) bytes)) (with_chunks cs bytes old)
@@ -73,3 +78,36 @@ laid_next p k place bytes old content new is at_ then_ =
     then_ ∙ ap (λ (x : List ℕ). if p k then overwritten (128 * k) (take 128 (drop place bytes)) x else x) is
     ∙ ap (λ (n : ℕ). if p k then overwritten (128 * k) (take 128 (drop n bytes)) (with_chunks (filter p (below k)) bytes old) else with_chunks (filter p (below k)) bytes old) at_
     ∙ sym (laid_step p k bytes old)
+
+-- ---- chunks of a content in the place of others
+merged_more : (cs : List ℕ) (k : ℕ) (new old : List ℕ) → merged (cs ++ k ∷ []) new old ≡ overwritten (128 * k) (chunk new k) (merged cs new old)
+merged_more [] k new old = refl
+merged_more (c ∷ cs) k new old = merged_more cs k new (overwritten (128 * c) (chunk new c) old)
+
+merged_if : (t : Bool) (k : ℕ) (cs new old : List ℕ) → merged (cs ++ filter (λ _. t) (k ∷ [])) new old ≡ (if t then overwritten (128 * k) (chunk new k) (merged cs new old) else merged cs new old)
+merged_if true k cs new old = merged_more cs k new old
+merged_if false k cs new old = ap (λ xs. merged xs new old) (append-nil cs)
+
+-- the next number, of a block that is so far
+pub merged_next : (p : ℕ → Bool) (k : ℕ) (new old block next : List ℕ) → block ≡ merged (filter p (below k)) new old → next ≡ (if p k then overwritten (128 * k) (chunk new k) block else block)
+    → next ≡ merged (filter p (below (k + 1))) new old
+merged_next p k new old block next is then_ =
+    then_ ∙ ap (λ (x : List ℕ). if p k then overwritten (128 * k) (chunk new k) x else x) is
+    ∙ sym (ap (λ xs. merged xs new old) (marked_one p k) ∙ merged_if (p k) k (filter p (below k)) new old)
+
+-- all of them
+pub merged_all : (word k : ℕ) (new old : List ℕ) → 32 ≤ k → k ≤ 32 → merged (filter (λ k. bit_at word k == 1) (below k)) new old ≡ merged (places_of word) new old
+merged_all word k new old low high =
+    let is : k ≡ 32 = omega (arith, low, high) in
+    ap (λ n. merged (filter (λ k. bit_at word k == 1) (below n)) new old) is ∙ ap (λ xs. merged xs new old) (sym (places_are word))
+
+-- so their bytes stand at their places
+pub merged_is : (set new old : List ℕ) → length new ≡ 4096 → ((c : ℕ) → has set c ≡ true → c < 32) → merged set new old ≡ with_chunks set (chunk_bytes new set) old
+merged_is [] new old whole small = refl
+merged_is (c ∷ cs) new old whole small =
+    let first : c < 32 = small c (or_left (c == c) (has cs c) (eq-eqb c c refl)) in
+    let len : length (chunk new c) ≡ 128 = length_chunk new c whole first in
+    let bytes : chunk_bytes new (c ∷ cs) ≡ chunk new c ++ chunk_bytes new cs = flat_map-cons (chunk new) c cs in
+    merged_is cs new (overwritten (128 * c) (chunk new c) old) whole (λ q there. small q (or_right (q == c) (has cs q) there))
+    ∙ ap (λ xs. with_chunks cs (chunk_bytes new cs) (overwritten (128 * c) xs old)) (sym (ap (take 128) bytes ∙ take_front (chunk new c) (chunk_bytes new cs) 128 len))
+    ∙ ap (λ xs. with_chunks cs xs (overwritten (128 * c) (take 128 (chunk_bytes new (c ∷ cs))) old)) (sym (ap (drop 128) bytes ∙ drop_front (chunk new c) (chunk_bytes new cs) 128 len))

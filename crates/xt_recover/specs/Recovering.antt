@@ -12,6 +12,7 @@ use Rattle.xt_recover.specs.Replay.{replayed_image}
 use Rattle.xt_recover.specs.declared.gather.LogFault.{LogFault}
 use Rattle.xt_recover.specs.declared.recovering.RecoverFault.{RecoverFault}
 use Rattle.xt_recover.specs.declared.recovering.Recovered.{Recovered}
+use Rattle.xt_recover.specs.declared.writing.WriteFault.{WriteFault}
 use Rattle.xt_recovery.specs.DiskSteps.{Agree}
 use Rattle.xt_recovery.specs.Log.{Image}
 
@@ -36,10 +37,10 @@ pub record TellsRecovered (log : List ℕ) (told : Bool) (before : List HomeCall
   pub tells : Tells told before (calls ++ HomeCall.Offer (HomeOffer.Sync true) ∷ []) tell after
   pub image : (old new : Image) → AreAnswered calls old new → Agree new (replayed_image (reverse texts) old)
 
--- whether recovery stopped before it asked the home device anything
-abbrev pub is_log_fault : RecoverFault → Bool
-is_log_fault (RecoverFault.Log fault) = true
-is_log_fault (RecoverFault.Home fault) = false
+-- whether the home device failed; before any other fault it was not asked anything
+abbrev pub is_home_fault : RecoverFault → Bool
+is_home_fault (RecoverFault.Home WriteFault.Home) = true
+is_home_fault other = false
 
 -- how much was recovered of a log: its texts; the blocks that stand there once they are laid one over another; and the bytes behind them
 pub record IsCounted (log : List ℕ) (found : Recovered) : Type 0 where

@@ -1,17 +1,12 @@
 -- What is written of what was gathered over a home device.
 use Rattle.std.specs.Prelude.{Bool, List, Some, [], length, true, unwrap_or, ℕ, ◌++◌, ◌∷◌, ◌≡◌}
 use Rattle.xt_base.specs.Maps.{at}
-use Rattle.xt_base.specs.Text.{chunk_bytes}
 use Rattle.xt_base.specs.declared.sizes.TheConstants.{BLOCK_BYTES}
 use Rattle.xt_base.specs.declared.steps.HomeOffer.{HomeOffer}
 use Rattle.xt_dev.specs.Devices.{Tells}
 use Rattle.xt_dev.specs.declared.call.HomeCall.{HomeCall}
 use Rattle.xt_recover.specs.Overlaid.{Overlaid}
-use Rattle.xt_recover.specs.Chunks.{with_chunks}
-
--- a content, with some chunks of another one in the place of its own
-abbrev pub merged : List ℕ → List ℕ → List ℕ → List ℕ
-merged set new old = with_chunks set (chunk_bytes new set) old
+use Rattle.xt_recover.specs.Chunks.{merged}
 
 -- the chunks that were gathered of a block
 abbrev pub chunks_at : Overlaid → ℕ → List ℕ

@@ -9,7 +9,9 @@ ghost use Rattle.xt_recover.specs.Overlaid.{overlaid, with_items};
 ghost use Rattle.xt_recover.specs.declared.gather.LogFault.TheVariants.{Memory};
 
 use crate::overlay::Overlay;
+use crate::reading::read_log;
 use std::alloc::{AllocError, Global};
+use std::io::Read;
 use thiserror::Error;
 use xt_ckpt::{Checkpoint, ReadFault, Rooms, read_checkpoint_into};
 
@@ -35,7 +37,22 @@ pub struct LogCounts {
 }
 
 /// Gathers the texts of a log, from the first on, up to bytes that are no text yet, as a crash leaves them.
-pub fn gather(alloc: Global, log: &[u8], overlay: &mut Overlay) -> Result<LogCounts, LogFault>
+pub(crate) fn gather<L: Read>(
+    alloc: Global,
+    log: &mut L,
+    overlay: &mut Overlay,
+) -> Result<LogCounts, LogFault>
+    ensures gathered { IfOk result (λ counts. IfSome (L.remaining log.old) (λ bytes. IsGathered bytes counts (overlaid overlay.old) (overlaid overlay.new))) }
+    ensures why { IfErr result (λ fault. IfSome (L.remaining log.old) (λ bytes. IsWhyLog bytes fault)) }
+{
+    match read_log(alloc, log) {
+        Ok(bytes) => gather_bytes(alloc, &bytes, overlay),
+        Err(fault) => Err(fault),
+    }
+}
+
+/// The same, from the bytes of a log.
+fn gather_bytes(alloc: Global, log: &[u8], overlay: &mut Overlay) -> Result<LogCounts, LogFault>
     ensures gathered { IfOk result (λ counts. IsGathered log.now counts (overlaid overlay.old) (overlaid overlay.new)) }
     ensures why { IfErr result (λ fault. IsWhyLog log.now fault) }
 {

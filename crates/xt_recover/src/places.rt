@@ -4,10 +4,11 @@ ghost use Rattle.std.specs.Int.{bit_at};
 ghost use Rattle.std.specs.Prelude.{◌≡◌, ◌+◌, ◌*◌, ◌≤◌, ◌<◌, ◌==◌, drop, if◌then◌else◌, length, take};
 ghost use Rattle.xt_base.specs.Calls.{overwritten};
 ghost use Rattle.xt_base.specs.Chunks.{places_of};
-ghost use Rattle.xt_recover.specs.Chunks.{with_chunks};
+ghost use Rattle.xt_base.specs.Text.{chunk};
+ghost use Rattle.xt_recover.specs.Chunks.{merged, with_chunks};
 
 use xt_base::content::Content;
-use xt_base::sizes::{CHUNK_BYTES, CHUNKS};
+use xt_base::sizes::{BLOCK_BYTES, CHUNK_BYTES, CHUNKS};
 
 /// Puts the bytes of the chunks that a word has, which stand one after another, at their places.
 pub(crate) fn lay_marked(content: &mut Content, word: u32, bytes: &[u8])
@@ -18,6 +19,46 @@ pub(crate) fn lay_marked(content: &mut Content, word: u32, bytes: &[u8])
     for k in 0..CHUNKS {
         place = lay_if_marked(content, word, k, bytes, place);
     }
+}
+
+/// Puts the chunks of a content that a word has at their places in the bytes of a block.
+pub(crate) fn copy_marked(block: &mut [u8], word: u32, content: &Content)
+    requires whole { length block.old ≡ BLOCK_BYTES }
+    ensures { block.new ≡ merged (places_of word) content.now block.old }
+{
+    for k in 0..CHUNKS {
+        copy_if_marked(block, word, k, content);
+    }
+}
+
+/// Puts chunk `k` of a content at its place in the bytes of a block, if the word has it.
+fn copy_if_marked(block: &mut [u8], word: u32, k: u32, content: &Content)
+    requires chunk { k < CHUNKS }
+    requires whole { length block.old ≡ BLOCK_BYTES }
+    ensures { block.new ≡ (if bit_at word k == 1 then overwritten (CHUNK_BYTES * k) (chunk content.now k) block.old else block.old) }
+{
+    if is_marked(word, k) {
+        copy_chunk(block, k, content);
+    }
+}
+
+/// Puts chunk `k` of a content at its place in the bytes of a block.
+fn copy_chunk(block: &mut [u8], k: u32, content: &Content)
+    requires chunk { k < CHUNKS }
+    requires whole { length block.old ≡ BLOCK_BYTES }
+    ensures { block.new ≡ overwritten (CHUNK_BYTES * k) (chunk content.now k) block.old }
+{
+    let first = CHUNK_BYTES * k as usize;
+    put_bytes(block, first, &content.bytes()[first..first + CHUNK_BYTES]);
+}
+
+/// Puts bytes from a place on.
+fn put_bytes(block: &mut [u8], first: usize, bytes: &[u8])
+    requires { first + length bytes.now ≤ length block.old }
+    ensures { block.new ≡ overwritten first bytes.now block.old }
+{
+    let end = first + bytes.len();
+    block[first..end].copy_from_slice(bytes);
 }
 
 /// Whether a word of bits has chunk `k`.

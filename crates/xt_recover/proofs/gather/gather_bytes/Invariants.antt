@@ -1,7 +1,7 @@
 use Rattle.std.proofs.Common.{◌≤◌, ◌-◌, length}
 use Rattle.xt_recover.proofs.GatherLemmas.{IsSoFar}
 use Rattle.xt_recover.specs.Overlaid.{overlaid}
-use Rattle.xt_recover.proofs.gather.gather.Given as goal
+use Rattle.xt_recover.proofs.gather.gather_bytes.Given as goal
 
 abbrev pub invariant-loop-rooms : goal.invariant-loop-rooms
 invariant-loop-rooms l = record {

@@ -2,7 +2,7 @@ use Rattle.std.proofs.Common.{rules, sym}
 use Rattle.std.proofs.lemmas.List.{length-drop}
 use Rattle.xt_recover.proofs.GatherLemmas.{few_next, so_far_end, so_far_next, so_far_none, within_next}
 use Rattle.xt_recover.specs.Overlaid.{overlaid}
-use Rattle.xt_recover.proofs.gather.gather.Goals as goal
+use Rattle.xt_recover.proofs.gather.gather_bytes.Goals as goal
 
 pub loop-rooms-init : goal.loop-rooms-init
 loop-rooms-init c = record { within = search rules; few = search rules; far = so_far_none c.args.log.now (overlaid c.args.overlay.now) }

@@ -1,8 +1,0 @@
-use Rattle.xt_recover.proofs.ImageLemmas.{recovered_from}
-use Rattle.xt_recover.specs.Overlaid.{overlaid}
-use Rattle.xt_recover.proofs.recovering.recover_bytes.Goals as goal
-
-pub returns-in-Ok-write_over-clause-recovered : goal.returns-in-Ok-write_over-clause-recovered
-returns-in-Ok-write_over-clause-recovered g c =
-    recovered_from c.args.log.now c.in-Ok.counts (overlaid c.new-overlay.result) (overlaid c.gather.new.overlay) (g.H.HomeDevice.home_tells c.args.home.now) (g.H.HomeDevice.home_tells c.write_over.new.home) (g.H.HomeDevice.home_taken c.args.home.now)
-    (g.H.HomeDevice.home_taken c.write_over.new.home) c.new-overlay.ensures c.in-Ok.ensures.gathered c.in-Ok-write_over.ensures
