@@ -1,9 +1,8 @@
 -- A log that is gathered text by text.
-use Rattle.std.proofs.Common.{append_assoc, ◌≡◌, ◌∙◌, ◌+◌, ◌<◌, ◌≤◌, ◌∷◌, ◌++◌, All, List, None, Option, Some, [], ap, append-nil, arith, length, refl, subst, suc, sym, ℕ}
+use Rattle.std.proofs.Common.{append_assoc, ◌≡◌, ◌∙◌, ◌+◌, ◌<◌, ◌≤◌, ◌∷◌, ◌++◌, All, List, None, Option, Some, [], ap, append-nil, arith, false, length, refl, subst, suc, sym, true≢false, ℕ}
 use Rattle.std.proofs.lemmas.List.{take-append-drop, drop-drop, length-append, length-take-le}
 use Rattle.std.specs.Prelude.{IfSome, drop, take}
-use Rattle.xt_base.proofs.MapLemmas.{some_same}
-use Rattle.xt_ckpt.specs.Fields.{IsFaultAt, IsUnfinished}
+use Rattle.xt_ckpt.specs.Fields.{IsUnfinished}
 use Rattle.xt_ckpt.specs.Grammar.{AreItems, Entry, IsItem, IsText, entries, entry}
 use Rattle.xt_ckpt.specs.Items.{HasForm}
 use Rattle.xt_ckpt.specs.declared.item.Item.{Item}
@@ -11,10 +10,11 @@ use Rattle.std.specs.List.{AllByRecursion}
 use Rattle.std.proofs.lemmas.List.Elements.{All-from_recursion}
 use Rattle.xt_recover.proofs.LaidLemmas.{read_entry}
 use Rattle.xt_recover.specs.Reading.{AreTexts, ReadsAs}
-use Rattle.xt_recover.specs.Gathering.{IsGathered, IsTextLaid, IsWhyLog, IsWhyText}
+use Rattle.xt_recover.specs.Gathering.{IsGathered, IsTextLaid, IsWhyLog, is_broken}
 use Rattle.xt_recover.specs.declared.gather.LogCounts.{LogCounts}
 use Rattle.xt_recover.specs.declared.gather.LogFault.{LogFault}
-use Rattle.xt_ckpt.specs.Reading.{Begins}
+use Rattle.xt_recover.specs.Window.{ahead, Held, IsAhead, IsTied}
+use Rattle.xt_recover.specs.declared.window.Found.{Found}
 use Rattle.xt_ckpt.specs.declared.reading.Checkpoint.{Checkpoint}
 use Rattle.xt_recover.specs.Overlaid.{Overlaid, with_items, with_texts}
 
@@ -70,21 +70,6 @@ so_far_end log at counts old now new so rest ends same = record {
   laid = same ∙ so.laid;
 }
 
--- a field that breaks its rule
-pub so_far_why : (log : List ℕ) (at count : ℕ) (old now : Overlaid) (fault : LogFault) → IsSoFar log at count old now → IsWhyText at (drop at log) fault → IsWhyLog log fault
-so_far_why log at count old now (LogFault.Broken offset) so why = record {
-  texts = so.done;
-  front = so.front;
-  behind = drop at log;
-  parts = so.parts;
-  whole = so.whole;
-  inside = why.0;
-  broken = why.1;
-  place = omega (arith, why.2, so.size);
-}
-so_far_why log at count old now LogFault.Memory so why = tt
-so_far_why log at count old now LogFault.Read so why = tt
-
 -- ---- items as they are read
 form_item : (here : List ℕ) (item : Item) → IsItem here (entry item) → HasForm item
 form_item here item is = (read_entry here (entry item) is).form
@@ -97,27 +82,71 @@ forms_of least bytes (i ∷ is) h = (form_item h.0 i h.4, forms_of (suc i.block)
 pub items_form : (text : List ℕ) (number : ℕ) (items : List Item) → IsText text number (entries items) → All HasForm items
 items_form text number items is = All-from_recursion HasForm items (forms_of 0 is.body items is.each)
 
--- what holds of what is there
-pub there_holds : (o : Option ℕ) (len : ℕ) (P : ℕ → Type 0) → o ≡ Some len → IfSome o P → P len
-there_holds None len P is h = absurd (cc)
-there_holds (Some n) len P is h = subst P (some_same n len is) h
+-- ---- a log that is read piece by piece
+-- the texts in front of what is held were gathered
+pub record Stands (log : List ℕ) (h : Held) (left : Option (List ℕ)) (count : ℕ) (old now : Overlaid) : Type 0 where
+  pub so : IsSoFar log h.offset count old now
+  pub same : ahead h left ≡ Some (drop h.offset log)
 
-pub so_far_next : (log : List ℕ) (at count len : ℕ) (o : Option ℕ) (old now new : Overlaid) → o ≡ Some len → IfSome o (λ n. IsTextLaid n (drop at log) now new) → IsSoFar log at count old now → IsSoFar log (at + len) (count + 1) old new
-so_far_next log at count len o old now new is taken so = so_far_more log at count len old now new so (there_holds o len (λ n. IsTextLaid n (drop at log) now new) is taken)
+-- nothing is read
+pub stands_first : (had : Option (List ℕ)) (h : Held) (l : Overlaid) → h ≡ record { bytes = []; offset = 0; is_ended = false } → IfSome had (λ log. Stands log h had 0 l l)
+stands_first None h l is = tt
+stands_first (Some log) h l is = record {
+  so = subst (λ n. IsSoFar log n 0 l l) (sym (ap (λ w. w.offset) is)) (so_far_none log l);
+  same = ap (λ w. Some (w.bytes ++ log)) is ∙ ap (λ n. Some (drop n log)) (sym (ap (λ w. w.offset) is));
+}
 
-pub within_next : (at len size : ℕ) (o : Option ℕ) → o ≡ Some len → IfSome o (λ n. at + n ≤ size) → at + len ≤ size
-within_next at len size o is h = there_holds o len (λ n. at + n ≤ size) is h
+-- and the log goes on
+pub tied_first : (h : Held) (left : Option (List ℕ)) → h ≡ record { bytes = []; offset = 0; is_ended = false } → IsTied h left
+tied_first h left is over = absurd (true≢false (sym over ∙ ap (λ w. w.is_ended) is))
 
-pub few_next : (count at len : ℕ) (o : Option ℕ) → o ≡ Some len → IfSome o (λ n. 0 < n) → count ≤ at → count + 1 ≤ at + len
-few_next count at len o is some few = omega (arith, there_holds o len (λ n. 0 < n) is some, few)
+-- what is ahead is the rest of the log
+rest_of : (log : List ℕ) (h : Held) (left : Option (List ℕ)) (count : ℕ) (old now : Overlaid) (P : List ℕ → Type 0) → Stands log h left count old now → IfSome (ahead h left) P → P (drop h.offset log)
+rest_of log h left count old now P s is = subst (λ o. IfSome o P) s.same is
 
--- the items of a checkpoint that was found have their form
-pub found_form : (o : Option (Checkpoint × ℕ)) (c : Checkpoint) (len : ℕ) (input : List ℕ) → o ≡ Some (c, len) → IfSome o (λ x. Begins input x.0 x.1) → All HasForm c.items.items
-found_form o c len input is h =
-    let pair : Checkpoint × ℕ = (c, len) in
-    let one : Begins input pair.0 pair.1 = found_holds o pair (λ x. Begins input x.0 x.1) is h in
-    items_form (take len input) c.no c.items.items one.1
-  where
-    found_holds : (o : Option (Checkpoint × ℕ)) (x : Checkpoint × ℕ) (P : Checkpoint × ℕ → Type 0) → o ≡ Some x → IfSome o P → P x
-    found_holds None x P is h = absurd (cc)
-    found_holds (Some y) x P is h = subst P (some_same y x is) h
+-- one more text is laid
+more_of : (log : List ℕ) (h past : Held) (left has : Option (List ℕ)) (count : ℕ) (old now new : Overlaid) (c : Checkpoint) → Stands log h left count old now → IsAhead h.offset (drop h.offset log) (Found.Text c) past has → new ≡ with_items (entries c.items.items) now → Stands log past has (count + 1) old new
+more_of log h past left has count old now new c s (size, (begins, (place, same))) laid =
+    let one : IsTextLaid size (drop h.offset log) now new = record { within = begins.0; number = c.no; items = entries c.items.items; text = begins.1; laid = laid } in
+    record {
+      so = subst (λ n. IsSoFar log n (count + 1) old new) (sym place) (so_far_more log h.offset count size old now new s.so one);
+      same = same ∙ ap Some (drop-drop size h.offset log ∙ ap (λ n. drop n log) (sym place));
+    }
+
+pub stands_more : (had : Option (List ℕ)) (h past : Held) (left has : Option (List ℕ)) (count : ℕ) (old now new : Overlaid) (found : Found) (c : Checkpoint) → found ≡ Found.Text c → IfSome had (λ log. Stands log h left count old now) → IfSome (ahead h left) (λ log. IsAhead h.offset log found past has)
+    → new ≡ with_items (entries c.items.items) now → IfSome had (λ log. Stands log past has (count + 1) old new)
+stands_more None h past left has count old now new found c is s next laid = tt
+stands_more (Some log) h past left has count old now new found c is s next laid =
+    more_of log h past left has count old now new c s (subst (λ f. IsAhead h.offset (drop h.offset log) f past has) is (rest_of log h left count old now (λ t. IsAhead h.offset t found past has) s next)) laid
+
+-- the log ends behind its texts
+pub gathered_rest : (had : Option (List ℕ)) (h past : Held) (left has : Option (List ℕ)) (count : ℕ) (old now : Overlaid) (found : Found) (rest : ℕ) → found ≡ Found.Rest rest → IfSome had (λ log. Stands log h left count old now) → IfSome (ahead h left) (λ log. IsAhead h.offset log found past has)
+    → IfSome had (λ log. IsGathered log (record { texts = count; rest = rest }) old now)
+gathered_rest None h past left has count old now found rest is s next = tt
+gathered_rest (Some log) h past left has count old now found rest is s next =
+    let ends : IsAhead h.offset (drop h.offset log) (Found.Rest rest) past has = subst (λ f. IsAhead h.offset (drop h.offset log) f past has) is (rest_of log h left count old now (λ t. IsAhead h.offset t found past has) s next) in
+    so_far_end log h.offset (record { texts = count; rest = rest }) old now now s.so ends.1 ends.0 refl
+
+-- a field breaks its rule
+pub why_broken : (had : Option (List ℕ)) (h past : Held) (left has : Option (List ℕ)) (count : ℕ) (old now : Overlaid) (found : Found) (offset : ℕ) → found ≡ Found.Fault offset → IfSome had (λ log. Stands log h left count old now) → IfSome (ahead h left) (λ log. IsAhead h.offset log found past has)
+    → IfSome had (λ log. IsWhyLog log (LogFault.Broken offset))
+why_broken None h past left has count old now found offset is s next = tt
+why_broken (Some log) h past left has count old now found offset is s next =
+    let ends : IsAhead h.offset (drop h.offset log) (Found.Fault offset) past has = subst (λ f. IsAhead h.offset (drop h.offset log) f past has) is (rest_of log h left count old now (λ t. IsAhead h.offset t found past has) s next) in
+    record {
+      texts = s.so.done;
+      front = s.so.front;
+      behind = drop h.offset log;
+      parts = s.so.parts;
+      whole = s.so.whole;
+      inside = ends.0;
+      broken = ends.1.0;
+      place = ends.1.1 ∙ ap (λ n. n + ends.0) (sym s.so.size);
+    }
+
+-- another fault
+pub why_other : (had : Option (List ℕ)) (fault : LogFault) → is_broken fault ≡ false → IfSome had (λ log. IsWhyLog log fault)
+why_other None fault other = tt
+why_other (Some log) (LogFault.Broken offset) other = absurd (true≢false other)
+why_other (Some log) LogFault.Memory other = tt
+why_other (Some log) LogFault.Read other = tt

@@ -1,6 +1,5 @@
 -- What was gathered of a log.
-use Rattle.std.specs.Prelude.{List, length, take, ℕ, ◌+◌, ◌≡◌, ◌≤◌}
-use Rattle.xt_ckpt.specs.Fields.{IsFaultAt}
+use Rattle.std.specs.Prelude.{Bool, List, false, length, take, true, ℕ, ◌≡◌, ◌≤◌}
 use Rattle.xt_ckpt.specs.Grammar.{Entry, IsText}
 use Rattle.xt_recover.specs.Reading.{HasTexts, IsBrokenAt, ReadsAs}
 use Rattle.xt_recover.specs.Overlaid.{Overlaid, with_items, with_texts}
@@ -23,12 +22,12 @@ pub record IsGathered (log : List ℕ) (counts : LogCounts) (old new : Overlaid)
   pub count : counts.texts ≡ length texts
   pub laid : new ≡ with_texts texts old
 
--- why no text was laid at an offset of a log: a field of the input there breaks its rule; of want of memory, and of a reader, nothing is said
-abbrev pub IsWhyText : ℕ → List ℕ → LogFault → Type 0
-IsWhyText at input (LogFault.Broken offset) = (inside : ℕ) × IsFaultAt inside input × (offset ≡ at + inside)
-IsWhyText at input other = Unit {0}
-
 -- why a log was not gathered: the field at the offset that is told breaks its rule; of want of memory, and of a reader, nothing is said
 abbrev pub IsWhyLog : List ℕ → LogFault → Type 0
 IsWhyLog log (LogFault.Broken offset) = IsBrokenAt offset log
 IsWhyLog log other = Unit {0}
+
+-- whether a fault tells of a field
+abbrev pub is_broken : LogFault → Bool
+is_broken (LogFault.Broken offset) = true
+is_broken other = false

@@ -9,7 +9,6 @@ use Rattle.xt_recover.specs.Gathering.{IsWhyLog}
 use Rattle.xt_recover.specs.Overlaid.{nothing, with_texts}
 use Rattle.xt_recover.specs.Reading.{HasTexts, ReadsAs}
 use Rattle.xt_recover.specs.Replay.{replayed_image}
-use Rattle.xt_recover.specs.declared.gather.LogFault.{LogFault}
 use Rattle.xt_recover.specs.declared.recovering.RecoverFault.{RecoverFault}
 use Rattle.xt_recover.specs.declared.recovering.Recovered.{Recovered}
 use Rattle.xt_recover.specs.declared.writing.WriteFault.{WriteFault}
@@ -53,8 +52,3 @@ pub record IsCounted (log : List ℕ) (found : Recovered) : Type 0 where
 abbrev pub IsWhy : List ℕ → RecoverFault → Type 0
 IsWhy log (RecoverFault.Log fault) = IsWhyLog log fault
 IsWhy log (RecoverFault.Home fault) = Unit {0}
-
--- whether a fault tells of a field
-abbrev pub is_broken : LogFault → Bool
-is_broken (LogFault.Broken offset) = true
-is_broken other = false

@@ -1,19 +1,18 @@
 //! The texts of a log, gathered.
 
-ghost use Rattle.std.specs.Prelude.{◌≡◌, ◌<◌, ◌≤◌, ◌+◌, All, IfErr, IfOk, IfSome, IsNone, OnOk, drop, length};
-ghost use Rattle.xt_ckpt.specs.Fields.{IsUnfinished};
+ghost use Rattle.std.specs.Prelude.{◌≡◌, ◌<◌, All, IfErr, IfOk, IfSome, OnOk, length};
 ghost use Rattle.xt_ckpt.specs.Grammar.{entries};
 ghost use Rattle.xt_ckpt.specs.Items.{HasForm};
-ghost use Rattle.xt_recover.specs.Gathering.{IsGathered, IsTextLaid, IsWhyLog, IsWhyText};
+ghost use Rattle.xt_recover.specs.Gathering.{IsGathered, IsWhyLog};
 ghost use Rattle.xt_recover.specs.Overlaid.{overlaid, with_items};
 ghost use Rattle.xt_recover.specs.declared.gather.LogFault.TheVariants.{Memory};
 
 use crate::overlay::Overlay;
-use crate::reading::read_log;
+use crate::window::{Found, PIECE_BYTES, Window};
 use std::alloc::{AllocError, Global};
 use std::io::Read;
 use thiserror::Error;
-use xt_ckpt::{Checkpoint, ReadFault, Rooms, read_checkpoint_into};
+use xt_ckpt::{Checkpoint, Rooms};
 
 /// Why a log was not gathered.
 #[derive(Clone, Copy, Debug, PartialEq, Eq, Error)]
@@ -45,53 +44,38 @@ pub(crate) fn gather<L: Read>(
     ensures gathered { IfOk result (λ counts. IfSome (L.remaining log.old) (λ bytes. IsGathered bytes counts (overlaid overlay.old) (overlaid overlay.new))) }
     ensures why { IfErr result (λ fault. IfSome (L.remaining log.old) (λ bytes. IsWhyLog bytes fault)) }
 {
-    match read_log(alloc, log) {
-        Ok(bytes) => gather_bytes(alloc, &bytes, overlay),
-        Err(fault) => Err(fault),
+    match vec![in alloc; 0u8; PIECE_BYTES] {
+        Ok(mut piece) => gather_by_pieces(alloc, log, &mut piece, overlay),
+        Err(AllocError) => Err(LogFault::Memory),
     }
 }
 
-/// The same, from the bytes of a log.
-fn gather_bytes(alloc: Global, log: &[u8], overlay: &mut Overlay) -> Result<LogCounts, LogFault>
-    ensures gathered { IfOk result (λ counts. IsGathered log.now counts (overlaid overlay.old) (overlaid overlay.new)) }
-    ensures why { IfErr result (λ fault. IsWhyLog log.now fault) }
-{
-    let mut rooms = Rooms::new(alloc);
-    let mut at = 0;
-    let mut texts = 0u64;
-    while let Some(len) = take_text(&mut rooms, log, at, overlay)? {
-        at += len;
-        texts += 1;
-    }
-    let rest = (log.len() - at) as u64;
-    Ok(LogCounts { texts, rest })
-}
-
-/// Lays the text at an offset of the log, and answers how many bytes it has; None where it is no text yet.
-fn take_text(
-    rooms: &mut Rooms,
-    log: &[u8],
-    at: usize,
+/// The same, by way of room for a piece.
+#[tactic(auto, using(crate::proofs::GatherLemmas::tied_first, crate::proofs::GatherLemmas::why_other))]
+fn gather_by_pieces<L: Read>(
+    alloc: Global,
+    log: &mut L,
+    piece: &mut [u8],
     overlay: &mut Overlay,
-) -> Result<Option<usize>, LogFault>
-    requires place { at ≤ length log.now }
-    ensures text { IfOk result (λ found. IfSome found (λ len. IsTextLaid len (drop at log.now) (overlaid overlay.old) (overlaid overlay.new))) }
-    ensures some { IfOk result (λ found. IfSome found (λ len. 0 < len)) }
-    ensures within { IfOk result (λ found. IfSome found (λ len. at + len ≤ length log.now)) }
-    ensures end { IfOk result (λ found. IsNone found → IsUnfinished (drop at log.now)) }
-    ensures same { IfOk result (λ found. IsNone found → overlaid overlay.new ≡ overlaid overlay.old) }
-    ensures why { IfErr result (λ fault. IsWhyText at (drop at log.now) fault) }
+) -> Result<LogCounts, LogFault>
+    requires room { 0 < length piece.old }
+    ensures gathered { IfOk result (λ counts. IfSome (L.remaining log.old) (λ bytes. IsGathered bytes counts (overlaid overlay.old) (overlaid overlay.new))) }
+    ensures why { IfErr result (λ fault. IfSome (L.remaining log.old) (λ bytes. IsWhyLog bytes fault)) }
 {
-    match read_checkpoint_into(rooms, &log[at..]) {
-        Ok(Some((checkpoint, len))) => {
-            lay_text(overlay, &checkpoint)?;
-            rooms.give_back(checkpoint);
-            Ok(Some(len))
+    let mut window = Window::new(alloc);
+    let mut rooms = Rooms::new(alloc);
+    for texts in 0..u64::MAX {
+        match window.next(log, piece, &mut rooms) {
+            Ok(Found::Text(checkpoint)) => {
+                lay_text(overlay, &checkpoint)?;
+                rooms.give_back(checkpoint);
+            }
+            Ok(Found::Rest(rest)) => return Ok(LogCounts { texts, rest }),
+            Ok(Found::Fault(offset)) => return Err(LogFault::Broken(offset)),
+            Err(fault) => return Err(fault),
         }
-        Ok(None) => Ok(None),
-        Err(ReadFault::Ckpt(fault)) => Err(LogFault::Broken((at + fault.at) as u64)),
-        Err(ReadFault::Memory) => Err(LogFault::Memory),
     }
+    Err(LogFault::Read)
 }
 
 /// Lays the items of a checkpoint. The one fault is want of memory.

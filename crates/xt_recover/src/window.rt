@@ -1,0 +1,197 @@
+//! A log read piece by piece, of which only what is not yet taken as texts is held.
+
+ghost use Rattle.std.specs.Prelude.{◌+◌, ◌<◌, ◌≤◌, ◌≡◌, IfErr, IfOk, IfSome, OnOk, [], false, length, ◌^◌};
+ghost use Rattle.xt_recover.specs.Gathering.{is_broken};
+ghost use Rattle.xt_recover.specs.Window.{ahead, taken, with_more, AreFormed, IsAhead, IsNext, IsRefilled, IsTied};
+
+use crate::gather::LogFault;
+use std::alloc::{AllocError, Global};
+use std::io::{ErrorKind, Read};
+use std::marker::Model;
+use xt_ckpt::{Checkpoint, ReadFault, Rooms, read_checkpoint_into};
+
+/// How many bytes are read at once.
+pub(crate) const PIECE_BYTES: usize = 65_536;
+
+/// The most bytes of a text: of 64 whole blocks.
+const TEXT_BYTES: usize = 263_200;
+
+/// What comes next in a log.
+#[derive(Debug, Drop)]
+pub(crate) enum Found {
+    /// A whole text.
+    Text(Checkpoint),
+    /// So many bytes up to the end, which are no text yet.
+    Rest(u64),
+    /// A field that breaks its rule, by its offset in the log.
+    Fault(u64),
+}
+
+/// What is held of a log that is read. Clauses see the bytes that are not taken yet, their offset in the log, and whether the
+/// log ends with them.
+#[derive(Debug, Drop)]
+pub(crate) struct Window {
+    bytes: Vec<u8>,
+    /// How many of the bytes are taken.
+    taken: usize,
+    /// Where the bytes begin in the log.
+    start: u64,
+    is_ended: bool,
+}
+
+impl Model for Window {
+    ghost use Rattle.std.specs.Prelude.{drop, length, ◌+◌, ◌<◌, ◌≤◌, ◌^◌};
+    ghost use Rattle.xt_recover.specs.Window.{Held};
+
+    ghost Value = { Held };
+
+    ghost view = { λ w. record { bytes = drop w.taken w.bytes.items; offset = w.start + w.taken; is_ended = w.is_ended } };
+
+    ghost invariant = { λ w. (w.taken ≤ length w.bytes.items) × (w.start + length w.bytes.items < 2 ^ 64) };
+}
+
+impl Window {
+    /// The beginning of a log, of which nothing is read.
+    pub(crate) fn new(alloc: Global) -> Self
+        ensures { result ≡ record { bytes = []; offset = 0; is_ended = false } }
+    {
+        Window {
+            bytes: Vec::new(alloc),
+            taken: 0,
+            start: 0,
+            is_ended: false,
+        }
+    }
+
+    /// The bytes that are not taken.
+    fn held(&self) -> &[u8]
+        ensures { result.now ≡ self.now.bytes }
+    {
+        &self.bytes[self.taken..]
+    }
+
+    /// Their offset in the log.
+    fn offset(&self) -> u64
+        ensures value { result ≡ self.now.offset }
+        ensures bound { result + length self.now.bytes < 2 ^ 64 }
+    {
+        self.start + self.taken as u64
+    }
+
+    /// Whether the log ends with them.
+    fn is_ended(&self) -> bool
+        ensures { result ≡ self.now.is_ended }
+    {
+        self.is_ended
+    }
+
+    /// The first bytes are taken.
+    fn take(&mut self, len: usize)
+        requires { len ≤ length self.old.bytes }
+        ensures { self.new ≡ taken len self.old }
+    {
+        self.taken += len;
+    }
+
+    /// Takes the text that begins what is held, or says how the log ends; where more bytes are wanted they are read, by way of `piece`.
+    /// A reader that is interrupted is asked again. The items of a text stand in `rooms`, as far as there are some.
+    #[tactic(auto, using(crate::proofs::WindowLemmas::is_tied, crate::proofs::WindowLemmas::refilled_more, crate::proofs::WindowLemmas::refilled_none))]
+    pub(crate) fn next<R: Read>(
+        &mut self,
+        reader: &mut R,
+        piece: &mut [u8],
+        rooms: &mut Rooms,
+    ) -> Result<Found, LogFault>
+        requires room { 0 < length piece.old }
+        requires ended { IsTied self.old (R.remaining reader.old) }
+        ensures form { IfOk result AreFormed }
+        ensures found { IfOk result (λ found. IfSome (ahead self.old (R.remaining reader.old)) (λ log. IsAhead self.old.offset log found self.new (R.remaining reader.new))) }
+        ensures tied { OnOk result (IsTied self.new (R.remaining reader.new)) }
+        ensures why { IfErr result (λ fault. is_broken fault ≡ false) }
+    {
+        for _ in 0..u64::MAX {
+            if let Some(found) = self.judge(rooms)? {
+                return Ok(found);
+            }
+            self.refill(reader, piece)?;
+        }
+        Err(LogFault::Read)
+    }
+
+    /// Judges what is held, once no text has more bytes or the log ends with them; None where more is to be read. So a text is read once.
+    fn judge(&mut self, rooms: &mut Rooms) -> Result<Option<Found>, LogFault>
+        ensures judged { IfOk result (λ found. IsNext self.old found self.new) }
+        ensures why { IfErr result (λ fault. is_broken fault ≡ false) }
+    {
+        if self.bytes.len() - self.taken < TEXT_BYTES && !self.is_ended {
+            return Ok(None);
+        }
+        self.judge_held(rooms)
+    }
+
+    /// Judges what is held, however little it is.
+    fn judge_held(&mut self, rooms: &mut Rooms) -> Result<Option<Found>, LogFault>
+        ensures judged { IfOk result (λ found. IsNext self.old found self.new) }
+        ensures why { IfErr result (λ fault. is_broken fault ≡ false) }
+    {
+        match read_checkpoint_into(rooms, self.held()) {
+            Ok(Some((checkpoint, len))) => {
+                self.take(len);
+                Ok(Some(Found::Text(checkpoint)))
+            }
+            Ok(None) if self.is_ended() => Ok(Some(Found::Rest(self.held().len() as u64))),
+            Ok(None) => Ok(None),
+            Err(ReadFault::Ckpt(fault)) => Ok(Some(Found::Fault(self.offset() + fault.at as u64))),
+            Err(ReadFault::Memory) => Err(LogFault::Memory),
+        }
+    }
+
+    /// Reads some more bytes behind what is held.
+    fn refill<R: Read>(&mut self, reader: &mut R, piece: &mut [u8]) -> Result<(), LogFault>
+        requires room { 0 < length piece.old }
+        requires going { self.old.is_ended ≡ false }
+        ensures more { OnOk result (IsRefilled self.old self.new (R.remaining reader.old) (R.remaining reader.new)) }
+        ensures why { IfErr result (λ fault. is_broken fault ≡ false) }
+    {
+        match reader.read(piece) {
+            Ok(0) => {
+                self.is_ended = true;
+                Ok(())
+            }
+            Ok(count) => {
+                self.let_go();
+                self.keep(&piece[..count])
+            }
+            Err(error) if error.kind() == ErrorKind::Interrupted => Ok(()),
+            Err(_) => Err(LogFault::Read),
+        }
+    }
+
+    /// Puts bytes behind what is held. A log of 2^64 bytes, which nothing has, counts as one that cannot be read.
+    fn keep(&mut self, more: &[u8]) -> Result<(), LogFault>
+        ensures kept { OnOk result (self.new ≡ with_more more.now self.old) }
+        ensures why { IfErr result (λ fault. is_broken fault ≡ false) }
+    {
+        if more.len() as u64 > u64::MAX - self.start - self.bytes.len() as u64 {
+            return Err(LogFault::Read);
+        }
+        match self.bytes.extend_from_slice(more) {
+            Ok(()) => Ok(()),
+            Err(AllocError) => Err(LogFault::Memory),
+        }
+    }
+
+    /// The room of what was taken is used again, once it is more than what is held: so little is moved.
+    fn let_go(&mut self)
+        ensures { self.new ≡ self.old }
+    {
+        let len = self.bytes.len();
+        let held = len - self.taken;
+        if held < self.taken {
+            self.bytes.copy_within(self.taken..len, 0);
+            self.bytes.truncate(held);
+            self.start += self.taken as u64;
+            self.taken = 0;
+        }
+    }
+}
