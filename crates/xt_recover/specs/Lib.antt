@@ -7,3 +7,4 @@ pub mod Gathering
 pub mod Window
 pub mod Writing
 pub mod Recovering
+pub mod Command

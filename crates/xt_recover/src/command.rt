@@ -1,0 +1,170 @@
+//! Recovery as a command: the log may be emptied after it, what was recovered is printed, and a status answered.
+
+ghost use Rattle.std.specs.Prelude.{◌≡◌, ◌⊎◌, ℕ, IfErr, IfOk, IfSome, MatchResult, OnOk, Bool, false, true};
+ghost use Rattle.std.specs.Io.KnownBytes.{Appends};
+ghost use Rattle.xt_recover.specs.Reading.{IsBrokenAt};
+ghost use Rattle.xt_recover.specs.Recovering.{IsCounted, IsWhy, TellsRecovered, is_home_fault};
+ghost use Rattle.xt_recover.specs.declared.recovering.Recovered.{Recovered as ARecovered};
+ghost use Rattle.xt_recover.specs.Command.{IfStopped, IsCommandStatus, IsOutcomePrinted, fault_line, recovered_lines, rest_lines};
+
+use crate::gather::LogFault;
+use crate::recovering::{RecoverFault, Recovered, recover};
+use std::alloc::Global;
+use std::io::{self, Read, Write};
+use thiserror::Error;
+use xt_dev::home::HomeDevice;
+
+/// A log that can be emptied, once what it says stands on the home device.
+pub trait Emptied: Drop {
+    /// Whether it was emptied, and made safe.
+    ghost is_emptied: { Self → Bool };
+
+    /// Takes all its bytes away, and makes that safe. After an error it has all of them or none.
+    fn empty(&mut self) -> io::Result<()>
+        ensures { OnOk result (is_emptied self.new ≡ true) };
+}
+
+/// Why a home device was not recovered, or its log not emptied. Recovery can be run again.
+#[derive(Debug, Drop, Error)]
+pub enum CommandFault {
+    /// The log was not read, or the home device not written, to its end. The log is as it was.
+    #[error("{0}")]
+    Recover(RecoverFault),
+    /// The home device was recovered, and the log was not emptied.
+    #[error("the log was not emptied: {0}")]
+    Empty(io::Error),
+}
+
+/// Lays what a log says over a home device, and makes it safe. Then the log is emptied, where that is asked, and never earlier. `log` is what
+/// `reader` reads.
+pub fn recover_log<L: Read, C: Emptied, H: HomeDevice>(
+    alloc: Global,
+    reader: &mut L,
+    home: &mut H,
+    log: &mut C,
+    is_cut: bool,
+) -> Result<Recovered, CommandFault>
+    ensures recovered { OnOk result (IfSome (L.remaining reader.old) (λ bytes. TellsRecovered bytes (H.home_tells home.old) (H.home_taken home.old) (H.home_tells home.new) (H.home_taken home.new))) }
+    ensures counts { IfOk result (λ found. IfSome (L.remaining reader.old) (λ bytes. IsCounted bytes found)) }
+    ensures why { IfErr result (λ fault. IfStopped fault (λ found. IfSome (L.remaining reader.old) (λ bytes. IsWhy bytes found))) }
+    ensures untouched { IfErr result (λ fault. IfStopped fault (λ found. is_home_fault found ≡ false → home.new ≡ home.old)) }
+    ensures order { IfErr result (λ fault. IfStopped fault (λ _. log.new ≡ log.old)) }
+    ensures safe { (log.new ≡ log.old) ⊎ IfSome (L.remaining reader.old) (λ bytes. TellsRecovered bytes (H.home_tells home.old) (H.home_taken home.old) (H.home_tells home.new) (H.home_taken home.new)) }
+    ensures emptied { OnOk result (is_cut ≡ true → C.is_emptied log.new ≡ true) }
+    ensures uncut { is_cut ≡ false → log.new ≡ log.old }
+{
+    match recover(alloc, reader, home) {
+        Ok(recovered) => empty_log(log, is_cut, recovered),
+        Err(fault) => Err(CommandFault::Recover(fault)),
+    }
+}
+
+/// Empties the log of what was recovered, where that is asked.
+fn empty_log<C: Emptied>(
+    log: &mut C,
+    is_cut: bool,
+    recovered: Recovered,
+) -> Result<Recovered, CommandFault>
+    ensures same { IfOk result (λ found. found ≡ recovered) }
+    ensures fault { IfErr result (λ fault. IfStopped fault (λ _. ⊥)) }
+    ensures emptied { OnOk result (is_cut ≡ true → C.is_emptied log.new ≡ true) }
+    ensures uncut { is_cut ≡ false → log.new ≡ log.old }
+{
+    if !is_cut {
+        return Ok(recovered);
+    }
+    match log.empty() {
+        Ok(()) => Ok(recovered),
+        Err(error) => Err(CommandFault::Empty(error)),
+    }
+}
+
+/// Recovers a home device from a log, which is emptied after that where it is asked, and prints what was recovered. Answers the exit status:
+/// 0; 3 after `fault OFFSET` of a log with a field that breaks its rule, and then the home device and the log are as they were; 1 after another
+/// fault, which is printed on `err`.
+pub fn run<L: Read, C: Emptied, H: HomeDevice, W: Write, E: Write>(
+    alloc: Global,
+    reader: &mut L,
+    home: &mut H,
+    log: &mut C,
+    is_cut: bool,
+    writer: &mut W,
+    err: &mut E,
+) -> u8
+    ensures status { IsCommandStatus result }
+    ensures recovered { result ≡ 0 → IfSome (L.remaining reader.old) (λ bytes. TellsRecovered bytes (H.home_tells home.old) (H.home_taken home.old) (H.home_tells home.new) (H.home_taken home.new)) }
+    ensures printed { result ≡ 0 → (found : ARecovered) × Appends (W.contents writer.old) (W.contents writer.new) (recovered_lines found) × IfSome (L.remaining reader.old) (λ bytes. IsCounted bytes found) }
+    ensures emptied { result ≡ 0 → is_cut ≡ true → C.is_emptied log.new ≡ true }
+    ensures broken { result ≡ 3 → (offset : ℕ) × Appends (W.contents writer.old) (W.contents writer.new) (fault_line offset) × IfSome (L.remaining reader.old) (IsBrokenAt offset) }
+    ensures untouched { result ≡ 3 → (home.new ≡ home.old) × (log.new ≡ log.old) }
+    ensures safe { (log.new ≡ log.old) ⊎ IfSome (L.remaining reader.old) (λ bytes. TellsRecovered bytes (H.home_tells home.old) (H.home_taken home.old) (H.home_tells home.new) (H.home_taken home.new)) }
+    ensures uncut { is_cut ≡ false → log.new ≡ log.old }
+{
+    let end = recover_log(alloc, reader, home, log, is_cut);
+    print_end(writer, err, &end)
+}
+
+/// Prints how recovery ended: the exit status.
+fn print_end<W: Write, E: Write>(
+    writer: &mut W,
+    err: &mut E,
+    end: &Result<Recovered, CommandFault>,
+) -> u8
+    ensures { IsOutcomePrinted end.now (W.contents writer.old) (W.contents writer.new) result }
+{
+    match end {
+        Ok(recovered) => status_printed(err, print_recovered(writer, recovered), 0),
+        Err(CommandFault::Recover(RecoverFault::Log(LogFault::Broken(offset)))) => {
+            status_printed(err, print_broken(writer, *offset), 3)
+        }
+        Err(fault) => {
+            let _ = writeln!(err, "fault: {fault}");
+            1
+        }
+    }
+}
+
+/// The status where all was printed; else 1, and what failed is told.
+fn status_printed<E: Write>(err: &mut E, printed: io::Result<()>, status: u8) -> u8
+    ensures { MatchResult printed (λ _. result ≡ status) (λ _. result ≡ 1) }
+{
+    match printed {
+        Ok(()) => status,
+        Err(error) => {
+            let _ = writeln!(err, "fault: {error}");
+            1
+        }
+    }
+}
+
+/// Prints what was recovered, and how many bytes stand behind the last whole text, if there are any.
+fn print_recovered<W: Write>(writer: &mut W, recovered: &Recovered) -> io::Result<()>
+    ensures { OnOk result (Appends (W.contents writer.old) (W.contents writer.new) (recovered_lines recovered.now)) }
+{
+    let Recovered {
+        texts,
+        blocks,
+        rest,
+    } = *recovered;
+    writeln!(writer, "recovered {texts} texts {blocks} blocks")?;
+    print_rest(writer, rest)?;
+    writer.flush()
+}
+
+/// Prints how many bytes stand behind the last whole text, if there are any.
+fn print_rest<W: Write>(writer: &mut W, rest: u64) -> io::Result<()>
+    ensures { OnOk result (Appends (W.contents writer.old) (W.contents writer.new) (rest_lines rest)) }
+{
+    if rest == 0 {
+        return Ok(());
+    }
+    writeln!(writer, "rest {rest}")
+}
+
+/// Prints where a field breaks its rule, counted in the log from 0.
+fn print_broken<W: Write>(writer: &mut W, offset: u64) -> io::Result<()>
+    ensures { OnOk result (Appends (W.contents writer.old) (W.contents writer.new) (fault_line offset)) }
+{
+    writeln!(writer, "fault {offset}")?;
+    writer.flush()
+}
