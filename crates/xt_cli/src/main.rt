@@ -1,12 +1,17 @@
 //! The program `xth`: transactions of mounted volumes, step by step.
 #![tactic(auto)]
 
+mod recovery;
 mod serve;
 
 use clap::error::ErrorKind;
 use clap::{Arg, ArgMatches, Command};
+use recovery::files::recover_files;
+use recovery::options::{Asked, recover_command};
+use recovery::volumes::recover_volumes;
 use serve::fault::ServeFault;
 use serve::files::{Opened, look, open};
+use serve::holding::hold_all;
 use serve::options::{Options, serve_command};
 use serve::running::{Orders, serve};
 use std::alloc::{AllocError, Global};
@@ -65,6 +70,7 @@ fn command<'a>(alloc: Global) -> Result<Command<'a>, AllocError> {
         .subcommand(script_command(alloc))?
         .subcommand(strike_command(alloc)?)?
         .subcommand(logdump_command(alloc)?)?
+        .subcommand(recover_command(alloc)?)?
         .subcommand(serve_command(alloc)?)
 }
 
@@ -115,12 +121,20 @@ fn log_path<'a>(matches: &ArgMatches<'a>) -> Option<&'a str> {
     matches.subcommand_matches("logdump")?.get_str("FILE")
 }
 
+/// A service that is made ready.
+struct Ready {
+    orders: Orders,
+    opened: Vec<Opened>,
+    /// The home devices, locked for as long as the service runs.
+    held: Vec<File>,
+}
+
 /// What is left to do.
 enum Next {
     /// Nothing: this is the status.
     End(u8),
     /// Volumes are to be served.
-    Serve(Orders, Vec<Opened>),
+    Serve(Ready),
 }
 
 /// Listens at a port of this machine, or at one that the system chooses.
@@ -134,9 +148,13 @@ fn listen(rt: &HostRuntime, port: u16) -> Result<TcpListener, ServeFault> {
 /// Makes ready what a service needs: the port first, and files only where all can be devices.
 fn make_ready(rt: &HostRuntime, options: &Options) -> Result<Next, ServeFault> {
     let alloc = rt.alloc();
-    look(rt, alloc, &options.volumes)?;
+    look(rt, alloc, &options.volumes, options.recovers)?;
     let listener = listen(rt, options.port)?;
     let port = listener.local_addr()?.port();
+    let held = hold_all(rt, alloc, &options.volumes)?;
+    if options.recovers {
+        recover_volumes(rt, alloc, &options.volumes)?;
+    }
     let opened = open(rt, alloc, &options.volumes)?;
     let orders = Orders {
         listener,
@@ -144,11 +162,18 @@ fn make_ready(rt: &HostRuntime, options: &Options) -> Result<Next, ServeFault> {
         workers: options.workers,
         sessions: options.sessions,
     };
-    Ok(Next::Serve(orders, opened))
+    Ok(Next::Serve(Ready {
+        orders,
+        opened,
+        held,
+    }))
 }
 
-/// Makes ready what a service needs, if one is asked.
-fn serve_if_asked(rt: &HostRuntime, matches: &ArgMatches) -> Result<Option<Next>, ServeFault> {
+/// Recovers a volume, or makes ready what a service needs, if that is asked.
+fn with_volumes(rt: &HostRuntime, matches: &ArgMatches) -> Result<Option<Next>, ServeFault> {
+    if let Some(asked) = Asked::of(matches) {
+        return Ok(Some(Next::End(recover_files(rt, asked)?)));
+    }
     match Options::of(rt.alloc(), matches)? {
         Some(options) => Ok(Some(make_ready(rt, &options)?)),
         None => Ok(None),
@@ -163,7 +188,7 @@ fn fail(rt: &HostRuntime, fault: &ServeFault) -> u8 {
 
 /// Does what the words of a right command line say, but for a service, which is made ready.
 fn obey(rt: &HostRuntime, matches: &ArgMatches) -> Result<Next, ScriptFault> {
-    match serve_if_asked(rt, matches) {
+    match with_volumes(rt, matches) {
         Ok(Some(next)) => return Ok(next),
         Ok(None) => {}
         Err(fault) => return Ok(Next::End(fail(rt, &fault))),
@@ -196,14 +221,19 @@ fn run(rt: &HostRuntime) -> Result<Next, ScriptFault> {
 
 fn main(rt: HostRuntime) -> ExitCode {
     let alloc = rt.alloc();
-    let (orders, opened) = match run(&rt) {
-        Ok(Next::Serve(orders, opened)) => (orders, opened),
+    let ready = match run(&rt) {
+        Ok(Next::Serve(ready)) => ready,
         Ok(Next::End(status)) => return ExitCode::from(status),
         Err(fault) => {
             let _ = eprintln!(rt; "{fault}");
             return ExitCode::from(fault.status());
         }
     };
+    let Ready {
+        orders,
+        opened,
+        held: _held,
+    } = ready;
     ExitCode::from(match serve(rt, alloc, Blanks::new(), &orders, opened) {
         Ok(status) => status,
         Err(fault) => fail(&rt, &fault),

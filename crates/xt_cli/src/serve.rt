@@ -2,5 +2,6 @@
 
 pub mod fault;
 pub mod files;
+pub mod holding;
 pub mod options;
 pub mod running;

@@ -6,6 +6,7 @@ use thiserror::Error;
 use xt_base::names::Slot;
 use xt_base::steps::Errno;
 use xt_dev::fault::FileFault;
+use xt_recover::command::CommandFault;
 use xt_volumes::VolumeFault;
 
 /// Why volumes are not served, or not to the end of the service.
@@ -23,9 +24,18 @@ pub enum ServeFault {
     /// A file that two devices would have.
     #[error("fault: {0} is named twice")]
     Twice(String),
+    /// A home device that another process has.
+    #[error("fault: {0} is in use")]
+    InUse(String),
     /// A file that can't be a device.
     #[error("fault: {0}: {1}")]
     File(String, FileFault),
+    /// A log that has something in it, which is not to be recovered.
+    #[error("fault: {0}: the log is not empty; recover it with xth recover, or serve with --recover")]
+    NotRecovered(String),
+    /// A volume that was not recovered: the name of the file at fault.
+    #[error("fault: {0}: {1}")]
+    Recovery(String, CommandFault),
     /// A port that can't be listened at.
     #[error("fault: port {0}: {1}")]
     Port(u16, io::Error),

@@ -21,7 +21,7 @@ pub struct Opened {
 }
 
 /// A fault of a file, with its name.
-fn fault(alloc: Global, name: &str, fault: FileFault) -> ServeFault {
+pub fn fault(alloc: Global, name: &str, fault: FileFault) -> ServeFault {
     match String::from_str(alloc, name) {
         Ok(name) => ServeFault::File(name, fault),
         Err(refused) => ServeFault::Memory(refused),
@@ -51,7 +51,7 @@ fn place(rt: &HostRuntime, alloc: Global, name: &str) -> io::Result<PathBuf> {
 }
 
 /// How many bytes a file has, if it is there; no folder is a file, and no name that ends as one of a folder is that of a file.
-fn size(rt: &HostRuntime, name: &str) -> io::Result<u64> {
+pub fn size(rt: &HostRuntime, name: &str) -> io::Result<u64> {
     match fs::metadata(rt, name) {
         Ok(found) if found.is_dir() => Err(io::Error::from(ErrorKind::IsADirectory)),
         Ok(found) => Ok(found.len()),
@@ -61,7 +61,7 @@ fn size(rt: &HostRuntime, name: &str) -> io::Result<u64> {
 }
 
 /// Looks at a file, and notes where it is: its size.
-fn look_at(
+pub fn look_at(
     rt: &HostRuntime,
     alloc: Global,
     name: &str,
@@ -79,16 +79,43 @@ fn look_at(
 }
 
 /// Looks at the files of volumes before any is made: a file in no folder, one that is a folder, one that two devices would have, and a log
-/// that has something in it are faults.
-pub fn look(rt: &HostRuntime, alloc: Global, volumes: &[Volume]) -> Result<(), ServeFault> {
+/// that has something in it, where logs are not recovered, are faults.
+pub fn look(
+    rt: &HostRuntime,
+    alloc: Global,
+    volumes: &[Volume],
+    recovers: bool,
+) -> Result<(), ServeFault> {
     let mut places = Vec::new(alloc);
     for volume in volumes {
         look_at(rt, alloc, volume.home.as_str(), &mut places)?;
         if look_at(rt, alloc, volume.log.as_str(), &mut places)? > 0 {
-            return Err(fault(alloc, volume.log.as_str(), FileFault::NotEmpty));
+            look_at_left(rt, alloc, volume, recovers)?;
         }
     }
     Ok(())
+}
+
+/// Looks at a volume whose log has something in it: it must be recovered, and its home device be there.
+fn look_at_left(
+    rt: &HostRuntime,
+    alloc: Global,
+    volume: &Volume,
+    recovers: bool,
+) -> Result<(), ServeFault> {
+    if !recovers {
+        let name = String::from_str(alloc, volume.log.as_str())?;
+        return Err(ServeFault::NotRecovered(name));
+    }
+    look_for(rt, alloc, volume.home.as_str())
+}
+
+/// Looks for a file that must be there.
+pub fn look_for(rt: &HostRuntime, alloc: Global, name: &str) -> Result<(), ServeFault> {
+    match fs::metadata(rt, name) {
+        Ok(_found) => Ok(()),
+        Err(error) => Err(fault(alloc, name, FileFault::Io(error))),
+    }
 }
 
 /// Opens the files of a volume.

@@ -2,14 +2,14 @@
 
 use crate::serve::fault::ServeFault;
 use clap::builder::ValueParser;
-use clap::{Arg, ArgMatches, Command};
+use clap::{Arg, ArgAction, ArgMatches, Command};
 use std::alloc::{AllocError, Global};
 use xt_volumes::{Volume, volumes};
 
 /// What a volume is, with an example.
 const VOLUME: &str = "A volume, SLOT:LOGBYTES:BLOCKS:HOMEFILE:LOGFILE: \
 a slot (0 to 15), the bytes of its log (65536 to 16777216), the blocks of 4096 bytes of its home device, and the files of both, \
-which are made where they are missing; the log file must be empty. Example: 0:65536:1024:vol.home:vol.log";
+which are made where they are missing; the log file must be empty, or --recover be said. Example: 0:65536:1024:vol.home:vol.log";
 
 /// What a service is asked to do.
 #[derive(Debug, Drop)]
@@ -20,6 +20,8 @@ pub struct Options {
     pub workers: usize,
     /// How many sessions, 1 to 1,000,000.
     pub sessions: u32,
+    /// Whether volumes are recovered from logs that are not empty.
+    pub recovers: bool,
     /// The volumes, ascending by slot.
     pub volumes: Vec<Volume>,
 }
@@ -38,6 +40,14 @@ fn number<'a>(
         .help(help)
         .required(true)
         .value_parser(ValueParser::unsigned(bounds.0, bounds.1))
+}
+
+/// An option with no value.
+fn flag<'a>(alloc: Global, id: &'a str, help: &'a str) -> Arg<'a> {
+    Arg::new(alloc, id)
+        .long(id)
+        .help(help)
+        .action(ArgAction::SetTrue)
 }
 
 /// The command line of a service.
@@ -63,6 +73,11 @@ pub fn serve_command<'a>(alloc: Global) -> Result<Command<'a>, AllocError> {
         "How many sessions are served, 1 to 1000000; then the service ends",
         (1, 1_000_000),
     );
+    let recover = flag(
+        alloc,
+        "recover",
+        "Recovers each volume whose log is not empty, and empties that log, before the start",
+    );
     let volume = Arg::new(alloc, "VOL")
         .help(VOLUME)
         .required(true)
@@ -72,6 +87,7 @@ pub fn serve_command<'a>(alloc: Global) -> Result<Command<'a>, AllocError> {
         .arg(port)?
         .arg(workers)?
         .arg(sessions)?
+        .arg(recover)?
         .arg(volume)
 }
 
@@ -86,6 +102,7 @@ impl Options {
             port: serve.get_one("port").unwrap_or(0),
             workers: usize::from(serve.get_one::<u8>("workers").unwrap_or(1)),
             sessions: serve.get_one("sessions").unwrap_or(1),
+            recovers: serve.get_flag("recover"),
             volumes: volumes(alloc, words)?,
         }))
     }
