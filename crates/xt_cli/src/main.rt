@@ -8,7 +8,7 @@ use clap::error::ErrorKind;
 use clap::{Arg, ArgMatches, Command};
 use recovery::files::recover_files;
 use recovery::options::{Asked, recover_command};
-use recovery::volumes::recover_volumes;
+use recovery::volumes::{empty_logs, recover_volumes};
 use serve::fault::ServeFault;
 use serve::files::{Opened, look, open};
 use serve::holding::hold_all;
@@ -23,6 +23,7 @@ use xt_base::names::Slot;
 use xt_cell::reserve::Blanks;
 use xt_offline::progress::Watched;
 use xt_offline::{LOG_BYTES, LogFault, ScriptFault, dump, run_script, tell};
+use xt_volumes::Volume;
 
 /// How many bytes of output are written at once.
 const OUTPUT_BYTES: usize = 65_536;
@@ -125,6 +126,9 @@ fn log_path<'a>(matches: &ArgMatches<'a>) -> Option<&'a str> {
 struct Ready {
     orders: Orders,
     opened: Vec<Opened>,
+    /// The volumes, and whether their logs are emptied at the end.
+    volumes: Vec<Volume>,
+    cuts_logs: bool,
     /// The home devices, locked for as long as the service runs.
     held: Vec<File>,
 }
@@ -146,7 +150,7 @@ fn listen(rt: &HostRuntime, port: u16) -> Result<TcpListener, ServeFault> {
 }
 
 /// Makes ready what a service needs: the port first, and files only where all can be devices.
-fn make_ready(rt: &HostRuntime, options: &Options) -> Result<Next, ServeFault> {
+fn make_ready(rt: &HostRuntime, options: Options) -> Result<Next, ServeFault> {
     let alloc = rt.alloc();
     look(rt, alloc, &options.volumes, options.recovers)?;
     let listener = listen(rt, options.port)?;
@@ -165,6 +169,8 @@ fn make_ready(rt: &HostRuntime, options: &Options) -> Result<Next, ServeFault> {
     Ok(Next::Serve(Ready {
         orders,
         opened,
+        cuts_logs: options.cuts_logs,
+        volumes: options.volumes,
         held,
     }))
 }
@@ -175,7 +181,7 @@ fn with_volumes(rt: &HostRuntime, matches: &ArgMatches) -> Result<Option<Next>, 
         return Ok(Some(Next::End(recover_files(rt, asked)?)));
     }
     match Options::of(rt.alloc(), matches)? {
-        Some(options) => Ok(Some(make_ready(rt, &options)?)),
+        Some(options) => Ok(Some(make_ready(rt, options)?)),
         None => Ok(None),
     }
 }
@@ -232,10 +238,13 @@ fn main(rt: HostRuntime) -> ExitCode {
     let Ready {
         orders,
         opened,
+        volumes,
+        cuts_logs,
         held: _held,
     } = ready;
     ExitCode::from(match serve(rt, alloc, Blanks::new(), &orders, opened) {
-        Ok(status) => status,
+        Ok(ended) if cuts_logs => empty_logs(&rt, &ended, &volumes),
+        Ok(ended) => ended.status,
         Err(fault) => fail(&rt, &fault),
     })
 }

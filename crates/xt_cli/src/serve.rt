@@ -1,5 +1,6 @@
 //! `xth serve`: a host over volumes in files, for daemons in any language.
 
+pub mod ending;
 pub mod fault;
 pub mod files;
 pub mod holding;

@@ -1,14 +1,18 @@
-//! The volumes of a service, recovered before its start.
+//! The volumes of a service: recovered before its start, and their logs emptied after its end.
 
+use crate::recovery::emptying::LogFile;
 use crate::recovery::files::{Left, open_left};
 use crate::recovery::options::Asked;
+use crate::serve::ending::Ended;
 use crate::serve::fault::ServeFault;
 use crate::serve::files::{fault, size};
 use crate::terminal;
 use std::alloc::Global;
+use std::fs::File;
+use std::io;
 use xt_dev::fault::FileFault;
 use xt_offline::progress::Watched;
-use xt_recover::command::{CommandFault, recover_log};
+use xt_recover::command::{CommandFault, Emptied, recover_log};
 use xt_recover::recovering::{RecoverFault, Recovered};
 use xt_volumes::Volume;
 
@@ -66,4 +70,26 @@ pub fn recover_volumes(
         }
     }
     Ok(())
+}
+
+/// Empties the file of a log.
+fn empty_log(rt: &HostRuntime, name: &str) -> io::Result<()> {
+    let file = File::options().write(true).open(rt, name)?;
+    LogFile::new(file).empty()
+}
+
+/// Empties the logs of those volumes of which all that was committed is home: the status of the service, or 1 where a log was not emptied.
+pub fn empty_logs(rt: &HostRuntime, ended: &Ended, volumes: &[Volume]) -> u8 {
+    let mut status = ended.status;
+    for volume in volumes {
+        let name = volume.log.as_str();
+        if !ended.is_home(volume.slot) {
+            continue;
+        }
+        if let Err(error) = empty_log(rt, name) {
+            let _ = eprintln!(rt; "fault: {name}: {error}");
+            status = 1;
+        }
+    }
+    status
 }

@@ -22,6 +22,8 @@ pub struct Options {
     pub sessions: u32,
     /// Whether volumes are recovered from logs that are not empty.
     pub recovers: bool,
+    /// Whether logs that are of no use any more are emptied at the end.
+    pub cuts_logs: bool,
     /// The volumes, ascending by slot.
     pub volumes: Vec<Volume>,
 }
@@ -50,8 +52,8 @@ fn flag<'a>(alloc: Global, id: &'a str, help: &'a str) -> Arg<'a> {
         .action(ArgAction::SetTrue)
 }
 
-/// The command line of a service.
-pub fn serve_command<'a>(alloc: Global) -> Result<Command<'a>, AllocError> {
+/// Puts the numbers of a service into its command line.
+fn with_numbers<'a>(alloc: Global, command: Command<'a>) -> Result<Command<'a>, AllocError> {
     let port = number(
         alloc,
         "port",
@@ -73,21 +75,31 @@ pub fn serve_command<'a>(alloc: Global) -> Result<Command<'a>, AllocError> {
         "How many sessions are served, 1 to 1000000; then the service ends",
         (1, 1_000_000),
     );
+    command.arg(port)?.arg(workers)?.arg(sessions)
+}
+
+/// The command line of a service.
+pub fn serve_command<'a>(alloc: Global) -> Result<Command<'a>, AllocError> {
     let recover = flag(
         alloc,
         "recover",
         "Recovers each volume whose log is not empty, and empties that log, before the start",
     );
+    let cut_logs = flag(
+        alloc,
+        "cut-logs",
+        "Empties at the end the log of each volume that is home: it was live, and is unmounted",
+    );
     let volume = Arg::new(alloc, "VOL")
         .help(VOLUME)
         .required(true)
         .num_args(1usize..);
-    Command::new(alloc, "serve")
-        .about("Mounts volumes in files, and serves sessions of lines over TCP")
-        .arg(port)?
-        .arg(workers)?
-        .arg(sessions)?
+    let serve = Command::new(alloc, "serve").about(
+        "Mounts volumes in files, and serves sessions of lines over TCP",
+    );
+    with_numbers(alloc, serve)?
         .arg(recover)?
+        .arg(cut_logs)?
         .arg(volume)
 }
 
@@ -103,6 +115,7 @@ impl Options {
             workers: usize::from(serve.get_one::<u8>("workers").unwrap_or(1)),
             sessions: serve.get_one("sessions").unwrap_or(1),
             recovers: serve.get_flag("recover"),
+            cuts_logs: serve.get_flag("cut-logs"),
             volumes: volumes(alloc, words)?,
         }))
     }

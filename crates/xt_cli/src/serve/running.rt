@@ -4,6 +4,7 @@ ghost use Rattle.std.specs.Prelude.{◌≡◌, ◌-◌, ◌^◌, All};
 ghost use Rattle.std.specs.Arc.{arc_value};
 ghost use Rattle.xt_cell.specs.Ledgers.{AreCut, AreNamed};
 
+use crate::serve::ending::{Ended, with_live};
 use crate::serve::fault::ServeFault;
 use crate::serve::files::Opened;
 use std::alloc::Global;
@@ -88,7 +89,8 @@ fn report<R: Eprint>(rt: &R, outcome: Result<(), ServeFault>) -> bool {
     }
 }
 
-/// Says that a service listens, serves its sessions, and ends it: what it leaves, and why not all sessions were served, if they were not.
+/// Says that a service listens, serves its sessions, and ends it: what it leaves, which slots were unmounted live, and why not all sessions
+/// were served, if they were not.
 fn serve_sessions<
     H: House + Send + Sync + 'static,
     R: Threads + Wait + Clock + Print + Copy + Send + 'static,
@@ -99,7 +101,7 @@ fn serve_sessions<
     service: Service<H>,
     orders: &Orders,
     mounts: &[MountRef],
-) -> (ServiceEnd<H>, Result<(), ServeFault>)
+) -> (ServiceEnd<H>, [bool; SLOTS], Result<(), ServeFault>)
     requires board { service.own.board.board ≡ (arc_value host.now).board }
     requires workers { All (λ worker. (worker.promise.0.value.seat.board.board ≡ (arc_value host.now).board) × (worker.promise.0.value.pass.queue ≡ arc_value (arc_value host.now).queue)) service.crew.workers.items }
 {
@@ -110,16 +112,19 @@ fn serve_sessions<
             .map_err(ServeFault::Accept),
         Err(error) => Err(ServeFault::Io(error)),
     };
-    (service.end(&rt, host, mounts), served)
+    let end = service.end(&rt, host, mounts);
+    let (end, unmounted_live) = with_live(host, end, mounts);
+    (end, unmounted_live, served)
 }
 
-/// Tells what was not as it should be at the end of a service: the status.
+/// Tells what was not as it should be at the end of a service.
 fn tell_end<R: Eprint>(
     rt: &R,
     served: Result<(), ServeFault>,
     kept: &[Option<Errno>; SLOTS],
     is_closed: bool,
-) -> u8 {
+    unmounted_live: [bool; SLOTS],
+) -> Ended {
     let closed = if is_closed {
         Ok(())
     } else {
@@ -128,10 +133,14 @@ fn tell_end<R: Eprint>(
     let all_were_served = report(rt, served);
     let none_is_mounted = print_all_kept(rt, kept);
     let is_closed = report(rt, closed);
-    u8::from(!(all_were_served && none_is_mounted && is_closed))
+    Ended {
+        status: u8::from(!(all_were_served && none_is_mounted && is_closed)),
+        is_closed,
+        unmounted_live,
+    }
 }
 
-/// Makes a host over the files of volumes, says that it listens, serves its sessions, and ends it: the status. The devices are boxed here,
+/// Makes a host over the files of volumes, says that it listens, serves its sessions, and ends it. The devices are boxed here,
 /// where no type of a parameter has a boxed one, and here the host ends.
 fn run<
     H: House + Send + Sync + 'static,
@@ -142,7 +151,7 @@ fn run<
     blanks: Blanks,
     orders: &Orders,
     volumes: Vec<Opened>,
-) -> Result<u8, ServeFault>
+) -> Result<Ended, ServeFault>
     requires names { AreNamed H.names blanks }
     requires parts { AreCut H.all blanks }
     requires all { H.all ≡ 2 ^ 64 - 1 }
@@ -169,7 +178,7 @@ fn run<
         Ok(service) => service,
         Err(errno) => return Err(ServeFault::Start(errno)),
     };
-    let (end, served) = serve_sessions(rt, alloc, &host, service, orders, &mounts);
+    let (end, unmounted_live, served) = serve_sessions(rt, alloc, &host, service, orders, &mounts);
     let ServiceEnd {
         kept,
         seats,
@@ -179,17 +188,17 @@ fn run<
         Some(host) => host.close(seats, passes).is_ok(),
         None => false,
     };
-    Ok(tell_end(&rt, served, &kept, is_closed))
+    Ok(tell_end(&rt, served, &kept, is_closed, unmounted_live))
 }
 
-/// Serves volumes over new ledgers, to the end of the last session: the status.
+/// Serves volumes over new ledgers, to the end of the last session.
 pub fn serve<R: Threads + Wait + Clock + Print + Eprint + Copy + Send + 'static>(
     rt: R,
     alloc: Global,
     blanks: Blanks,
     orders: &Orders,
     volumes: Vec<Opened>,
-) -> Result<u8, ServeFault>
+) -> Result<Ended, ServeFault>
     requires parts { AreCut (2 ^ 64 - 1) blanks }
 {
     run::<Brand, R>(rt, alloc, blanks, orders, volumes)
