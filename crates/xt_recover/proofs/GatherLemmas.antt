@@ -1,5 +1,5 @@
 -- A log that is gathered text by text.
-use Rattle.std.proofs.Common.{append_assoc, ◌≡◌, ◌∙◌, ◌+◌, ◌<◌, ◌≤◌, ◌∷◌, ◌++◌, All, List, None, Option, Some, [], ap, append-nil, arith, false, length, refl, subst, suc, sym, true≢false, ℕ}
+use Rattle.std.proofs.Common.{append_assoc, ◌≡◌, ◌∙◌, ◌+◌, ◌∷◌, ◌++◌, All, List, None, Option, Some, [], ap, append-nil, arith, false, length, refl, subst, suc, sym, true≢false, ℕ}
 use Rattle.std.proofs.lemmas.List.{take-append-drop, drop-drop, length-append, length-take-le}
 use Rattle.std.specs.Prelude.{IfSome, drop, take}
 use Rattle.xt_ckpt.specs.Fields.{IsUnfinished}

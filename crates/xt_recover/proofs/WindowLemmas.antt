@@ -1,5 +1,5 @@
 -- A window over a reader: what is ahead of it in a log.
-use Rattle.std.proofs.Common.{◌≡◌, ◌∙◌, ◌+◌, ◌<◌, ◌≤◌, ◌++◌, All, ℕ, List, Option, Some, None, append-nil, append_assoc, ap, arith, drop, length, refl, subst, sym}
+use Rattle.std.proofs.Common.{◌≡◌, ◌∙◌, ◌+◌, ◌++◌, All, ℕ, List, Option, Some, None, append-nil, append_assoc, ap, arith, drop, length, refl, subst, sym}
 use Rattle.std.proofs.lemmas.List.{drop-append-le, length-append, take-append-le}
 use Rattle.std.specs.Io.KnownBytes.{Keeps}
 use Rattle.std.specs.Prelude.{IfSome}

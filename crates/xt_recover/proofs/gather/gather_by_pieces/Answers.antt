@@ -1,4 +1,4 @@
-use Rattle.xt_recover.proofs.GatherLemmas.{gathered_rest, stands_first, stands_more, tied_first, why_broken}
+use Rattle.xt_recover.proofs.GatherLemmas.{gathered_rest, stands_first, stands_more, tied_first}
 use Rattle.xt_recover.proofs.WindowLemmas.{formed_found}
 use Rattle.xt_recover.specs.Overlaid.{overlaid}
 use Rattle.xt_recover.proofs.gather.gather_by_pieces.Goals as goal
