@@ -1,5 +1,5 @@
 -- What recovery does to a home device, and to the image that it stands for.
-use Rattle.std.specs.Prelude.{Bool, false, List, None, Some, [], if◌then◌else◌, length, reverse, true, ℕ, ◌++◌, ◌<◌, ◌==◌, ◌∷◌, ◌≡◌}
+use Rattle.std.specs.Prelude.{Bool, false, List, None, Some, [], if◌then◌else◌, length, reverse, take, true, ℕ, ◌++◌, ◌<◌, ◌==◌, ◌∷◌, ◌≡◌, ◌⊎◌}
 use Rattle.xt_base.specs.Text.{chunk}
 use Rattle.xt_base.specs.declared.steps.HomeOffer.{HomeOffer}
 use Rattle.xt_ckpt.specs.Grammar.{Entry}
@@ -27,6 +27,22 @@ AreAnswered (HomeCall.Read b (Some content) ∷ cs) old new = ((k : ℕ) → k <
 AreAnswered (HomeCall.Offer (HomeOffer.Write b content ok) ∷ cs) old new = AreAnswered cs (with_block b content old) new
 AreAnswered (HomeCall.Offer (HomeOffer.Sync ok) ∷ cs) old new = AreAnswered cs old new
 
+-- what may be left of an image while a block is written, or where that fails: each of its chunks as it was or as it is written
+abbrev pub IsTorn : ℕ → List ℕ → Image → Image → Type 0
+IsTorn b content old left = (q k : ℕ) → k < 32 → (left q k ≡ old q k) ⊎ ((q ≡ b) × (left q k ≡ chunk content k))
+
+-- what calls may leave of an image, whether they succeeded or not
+abbrev pub MayLeave : List HomeCall → Image → Image → Type 0
+MayLeave [] old left = Agree left old
+MayLeave (HomeCall.Read b None ∷ cs) old left = MayLeave cs old left
+MayLeave (HomeCall.Read b (Some content) ∷ cs) old left = ((k : ℕ) → k < 32 → chunk content k ≡ old b k) × MayLeave cs old left
+MayLeave (HomeCall.Offer (HomeOffer.Write b content ok) ∷ cs) old left = (mid : Image) × IsTorn b content old mid × MayLeave cs mid left
+MayLeave (HomeCall.Offer (HomeOffer.Sync ok) ∷ cs) old left = MayLeave cs old left
+
+-- broken off behind any of these calls, recovery that is run again over what they may have left gives what it gives over the image that was there
+abbrev pub CanBreakOff : List (List Entry) → List HomeCall → Type 0
+CanBreakOff texts calls = (n : ℕ) (old left : Image) → MayLeave (take n calls) old left → Agree (replayed_image (reverse texts) left) (replayed_image (reverse texts) old)
+
 -- the device was told calls that end with a sync, and if it answered them as an image does, its image is the one that the texts of the log, laid
 -- over it the newest first, give
 pub record TellsRecovered (log : List ℕ) (told : Bool) (before : List HomeCall) (tell : Bool) (after : List HomeCall) : Type 0 where
@@ -35,6 +51,15 @@ pub record TellsRecovered (log : List ℕ) (told : Bool) (before : List HomeCall
   pub calls : List HomeCall
   pub tells : Tells told before (calls ++ HomeCall.Offer (HomeOffer.Sync true) ∷ []) tell after
   pub image : (old new : Image) → AreAnswered calls old new → Agree new (replayed_image (reverse texts) old)
+  pub again : CanBreakOff texts calls
+
+-- the device was told calls up to one that failed, and recovery can be run again over what they left
+pub record TellsBrokenOff (log : List ℕ) (told : Bool) (before : List HomeCall) (tell : Bool) (after : List HomeCall) : Type 0 where
+  pub texts : List (List Entry)
+  pub read : ReadsAs log texts
+  pub calls : List HomeCall
+  pub tells : Tells told before calls tell after
+  pub again : CanBreakOff texts calls
 
 -- whether the home device failed; before any other fault it was not asked anything
 abbrev pub is_home_fault : RecoverFault → Bool

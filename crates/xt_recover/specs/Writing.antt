@@ -1,5 +1,5 @@
 -- What is written of what was gathered over a home device.
-use Rattle.std.specs.Prelude.{Bool, List, Some, [], length, true, unwrap_or, ℕ, ◌++◌, ◌∷◌, ◌≡◌}
+use Rattle.std.specs.Prelude.{Bool, List, Option, Some, [], length, true, unwrap_or, ℕ, ◌++◌, ◌∷◌, ◌≡◌}
 use Rattle.xt_base.specs.Maps.{at}
 use Rattle.xt_base.specs.declared.sizes.TheConstants.{BLOCK_BYTES}
 use Rattle.xt_base.specs.declared.steps.HomeOffer.{HomeOffer}
@@ -19,12 +19,13 @@ block_calls l e old = HomeCall.Read e.0 (Some old) ∷ HomeCall.Offer (HomeOffer
 -- so is each block that was gathered
 abbrev pub AreWritten : Overlaid → List (ℕ × List ℕ) → List HomeCall → Type 0
 AreWritten l [] calls = calls ≡ []
-AreWritten l (e ∷ es) calls = (old : List ℕ) × (rest : List HomeCall) × (length old ≡ BLOCK_BYTES) × (calls ≡ block_calls l e old ++ rest) × AreWritten l es rest
+AreWritten l (e ∷ es) calls = (old : List ℕ) × (rest : List HomeCall) × (length old ≡ BLOCK_BYTES) × (length e.1 ≡ BLOCK_BYTES) × (calls ≡ block_calls l e old ++ rest) × AreWritten l es rest
 
 -- one block was, as the device tells
 pub record TellsBlock (l : Overlaid) (e : ℕ × List ℕ) (told : Bool) (before : List HomeCall) (tell : Bool) (after : List HomeCall) : Type 0 where
   pub old : List ℕ
   pub whole : length old ≡ BLOCK_BYTES
+  pub own : length e.1 ≡ BLOCK_BYTES
   pub tells : Tells told before (block_calls l e old) tell after
 
 -- all were, and then the device was asked to make them safe
@@ -32,3 +33,17 @@ pub record TellsWritten (l : Overlaid) (told : Bool) (before : List HomeCall) (t
   pub calls : List HomeCall
   pub written : AreWritten l l.contents calls
   pub tells : Tells told before (calls ++ HomeCall.Offer (HomeOffer.Sync true) ∷ []) tell after
+
+-- calls as they go on block by block, up to one that fails or a sync: a block is read, and written with what was gathered of it in the place of its own
+pub data GoOn (l : Overlaid) : List HomeCall → Type 0 where
+  nothing : GoOn l []
+  read : (b : ℕ) (answer : Option (List ℕ)) → GoOn l (HomeCall.Read b answer ∷ [])
+  block : (b : ℕ) (content old : List ℕ) (ok : Bool) (rest : List HomeCall) → length content ≡ BLOCK_BYTES → length old ≡ BLOCK_BYTES → GoOn l rest
+      → GoOn l (HomeCall.Read b (Some old) ∷ HomeCall.Offer (HomeOffer.Write b (merged (chunks_at l b) content old) ok) ∷ rest)
+  sync : (ok : Bool) → GoOn l (HomeCall.Offer (HomeOffer.Sync ok) ∷ [])
+
+-- a call failed, and those up to it went on so
+pub record TellsStopped (l : Overlaid) (told : Bool) (before : List HomeCall) (tell : Bool) (after : List HomeCall) : Type 0 where
+  pub calls : List HomeCall
+  pub goes : GoOn l calls
+  pub tells : Tells told before calls tell after

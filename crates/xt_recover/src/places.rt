@@ -7,6 +7,7 @@ ghost use Rattle.xt_base.specs.Chunks.{places_of};
 ghost use Rattle.xt_base.specs.Text.{chunk};
 ghost use Rattle.xt_recover.specs.Chunks.{merged, with_chunks};
 
+use xt_base::chunks::Chunks;
 use xt_base::content::Content;
 use xt_base::sizes::{BLOCK_BYTES, CHUNK_BYTES, CHUNKS};
 
@@ -21,8 +22,16 @@ pub(crate) fn lay_marked(content: &mut Content, word: u32, bytes: &[u8])
     }
 }
 
+/// Puts some chunks of a content at their places in the bytes of a block.
+pub(crate) fn copy_chunks(block: &mut [u8], chunks: Chunks, content: &Content)
+    requires whole { length block.old ≡ BLOCK_BYTES }
+    ensures { block.new ≡ merged chunks content.now block.old }
+{
+    copy_marked(block, chunks.word(), content);
+}
+
 /// Puts the chunks of a content that a word has at their places in the bytes of a block.
-pub(crate) fn copy_marked(block: &mut [u8], word: u32, content: &Content)
+fn copy_marked(block: &mut [u8], word: u32, content: &Content)
     requires whole { length block.old ≡ BLOCK_BYTES }
     ensures { block.new ≡ merged (places_of word) content.now block.old }
 {

@@ -1,14 +1,14 @@
 //! What was gathered, written over a home device.
 
-ghost use Rattle.std.specs.Prelude.{◌≡◌, ◌∷◌, [], OnOk, Some, length};
+ghost use Rattle.std.specs.Prelude.{◌≡◌, ◌∷◌, [], None, OnErr, OnOk, Some, length};
 ghost use Rattle.xt_base.specs.declared.sizes.TheConstants.{BLOCK_BYTES};
 ghost use Rattle.xt_dev.specs.Devices.{Tells};
 ghost use Rattle.xt_dev.specs.declared.call.HomeCall.{HomeCall};
 ghost use Rattle.xt_recover.specs.Overlaid.{overlaid};
-ghost use Rattle.xt_recover.specs.Writing.{TellsBlock, TellsWritten};
+ghost use Rattle.xt_recover.specs.Writing.{TellsBlock, TellsStopped, TellsWritten};
 
 use crate::overlay::Overlay;
-use crate::places::copy_marked;
+use crate::places::copy_chunks;
 use thiserror::Error;
 use xt_base::content::Content;
 use xt_base::names::Block;
@@ -35,18 +35,20 @@ impl Overlay {
         home: &mut H,
     ) -> Result<(), DevFault>
         requires whole { length room.old ≡ BLOCK_BYTES }
-        ensures { OnOk result (TellsWritten (overlaid self.now) (H.home_tells home.old) (H.home_taken home.old) (H.home_tells home.new) (H.home_taken home.new)) }
+        ensures written { OnOk result (TellsWritten (overlaid self.now) (H.home_tells home.old) (H.home_taken home.old) (H.home_tells home.new) (H.home_taken home.new)) }
+        ensures stopped { OnErr result (TellsStopped (overlaid self.now) (H.home_tells home.old) (H.home_taken home.old) (H.home_tells home.new) (H.home_taken home.new)) }
     {
         for (block, content) in self.contents.iter() {
             self.write_block(*block, content, room, home)?;
         }
         match home.sync() {
             Ok(()) => Ok(()),
-            Err(DevFault) => Err(DevFault),
+            Err(fault) => Err(fault),
         }
     }
 
     /// Writes one block.
+    #[tactic(auto, using(crate::proofs::WriteLemmas::stopped_read, crate::proofs::WriteLemmas::stopped_write))]
     fn write_block<H: HomeDevice>(
         &self,
         block: u64,
@@ -55,18 +57,25 @@ impl Overlay {
         home: &mut H,
     ) -> Result<(), DevFault>
         requires whole { length room.old ≡ BLOCK_BYTES }
-        ensures { OnOk result (TellsBlock (overlaid self.now) (block, content.now) (H.home_tells home.old) (H.home_taken home.old) (H.home_tells home.new) (H.home_taken home.new)) }
+        ensures written { OnOk result (TellsBlock (overlaid self.now) (block, content.now) (H.home_tells home.old) (H.home_taken home.old) (H.home_tells home.new) (H.home_taken home.new)) }
+        ensures stopped { OnErr result (TellsStopped (overlaid self.now) (H.home_tells home.old) (H.home_taken home.old) (H.home_tells home.new) (H.home_taken home.new)) }
     {
+        // Only the proof needs to see that a content is as long as a block.
+        let _whole = content.bytes();
         read_block(block, room, home)?;
-        copy_marked(room, self.chunks_of(block).word(), content);
-        home.write(Block(block), room)
+        copy_chunks(room, self.chunks_of(block), content);
+        match home.write(Block(block), room) {
+            Ok(()) => Ok(()),
+            Err(DevFault) => Err(DevFault),
+        }
     }
 }
 
 /// Reads a block.
 fn read_block<H: HomeDevice>(block: u64, room: &mut [u8], home: &mut H) -> Result<(), DevFault>
     requires whole { length room.old ≡ BLOCK_BYTES }
-    ensures { OnOk result (Tells (H.home_tells home.old) (H.home_taken home.old) (HomeCall.Read block (Some room.new) ∷ []) (H.home_tells home.new) (H.home_taken home.new)) }
+    ensures told { OnOk result (Tells (H.home_tells home.old) (H.home_taken home.old) (HomeCall.Read block (Some room.new) ∷ []) (H.home_tells home.new) (H.home_taken home.new)) }
+    ensures stopped { OnErr result (Tells (H.home_tells home.old) (H.home_taken home.old) (HomeCall.Read block None ∷ []) (H.home_tells home.new) (H.home_taken home.new)) }
 {
     home.read(Block(block), room)
 }
