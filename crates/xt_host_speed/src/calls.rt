@@ -4,6 +4,7 @@ ghost use Rattle.std.specs.Prelude.{◌≡◌};
 ghost use Rattle.std.specs.Arc.{arc_value};
 
 use crate::client::{Change, Client, block_of, commit, refused, transact, write_out};
+use crate::workplace::Workplace;
 use anyhow::Result;
 use std::alloc::Global;
 use std::sync::Wait;
@@ -14,6 +15,7 @@ use xt_base::steps::{Errno, Reply, Request};
 use xt_cell::house::House;
 use xt_cell::mount_ref::MountRef;
 use xt_cell::seat::HostSeat;
+use xt_host::desk::Desk;
 use xt_host::host::Host;
 use xt_host::tokens::Trans;
 
@@ -51,9 +53,9 @@ pub struct Trial {
 }
 
 /// Makes blocks busy, each by a transaction that is not written out.
-fn make_busy<H: House, R: Wait>(
+fn make_busy<H: House, D: Desk<H, R>, R: Wait>(
     rt: &R,
-    host: &Host<H>,
+    host: &Host<H, D>,
     seat: &mut HostSeat<H>,
     at: &MountRef,
     change: &Change,
@@ -69,10 +71,10 @@ fn make_busy<H: House, R: Wait>(
 }
 
 /// Opens transactions beside the one that is measured: their numbers.
-fn open_others<H: House, R: Wait>(
+fn open_others<H: House, D: Desk<H, R>, R: Wait>(
     rt: &R,
     alloc: Global,
-    host: &Host<H>,
+    host: &Host<H, D>,
     seat: &mut HostSeat<H>,
     at: &MountRef,
     open: u8,
@@ -98,9 +100,9 @@ fn open_others<H: House, R: Wait>(
 }
 
 /// Cancels these transactions.
-fn cancel_others<H: House, R: Wait>(
+fn cancel_others<H: House, D: Desk<H, R>, R: Wait>(
     rt: &R,
-    host: &Host<H>,
+    host: &Host<H, D>,
     seat: &mut HostSeat<H>,
     at: &MountRef,
     numbers: &[TransNo],
@@ -118,9 +120,9 @@ fn cancel_others<H: House, R: Wait>(
 }
 
 /// Locks and gives back the busy blocks by turns.
-fn lock_by_turns<H: House, R: Wait>(
+fn lock_by_turns<H: House, D: Desk<H, R>, R: Wait>(
     rt: &R,
-    host: &Host<H>,
+    host: &Host<H, D>,
     seat: &mut HostSeat<H>,
     trans: &mut Trans,
     busy: u8,
@@ -147,10 +149,10 @@ fn lock_by_turns<H: House, R: Wait>(
 }
 
 /// Changes the chunks of one block by turns.
-fn log_by_turns<H: House, R: Wait>(
+fn log_by_turns<H: House, D: Desk<H, R>, R: Wait>(
     rt: &R,
     alloc: Global,
-    host: &Host<H>,
+    host: &Host<H, D>,
     seat: &mut HostSeat<H>,
     trans: &mut Trans,
     count: u32,
@@ -172,10 +174,10 @@ fn log_by_turns<H: House, R: Wait>(
 }
 
 /// How long so many calls of a trial take in a transaction.
-fn time_in<H: House, R: Wait + Clock>(
+fn time_in<H: House, D: Desk<H, R>, R: Wait + Clock>(
     rt: &R,
     alloc: Global,
-    host: &Host<H>,
+    host: &Host<H, D>,
     seat: &mut HostSeat<H>,
     trans: &mut Trans,
     trial: &Trial,
@@ -195,10 +197,10 @@ fn time_in<H: House, R: Wait + Clock>(
 }
 
 /// How long so many calls take beside what a trial has on the mount.
-pub fn time_calls<H: House, R: Wait + Clock>(
+pub fn time_calls<H: House, D: Workplace<H, R>, R: Wait + Clock>(
     rt: &R,
     alloc: Global,
-    host: &Host<H>,
+    host: &Host<H, D>,
     client: &mut Client<H>,
     at: &MountRef,
     trial: &Trial,

@@ -3,18 +3,18 @@
 ghost use Rattle.std.specs.Prelude.{◌≡◌};
 ghost use Rattle.std.specs.Arc.{arc_value};
 
+use crate::workplace::Workplace;
 use anyhow::Error;
 use std::alloc::{AllocError, Global};
 use std::sync::Wait;
 use std::thread;
 use xt_base::content::Data;
-use xt_base::names::{Block, JobName};
+use xt_base::names::Block;
 use xt_base::steps::Errno;
 use xt_cell::house::House;
-use xt_cell::job::DoneJob;
 use xt_cell::mount_ref::MountRef;
 use xt_cell::seat::HostSeat;
-use xt_host::gate::Gate;
+use xt_host::desk::Desk;
 use xt_host::host::Host;
 use xt_host::outcomes::CommitFault;
 use xt_host::tokens::{HeldBuf, HeldList, Trans};
@@ -88,19 +88,13 @@ pub fn block_of(turn: u32, step: u8) -> Block {
     Block((u64::from(turn) * 7 + u64::from(step)) % BLOCKS)
 }
 
-/// Lets a worker go once no name waits.
-pub struct UntilIdle;
-
-impl Gate for UntilIdle {
-    fn before(&self, _name: &JobName) {}
-
-    fn go_on(&self) -> bool {
-        false
-    }
-}
-
 /// Gives a held buffer up, again and again while that is refused.
-fn release<H: House, R: Wait>(rt: &R, host: &Host<H>, seat: &mut HostSeat<H>, held: HeldBuf)
+fn release<H: House, D: Desk<H, R>, R: Wait>(
+    rt: &R,
+    host: &Host<H, D>,
+    seat: &mut HostSeat<H>,
+    held: HeldBuf,
+)
     requires board { seat.old.board.board ≡ host.now.board }
     ensures board { seat.new.board.board ≡ seat.old.board.board }
 {
@@ -116,7 +110,12 @@ fn release<H: House, R: Wait>(rt: &R, host: &Host<H>, seat: &mut HostSeat<H>, he
 }
 
 /// Gives all buffers of a list up.
-fn release_all<H: House, R: Wait>(rt: &R, host: &Host<H>, seat: &mut HostSeat<H>, held: HeldList)
+fn release_all<H: House, D: Desk<H, R>, R: Wait>(
+    rt: &R,
+    host: &Host<H, D>,
+    seat: &mut HostSeat<H>,
+    held: HeldList,
+)
     requires board { seat.old.board.board ≡ host.now.board }
     ensures board { seat.new.board.board ≡ seat.old.board.board }
 {
@@ -132,7 +131,12 @@ fn release_all<H: House, R: Wait>(rt: &R, host: &Host<H>, seat: &mut HostSeat<H>
 }
 
 /// Ends a transaction without what it did, again and again while that is refused.
-pub fn give_up<H: House, R: Wait>(rt: &R, host: &Host<H>, seat: &mut HostSeat<H>, trans: Trans)
+pub fn give_up<H: House, D: Desk<H, R>, R: Wait>(
+    rt: &R,
+    host: &Host<H, D>,
+    seat: &mut HostSeat<H>,
+    trans: Trans,
+)
     requires board { seat.old.board.board ≡ host.now.board }
     ensures board { seat.new.board.board ≡ seat.old.board.board }
 {
@@ -151,9 +155,9 @@ pub fn give_up<H: House, R: Wait>(rt: &R, host: &Host<H>, seat: &mut HostSeat<H>
 }
 
 /// Commits a transaction; where that is refused it is given up.
-pub fn commit<H: House, R: Wait>(
+pub fn commit<H: House, D: Desk<H, R>, R: Wait>(
     rt: &R,
-    host: &Host<H>,
+    host: &Host<H, D>,
     seat: &mut HostSeat<H>,
     trans: Trans,
 ) -> Result<(), Errno>
@@ -177,9 +181,9 @@ pub fn commit<H: House, R: Wait>(
 }
 
 /// Locks the blocks of a turn in a transaction, and changes them.
-fn fill<H: House, R: Wait>(
+fn fill<H: House, D: Desk<H, R>, R: Wait>(
     rt: &R,
-    host: &Host<H>,
+    host: &Host<H, D>,
     seat: &mut HostSeat<H>,
     trans: &mut Trans,
     change: &Change,
@@ -198,9 +202,9 @@ fn fill<H: House, R: Wait>(
 }
 
 /// Changes a mount in a transaction of its own.
-pub fn transact<H: House, R: Wait>(
+pub fn transact<H: House, D: Desk<H, R>, R: Wait>(
     rt: &R,
-    host: &Host<H>,
+    host: &Host<H, D>,
     seat: &mut HostSeat<H>,
     at: &MountRef,
     change: &Change,
@@ -217,26 +221,10 @@ pub fn transact<H: House, R: Wait>(
     commit(rt, host, seat, trans)
 }
 
-/// Ends a job that came back, again and again until it is taken.
-pub fn end<H: House, R: Wait>(rt: &R, host: &Host<H>, seat: &mut HostSeat<H>, done: DoneJob)
-    requires board { seat.old.board.board ≡ host.now.board }
-    ensures board { seat.new.board.board ≡ seat.old.board.board }
-{
-    let mut done = done;
-    for _ in rt.forever() {
-        match host.end(rt, seat, done) {
-            Ok(_reply) => return,
-            Err((back, _fault)) => done = back,
-        }
-        thread::yield_now();
-    }
-    unreachable!()
-}
-
 /// Has all that was committed written to the log and home, by this thread as the worker, and forgets the receipts.
-pub fn write_out<H: House, R: Wait>(
+pub fn write_out<H: House, D: Workplace<H, R>, R: Wait>(
     rt: &R,
-    host: &Host<H>,
+    host: &Host<H, D>,
     client: &mut Client<H>,
     at: &MountRef,
 ) -> Result<(), Errno>
@@ -247,18 +235,15 @@ pub fn write_out<H: House, R: Wait>(
 {
     host.force(rt, &mut client.seat, *at)?;
     host.push(rt, &mut client.seat, *at)?;
-    let stranger = host.work(rt, &mut client.pass, &mut client.seat, &UntilIdle);
-    if let Some(done) = stranger {
-        end(rt, host, &mut client.seat, done);
-    }
+    D::work(rt, host, &mut client.pass, &mut client.seat);
     client.seat.forget();
     Ok(())
 }
 
 /// So many transactions of one mount, written out after each batch, and where there is no log space for another.
-pub fn transact_all<H: House, R: Wait>(
+pub fn transact_all<H: House, D: Workplace<H, R>, R: Wait>(
     rt: &R,
-    host: &Host<H>,
+    host: &Host<H, D>,
     client: &mut Client<H>,
     at: &MountRef,
     change: &Change,

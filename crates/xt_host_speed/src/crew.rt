@@ -1,15 +1,13 @@
 //! Sixteen mounts by four threads, each the caller of four mounts and a worker of all.
 
-ghost use Rattle.std.specs.Prelude.{◌≡◌, ◌-◌, ◌^◌, All, IfOk};
+ghost use Rattle.std.specs.Prelude.{◌≡◌, All, IfOk};
 ghost use Rattle.std.specs.Arc.{arc_value};
-ghost use Rattle.xt_cell.specs.Ledgers.{AreCut, AreNamed};
 
 use crate::client::{Change, Client, refused, transact_all, write_out};
-use crate::null::{NullHome, NullLog};
-use crate::rig::{HOME_BLOCKS, LOG_BYTES, unmount_all};
-use anyhow::{Context, Result};
+use crate::rig::unmount_all;
+use crate::workplace::Workplace;
+use anyhow::Result;
 use std::alloc::Global;
-use std::marker::Brand;
 use std::sync::Wait;
 use std::thread::{Threads, join};
 use std::time::{Clock, Duration, Instant};
@@ -17,17 +15,14 @@ use xt_base::names::{Life, Slot};
 use xt_base::steps::Errno;
 use xt_cell::house::House;
 use xt_cell::mount_ref::MountRef;
-use xt_cell::reserve::Blanks;
 use xt_cell::seat::HostSeat;
-use xt_host::host::{BOOK_ENTRIES, Host};
+use xt_host::host::Host;
 use xt_queue::jobs::WorkPass;
 
 /// How many threads.
-const CREW: u8 = 4;
+pub const CREW: u8 = 4;
 
-/// How many mounts, and how many of them each thread calls.
-const MOUNTS: u8 = 16;
-
+/// How many mounts each thread calls.
 const SHARE: u8 = 4;
 
 /// A caller, with the number of its first mount, and what it does: so many transactions of each of its mounts.
@@ -40,10 +35,10 @@ struct Hand<H: House> {
 
 /// What each thread changes in a transaction, how many transactions of each mount there are, and the life of the mounts.
 #[derive(Clone, Copy)]
-struct Orders {
-    life: Life,
-    change: Change,
-    count: u32,
+pub struct Orders {
+    pub life: Life,
+    pub change: Change,
+    pub count: u32,
 }
 
 /// What a caller leaves, and what it was told.
@@ -55,7 +50,11 @@ type Pair<H> = (Hand<H>, Hand<H>);
 type ToldPair<H> = (Told<H>, Told<H>);
 
 /// All transactions of one thread, one mount after the other, up to the first that is refused.
-fn serve_share<H: House, R: Wait>(rt: &R, host: &Host<H>, hand: Hand<H>) -> Told<H>
+fn serve_share<H: House, D: Workplace<H, R>, R: Wait>(
+    rt: &R,
+    host: &Host<H, D>,
+    hand: Hand<H>,
+) -> Told<H>
     requires queue { hand.client.pass.queue ≡ arc_value host.now.queue }
     requires board { hand.client.seat.board.board ≡ host.now.board }
     ensures queue { result.0.pass.queue ≡ arc_value host.now.queue }
@@ -84,9 +83,9 @@ fn serve_share<H: House, R: Wait>(rt: &R, host: &Host<H>, hand: Hand<H>) -> Told
 }
 
 /// Two callers, in two threads.
-fn by_two<H: House + Send + Sync, R: Threads + Wait + Sync>(
+fn by_two<H: House + Send + Sync, D: Workplace<H, R> + Sync, R: Threads + Wait + Sync>(
     rt: &R,
-    host: &Host<H>,
+    host: &Host<H, D>,
     pair: Pair<H>,
 ) -> ToldPair<H>
     requires queue { (pair.0.client.pass.queue ≡ arc_value host.now.queue) × (pair.1.client.pass.queue ≡ arc_value host.now.queue) }
@@ -109,9 +108,9 @@ fn by_two<H: House + Send + Sync, R: Threads + Wait + Sync>(
 }
 
 /// Four callers, in four threads.
-fn by_four<H: House + Send + Sync, R: Threads + Wait + Sync>(
+fn by_four<H: House + Send + Sync, D: Workplace<H, R> + Sync, R: Threads + Wait + Sync>(
     rt: &R,
-    host: &Host<H>,
+    host: &Host<H, D>,
     pairs: (Pair<H>, Pair<H>),
 ) -> (ToldPair<H>, ToldPair<H>)
     requires queues { (pairs.0.0.client.pass.queue ≡ arc_value host.now.queue) × (pairs.0.1.client.pass.queue ≡ arc_value host.now.queue) × (pairs.1.0.client.pass.queue ≡ arc_value host.now.queue) × (pairs.1.1.client.pass.queue ≡ arc_value host.now.queue) }
@@ -134,8 +133,8 @@ fn by_four<H: House + Send + Sync, R: Threads + Wait + Sync>(
 }
 
 /// The last worker with a seat, the caller of the mounts from one number on.
-fn seated<H: House>(
-    host: &Host<H>,
+fn seated<H: House, D>(
+    host: &Host<H, D>,
     seat: HostSeat<H>,
     passes: &mut Vec<WorkPass>,
     first: u8,
@@ -157,9 +156,9 @@ fn seated<H: House>(
 }
 
 /// The four callers of a host.
-fn make_crew<H: House, R: Wait>(
+fn make_crew<H: House, D, R: Wait>(
     rt: &R,
-    host: &Host<H>,
+    host: &Host<H, D>,
     seat: HostSeat<H>,
     passes: Vec<WorkPass>,
     orders: Orders,
@@ -190,9 +189,9 @@ fn make_crew<H: House, R: Wait>(
 }
 
 /// Has all mounts written out by one thread: what another took last may not have been done when its caller looked.
-fn write_out_all<H: House, R: Wait>(
+fn write_out_all<H: House, D: Workplace<H, R>, R: Wait>(
     rt: &R,
-    host: &Host<H>,
+    host: &Host<H, D>,
     client: &mut Client<H>,
     mounts: &[MountRef],
 ) -> Result<(), Errno>
@@ -222,9 +221,9 @@ fn gathered<H: House>(left: (ToldPair<H>, ToldPair<H>)) -> Gathered<H>
 }
 
 /// How long the orders of four callers take, until all is written out.
-fn time_orders<H: House + Send + Sync, R: Threads + Wait + Clock + Sync>(
+fn time_orders<H: House + Send + Sync, D: Workplace<H, R> + Sync, R: Threads + Wait + Clock + Sync>(
     rt: &R,
-    host: &Host<H>,
+    host: &Host<H, D>,
     crew: (Pair<H>, Pair<H>),
     mounts: &[MountRef],
 ) -> Result<(Duration, Client<H>, Seats<H>)>
@@ -239,63 +238,31 @@ fn time_orders<H: House + Send + Sync, R: Threads + Wait + Clock + Sync>(
     Ok((start.elapsed(rt)?, one, others))
 }
 
-/// Makes a host of sixteen mounts, measures, unmounts them, and ends the host: how long the transactions of all took.
-fn run<H: House + Send + Sync, R: Threads + Wait + Clock + Sync>(
+/// How long so many transactions of each of sixteen mounts take by four threads, and their seats. The mounts are unmounted then.
+pub fn time_crew<
+    H: House + Send + Sync,
+    D: Workplace<H, R> + Sync,
+    R: Threads + Wait + Clock + Sync,
+>(
     rt: &R,
     alloc: Global,
-    blanks: Blanks,
-    change: Change,
-    count: u32,
-) -> Result<Duration>
-    requires names { AreNamed H.names blanks }
-    requires parts { AreCut H.all blanks }
-    requires all { H.all ≡ 2 ^ 64 - 1 }
+    host: &Host<H, D>,
+    seat: HostSeat<H>,
+    passes: Vec<WorkPass>,
+    mounts: &[MountRef],
+    orders: Orders,
+) -> Result<(Duration, Vec<HostSeat<H>>)>
+    requires board { seat.board.board ≡ host.now.board }
+    requires passes { All (λ pass. pass.queue ≡ arc_value host.now.queue) passes.items }
 {
-    let (mut mounts, mut seats) = (Vec::new(alloc), Vec::with_capacity(alloc, 4)?);
-    let (host, mut seat, passes) = match Host::<H>::new(
-        alloc,
-        blanks,
-        usize::from(CREW),
-        BOOK_ENTRIES,
-    ) {
-        Ok(made) => made,
-        Err(errno) => return Err(refused(errno)),
-    };
-    for index in 0..MOUNTS {
-        let slot = Slot::new(index).context("a slot")?;
-        let home = Box::new(alloc, NullHome)?;
-        let log = Box::new(alloc, NullLog)?;
-        let mounted = host.mount(rt, &mut seat, slot, LOG_BYTES, HOME_BLOCKS, home, log);
-        mounts.push(mounted.map_err(|back| refused(back.errno))?)?;
-    }
-    let all = mounts.as_slice();
-    let life = all.first().context("a mount")?.life;
-    let orders = Orders {
-        life,
-        change,
-        count,
-    };
-    let crew = make_crew(rt, &host, seat, passes, orders).map_err(refused)?;
-    let (took, mut one, others) = time_orders(rt, &host, crew, all)?;
-    unmount_all(rt, &host, &mut one, all)?;
+    let mut seats = Vec::with_capacity(alloc, usize::from(CREW))?;
+    let crew = make_crew(rt, host, seat, passes, orders).map_err(refused)?;
+    let (took, mut one, others) = time_orders(rt, host, crew, mounts)?;
+    unmount_all(rt, host, &mut one, mounts)?;
     let (two, three, four) = others;
     seats.push_reserved(one.seat);
     seats.push_reserved(two);
     seats.push_reserved(three);
     seats.push_reserved(four);
-    host.close(seats, Vec::new(alloc))?;
-    Ok(took)
-}
-
-/// How long so many transactions of each of sixteen mounts take by four threads, over new ledgers.
-pub fn time_crew<R: Threads + Wait + Clock + Sync>(
-    rt: &R,
-    alloc: Global,
-    blanks: Blanks,
-    change: Change,
-    count: u32,
-) -> Result<Duration>
-    requires parts { AreCut (2 ^ 64 - 1) blanks }
-{
-    run::<Brand, R>(rt, alloc, blanks, change, count)
+    Ok((took, seats))
 }

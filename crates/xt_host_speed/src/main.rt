@@ -10,10 +10,10 @@ mod client;
 mod crew;
 mod null;
 mod rig;
+mod workplace;
 
 use crate::calls::{Call, Crowd, Trial};
 use crate::client::Change;
-use crate::crew::time_crew;
 use crate::rig::{Plan, Task, time};
 use anyhow::{Context, Result};
 use std::alloc::Global;
@@ -133,7 +133,7 @@ struct Report {
 }
 
 /// Measures so many transactions of each of so many mounts, and prints how many a second.
-fn print_transactions<R: Wait + Clock + Print>(
+fn print_transactions<R: Threads + Wait + Clock + Print + Sync>(
     rt: &R,
     report: Report,
     label: &str,
@@ -151,7 +151,11 @@ fn print_transactions<R: Wait + Clock + Print>(
 }
 
 /// Measures small changes of one mount on a host whose books are folded from so many entries on, and prints how many a second.
-fn print_folds<R: Wait + Clock + Print>(rt: &R, report: Report, book_limit: u64) -> Result<()> {
+fn print_folds<R: Threads + Wait + Clock + Print + Sync>(
+    rt: &R,
+    report: Report,
+    book_limit: u64,
+) -> Result<()> {
     let plan = Plan {
         task: Task::Transact(Change::small(report.alloc)),
         count: report.count,
@@ -172,8 +176,13 @@ fn print_folds<R: Wait + Clock + Print>(rt: &R, report: Report, book_limit: u64)
 /// Measures so many transactions of each of sixteen mounts by four threads, and prints how many a second.
 fn print_crew<R: Threads + Wait + Clock + Print + Sync>(rt: &R, report: Report) -> Result<()> {
     let count = report.count / 16;
-    let change = Change::small(report.alloc);
-    let took = time_crew(rt, report.alloc, Blanks::new(), change, count)?;
+    let plan = Plan {
+        task: Task::Share(Change::small(report.alloc)),
+        count,
+        mounts: 16,
+        book_limit: BOOK_ENTRIES,
+    };
+    let took = time(rt, report.alloc, Blanks::new(), &plan)?;
     if report.has_figures {
         let rate = rate(count.saturating_mul(16), took);
         println!(rt; "{SMALL}, 16 mounted, four threads: {rate} transactions/s")?;
@@ -184,7 +193,12 @@ fn print_crew<R: Threads + Wait + Clock + Print + Sync>(rt: &R, report: Report) 
 }
 
 /// What a call costs in a crowd, in nanoseconds.
-fn call_cost<R: Wait + Clock>(rt: &R, report: Report, call: Call, crowd: Crowd) -> Result<u128> {
+fn call_cost<R: Threads + Wait + Clock + Sync>(
+    rt: &R,
+    report: Report,
+    call: Call,
+    crowd: Crowd,
+) -> Result<u128> {
     let plan = Plan {
         task: Task::Call(Trial { call, crowd }),
         count: report.count,
@@ -195,7 +209,11 @@ fn call_cost<R: Wait + Clock>(rt: &R, report: Report, call: Call, crowd: Crowd) 
 }
 
 /// Measures the calls in a crowd, and prints what one costs.
-fn print_calls<R: Wait + Clock + Print>(rt: &R, report: Report, crowd: Crowd) -> Result<()> {
+fn print_calls<R: Threads + Wait + Clock + Print + Sync>(
+    rt: &R,
+    report: Report,
+    crowd: Crowd,
+) -> Result<()> {
     let Crowd { open, busy, mounts } = crowd;
     let lock = call_cost(rt, report, Call::Lock, crowd)?;
     let log = call_cost(rt, report, Call::Log, crowd)?;

@@ -7,6 +7,12 @@ use xt_dev::fault::DevFault;
 use xt_dev::home::HomeDevice;
 use xt_dev::log::LogDevice;
 
+/// The bytes of a log.
+pub const LOG_BYTES: u32 = 16_777_216;
+
+/// The blocks of a home device.
+pub const HOME_BLOCKS: u64 = 1_024;
+
 /// A log device that takes each piece and forgets it. It never fails, and tells nothing.
 #[derive(Drop)]
 pub struct NullLog;
