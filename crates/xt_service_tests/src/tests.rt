@@ -6,6 +6,7 @@
 mod core_calls;
 mod endless;
 mod host;
+mod stand;
 mod tcp;
 
 use std::alloc::Global;

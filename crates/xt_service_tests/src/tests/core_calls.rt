@@ -3,7 +3,6 @@
 use std::alloc::{AllocError, Global};
 use std::io::{self, Read};
 use std::process::Abort;
-use std::test::Fail;
 use xt_base::content::{Content, HeldBlocks};
 use xt_base::names::{Block, Life, Slot, TransNo};
 use xt_base::sizes::{BLOCK_BYTES, SLOTS};
@@ -45,11 +44,24 @@ struct Kept {
     block: Block,
 }
 
-/// One host with a home device in memory for each slot, and what the session on it holds.
+/// What takes steps.
+trait TakesSteps {
+    /// The reply to a step; None where it may not come now.
+    fn step(&mut self, step: Step) -> Option<Reply>;
+}
+
+impl TakesSteps for HostCore {
+    fn step(&mut self, step: Step) -> Option<Reply> {
+        HostCore::step(self, step).ok()
+    }
+}
+
+/// One host with a home device in memory for each slot, and what the session on it holds. All but that it is made is written over what
+/// takes steps: a function that names the host itself costs the proof more.
 #[derive(Drop)]
-struct CoreCalls {
+struct CoreCalls<C> {
     alloc: Global,
-    core: HostCore,
+    core: C,
     homes: Vec<MemHome>,
     opened: Vec<Opened>,
     kept: Vec<Kept>,
@@ -101,29 +113,25 @@ fn has_ended(reply: &Reply) -> bool {
     }
 }
 
-/// The step of a line.
-fn step_in(alloc: Global, line: &str) -> Result<Step, Fail> {
-    Ok(parse_line(alloc, line.as_bytes())?)
+/// A home device for each slot.
+fn empty_homes(alloc: Global) -> Result<Vec<MemHome>, AllocError> {
+    let mut homes = Vec::with_capacity(alloc, SLOTS)?;
+    for _ in 0..SLOTS {
+        homes.push(MemHome::new(alloc))?;
+    }
+    Ok(homes)
 }
 
-/// The text of a reply.
-fn text_of(alloc: Global, reply: &Reply) -> Result<String, Fail> {
-    let mut text = Text::new(alloc)?;
-    print_reply(reply, &mut text);
-    Ok(String::from_utf8(text.bytes().to_vec(alloc)?)?)
-}
-
-impl CoreCalls {
+impl<C: TakesSteps> CoreCalls<C> {
     /// A host of which no slot was mounted, with empty home devices.
-    fn new(alloc: Global) -> Result<Self, AllocError> {
-        let mut homes = Vec::with_capacity(alloc, SLOTS)?;
-        for _ in 0..SLOTS {
-            homes.push(MemHome::new(alloc))?;
-        }
+    fn new(alloc: Global, core: C) -> Result<Self, AllocError>
+    where
+        C: Drop,
+    {
         Ok(CoreCalls {
             alloc,
-            core: HostCore::new(alloc)?,
-            homes,
+            core,
+            homes: empty_homes(alloc)?,
             opened: Vec::with_capacity(alloc, OPEN)?,
             kept: Vec::with_capacity(alloc, BUSY)?,
             given_back: Vec::new(alloc),
@@ -131,14 +139,19 @@ impl CoreCalls {
         })
     }
 
-    /// What a line is answered by the host itself, outside any session.
-    fn tell(&mut self, line: &str) -> Result<String, Fail> {
-        let step = step_in(self.alloc, line)?;
-        let reply = self
-            .core
-            .step(step)
-            .map_err(|_| Fail::from("out of order"))?;
-        text_of(self.alloc, &reply)
+    /// Whether the host itself answers a line so, outside any session; None where it can't be asked.
+    fn tells(&mut self, line: &str, want: &str) -> Option<bool> {
+        let step = parse_line(self.alloc, line.as_bytes()).ok()?;
+        let reply = self.core.step(step)?;
+        let mut text = Text::new(self.alloc).ok()?;
+        print_reply(&reply, &mut text);
+        Some(text.bytes() == want.as_bytes())
+    }
+
+    /// Writes bytes of one value over a block of a home device; None where that fails.
+    fn write_home(&mut self, slot: usize, block: u64, byte: u8) -> Option<()> {
+        let home = self.homes.get_mut(slot)?;
+        home.write(Block(block), &[byte; BLOCK_BYTES]).ok()
     }
 
     /// Makes a request that asks no device.
@@ -185,7 +198,7 @@ impl CoreCalls {
             request: Request::Read { trans, block },
             answer: Answer::None,
         };
-        if let Ok(reply) = self.core.step(unasked) {
+        if let Some(reply) = self.core.step(unasked) {
             return reply;
         }
         let answer = self.content(slot, block);
@@ -316,7 +329,7 @@ impl CoreCalls {
     }
 }
 
-impl Calls for CoreCalls {
+impl<C: TakesSteps> Calls for CoreCalls<C> {
     ghost answers = { λ old line reply new. Unit {0} };
 
     ghost ends = { λ old new. Unit {0} };
@@ -360,7 +373,13 @@ impl Read for Pieces<'_> {
 }
 
 /// Asserts what a session over a host writes, for input in pieces of a size.
-fn answers(rt: &impl Abort, calls: &mut CoreCalls, input: &str, size: usize, want: &str) {
+fn answers<C: TakesSteps>(
+    rt: &impl Abort,
+    calls: &mut CoreCalls<C>,
+    input: &str,
+    size: usize,
+    want: &str,
+) {
     let mut out = Vec::new(calls.alloc);
     let rest = input.as_bytes();
     let mut reader = Pieces { rest, size };
@@ -371,58 +390,120 @@ fn answers(rt: &impl Abort, calls: &mut CoreCalls, input: &str, size: usize, wan
     assert_eq!(rt; calls.ends, before.saturating_add(1), "pieces of {size}");
 }
 
-#[test]
-fn a_session_is_answered_by_the_host(rt: HostRuntime) -> Result<(), Fail> {
-    for size in [1, 7, 4096] {
-        let mut calls = CoreCalls::new(rt.alloc())?;
-        assert_eq!(rt; calls.tell("mount 0 65536 1024")?.as_str(), "life 1");
-        let input = "0.1 alloc 1 1 plain\n0.1 unmount\npush\n\n0.1 force\n";
-        let want = "t1\nbad line\nbad line\nbad line\ndone\n";
-        answers(&rt, &mut calls, input, size, want);
-        assert_eq!(rt; calls.given_back.as_slice(), b"0.1 cancel t1\n".as_slice());
-        assert_eq!(rt; calls.tell("0.1 unmount")?.as_str(), "ok");
+/// What is done to a host by a script, and what it answers.
+enum Row {
+    /// The host is told a line, outside any session.
+    Tell(&'static str, &'static str),
+    /// A session has this input, and writes this.
+    Session(&'static str, &'static str),
+    /// What the sessions so far gave back at their ends.
+    GivenBack(&'static str),
+    /// Bytes of one value are all that a home device has in a block.
+    Home { slot: usize, block: u64, byte: u8 },
+}
+
+impl<C: TakesSteps> CoreCalls<C> {
+    /// Asserts what a row says, with the input of a session in pieces of a size.
+    fn plays(&mut self, rt: &impl Abort, size: usize, row: &Row) {
+        match row {
+            Row::Tell(line, want) => assert_eq!(rt; self.tells(*line, *want), Some(true), "{line}"),
+            Row::Session(input, want) => answers(rt, self, *input, size, *want),
+            Row::GivenBack(want) => assert_eq!(rt; self.given_back.as_slice(), want.as_bytes()),
+            Row::Home { slot, block, byte } => {
+                assert!(rt;
+                    self.write_home(*slot, *block, *byte).is_some(),
+                    "a home device"
+                );
+            }
+        }
+    }
+}
+
+/// Asserts what a script says of a host of which no slot was mounted, with the input of sessions in pieces of a size.
+fn play_over<C: TakesSteps + Drop>(
+    rt: &impl Abort,
+    calls: CoreCalls<C>,
+    size: usize,
+    script: &[Row],
+) {
+    let mut calls = calls;
+    for row in script {
+        calls.plays(rt, size, row);
+    }
+}
+
+/// The same over a new host for each size.
+fn play(rt: &impl Abort, alloc: Global, sizes: &[usize], script: &[Row]) -> Result<(), AllocError> {
+    for size in sizes {
+        let calls = CoreCalls::new(alloc, HostCore::new(alloc)?)?;
+        play_over(rt, calls, *size, script);
     }
     Ok(())
 }
 
-#[test]
-fn a_session_that_leaves_a_change_shuts_its_mount_alone(rt: HostRuntime) -> Result<(), Fail> {
-    for size in [1, 7, 4096] {
-        let mut calls = CoreCalls::new(rt.alloc())?;
-        assert_eq!(rt; calls.tell("mount 0 65536 1024")?.as_str(), "life 1");
-        assert_eq!(rt; calls.tell("mount 1 65536 1024")?.as_str(), "life 1");
-        let input = "0.1 alloc 176 1 plain\n0.1 read t1 7\n0.1 log t1 7 0 11\n";
-        answers(&rt, &mut calls, input, size, "t1\nok\nok\n");
-        assert_eq!(rt; calls.tell("show 0")?.as_str(), "ok");
-        assert_eq!(rt; calls.tell("peek 0")?.as_str(), "seen 1 CORRUPT_INCORE");
-        let input = "peek 0\n0.1 force\n1.1 alloc 176 1 plain\n1.1 commit t1\n";
-        let want = "seen 1 CORRUPT_INCORE\nEIO\nt1\nc0\n";
-        answers(&rt, &mut calls, input, size, want);
-        assert_eq!(rt; calls.tell("1.1 unmount")?.as_str(), "ok");
-    }
-    Ok(())
-}
+/// What a session leaves open is cancelled.
+const ANSWERED: &[Row] = &[
+    Row::Tell("mount 0 65536 1024", "life 1"),
+    Row::Session(
+        "0.1 alloc 1 1 plain\n0.1 unmount\npush\n\n0.1 force\n",
+        "t1\nbad line\nbad line\nbad line\ndone\n",
+    ),
+    Row::GivenBack("0.1 cancel t1\n"),
+    Row::Tell("0.1 unmount", "ok"),
+];
 
 #[test]
-fn a_session_reads_what_the_home_device_has(rt: HostRuntime) -> Result<(), Fail> {
-    let mut calls = CoreCalls::new(rt.alloc())?;
-    assert_eq!(rt; calls.tell("mount 3 65536 1024")?.as_str(), "life 1");
-    let home = calls.homes.get_mut(3).ok_or("no home device")?;
-    let content = [0x5a; BLOCK_BYTES];
-    home.write(Block(7), &content)?;
-    let input =
-        "3.1 alloc 1 1 plain\n3.1 read t1 7\n3.1 view t1 7\n3.1 read t1 7\n3.1 read t1 1024\n";
-    let want = "t1\nok\ndata 5a*4096\nok\nEINVAL\n";
-    answers(&rt, &mut calls, input, 7, want);
-    Ok(())
+fn a_session_is_answered_by_the_host(rt: HostRuntime) -> Result<(), AllocError> {
+    play(&rt, rt.alloc(), &[1, 7, 4096], ANSWERED)
 }
 
+/// A change that is left shuts slot 0, and slot 1 goes on.
+const LEFT_CHANGED: &[Row] = &[
+    Row::Tell("mount 0 65536 1024", "life 1"),
+    Row::Tell("mount 1 65536 1024", "life 1"),
+    Row::Session(
+        "0.1 alloc 176 1 plain\n0.1 read t1 7\n0.1 log t1 7 0 11\n",
+        "t1\nok\nok\n",
+    ),
+    Row::Tell("show 0", "ok"),
+    Row::Tell("peek 0", "seen 1 CORRUPT_INCORE"),
+    Row::Session(
+        "peek 0\n0.1 force\n1.1 alloc 176 1 plain\n1.1 commit t1\n",
+        "seen 1 CORRUPT_INCORE\nEIO\nt1\nc0\n",
+    ),
+    Row::Tell("1.1 unmount", "ok"),
+];
+
 #[test]
-fn a_session_gives_back_what_it_holds_in_order(rt: HostRuntime) -> Result<(), Fail> {
-    let mut calls = CoreCalls::new(rt.alloc())?;
-    assert_eq!(rt; calls.tell("mount 0 65536 1024")?.as_str(), "life 1");
-    assert_eq!(rt; calls.tell("mount 1 65536 1024")?.as_str(), "life 1");
-    let input = "\
+fn a_session_that_leaves_a_change_shuts_its_mount_alone(rt: HostRuntime) -> Result<(), AllocError> {
+    play(&rt, rt.alloc(), &[1, 7, 4096], LEFT_CHANGED)
+}
+
+/// Block 7 of slot 3 has one byte all over.
+const READ: &[Row] = &[
+    Row::Tell("mount 3 65536 1024", "life 1"),
+    Row::Home {
+        slot: 3,
+        block: 7,
+        byte: 0x5a,
+    },
+    Row::Session(
+        "3.1 alloc 1 1 plain\n3.1 read t1 7\n3.1 view t1 7\n3.1 read t1 7\n3.1 read t1 1024\n",
+        "t1\nok\ndata 5a*4096\nok\nEINVAL\n",
+    ),
+];
+
+#[test]
+fn a_session_reads_what_the_home_device_has(rt: HostRuntime) -> Result<(), AllocError> {
+    play(&rt, rt.alloc(), &[7], READ)
+}
+
+/// Three transactions and two held buffers are left, and go in order.
+const GIVEN_BACK: &[Row] = &[
+    Row::Tell("mount 0 65536 1024", "life 1"),
+    Row::Tell("mount 1 65536 1024", "life 1"),
+    Row::Session(
+        "\
         1.1 alloc 176 1 plain\n\
         0.1 alloc 176 1 plain\n\
         0.1 alloc 176 1 plain\n\
@@ -441,8 +522,8 @@ fn a_session_gives_back_what_it_holds_in_order(rt: HostRuntime) -> Result<(), Fa
         0.1 join t3 30\n\
         1.1 get t1 3\n\
         0.1 shutdown\n\
-        0.1 join t2 5\n";
-    let want = "\
+        0.1 join t2 5\n",
+        "\
         t1\n\
         t1\n\
         t2\n\
@@ -461,16 +542,21 @@ fn a_session_gives_back_what_it_holds_in_order(rt: HostRuntime) -> Result<(), Fa
         EINVAL\n\
         ok\n\
         ok\n\
-        EIO\n";
-    answers(&rt, &mut calls, input, 7, want);
-    let given_back = "\
+        EIO\n",
+    ),
+    Row::GivenBack(
+        "\
         0.1 cancel t2\n\
         0.1 cancel t3\n\
         1.1 cancel t1\n\
         0.1 drop 5\n\
-        0.1 drop 9\n";
-    assert_eq!(rt; calls.given_back.as_slice(), given_back.as_bytes());
-    assert_eq!(rt; calls.tell("0.1 unmount")?.as_str(), "ok");
-    assert_eq!(rt; calls.tell("1.1 unmount")?.as_str(), "ok");
-    Ok(())
+        0.1 drop 9\n",
+    ),
+    Row::Tell("0.1 unmount", "ok"),
+    Row::Tell("1.1 unmount", "ok"),
+];
+
+#[test]
+fn a_session_gives_back_what_it_holds_in_order(rt: HostRuntime) -> Result<(), AllocError> {
+    play(&rt, rt.alloc(), &[7], GIVEN_BACK)
 }

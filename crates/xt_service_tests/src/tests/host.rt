@@ -3,22 +3,20 @@
 ghost use Rattle.std.specs.Prelude.{◌≡◌, ◌-◌, ◌^◌};
 ghost use Rattle.xt_cell.specs.Ledgers.{AreCut, AreNamed};
 
-use super::{Narrow, Pieces};
+use crate::tests::stand::{Stand, in_memory, mounted, two_slots};
+use crate::tests::{Narrow, Pieces};
 use std::alloc::{AllocError, Global};
 use std::io::{ErrorKind, Read, Write};
 use std::marker::Brand;
 use std::process::Abort;
 use std::rt::HostRuntime;
 use std::sync::Wait;
-use xt_base::names::{Life, Slot, TransNo};
+use xt_base::names::{Life, TransNo};
 use xt_base::steps::{Errno, Reason, Reply};
 use xt_cell::house::House;
 use xt_cell::reserve::Blanks;
 use xt_cell::seat::HostSeat;
-use xt_dev::home::HomeDevice;
-use xt_dev::log::LogDevice;
-use xt_dev::mem_home::MemHome;
-use xt_dev::mem_log::MemLog;
+use xt_host::desk::{Desk, Slots};
 use xt_host::fault::CloseFault;
 use xt_host::host::Host;
 use xt_service::calls::Calls;
@@ -41,30 +39,12 @@ struct Left {
     closed: Result<(), CloseFault>,
 }
 
-/// Mounts a slot over devices.
-pub fn mount<H: House, T: Wait>(
-    rt: &T,
-    host: &Host<H>,
-    seat: &mut HostSeat<H>,
-    slot: Slot,
-    home: Box<dyn HomeDevice + Send>,
-    log: Box<dyn LogDevice + Send>,
-) -> Result<(), Errno>
-    requires board { seat.old.board.board ≡ host.now.board }
-    ensures board { seat.new.board.board ≡ seat.old.board.board }
-{
-    match host.mount(rt, seat, slot, 65_536, 1_024, home, log) {
-        Ok(_) => Ok(()),
-        Err(back) => Err(back.errno),
-    }
-}
-
 /// Serves two sessions, one after another, over a host with slots 0 and 1 mounted, and ends the host.
-fn serve<H: House, T: Wait, R: Read, W: Write>(
+fn serve<H: House, D: Stand<H, T>, T: Wait, R: Read, W: Write>(
     rt: &T,
     alloc: Global,
     blanks: Blanks,
-    slots: (Slot, Slot),
+    devices: (D::Devices, D::Devices),
     readers: (&mut R, &mut R),
     writers: (&mut W, &mut W),
 ) -> Result<Left, Errno>
@@ -76,28 +56,15 @@ fn serve<H: House, T: Wait, R: Read, W: Write>(
     let Ok(()) = seats.reserve(3) else {
         return Err(Errno::NoMemory);
     };
-    let (Ok(home), Ok(log)) = (
-        Box::new(alloc, MemHome::new(alloc)),
-        Box::new(alloc, MemLog::new(alloc)),
-    ) else {
-        return Err(Errno::NoMemory);
-    };
-    let (Ok(next_home), Ok(next_log)) = (
-        Box::new(alloc, MemHome::new(alloc)),
-        Box::new(alloc, MemLog::new(alloc)),
-    ) else {
-        return Err(Errno::NoMemory);
-    };
-    let (host, mut own, passes) = Host::<H>::new(alloc, blanks, 1, 1_048_576)?;
-    mount(rt, &host, &mut own, slots.0, home, log)?;
-    mount(rt, &host, &mut own, slots.1, next_home, next_log)?;
+    let (slot, other) = two_slots()?;
+    let (host, mut own, passes) = mounted::<H, D, T>(rt, alloc, blanks, (slot, other), devices)?;
     let first = host.seat(rt, &mut own)?;
     let second = host.seat(rt, &mut own)?;
     let (first, first_end) = host_session(rt, alloc, &host, first, readers.0, writers.0);
-    let seen = host.seen_shut(&mut own, slots.0);
+    let seen = host.seen_shut(&mut own, slot);
     let (second, second_end) = host_session(rt, alloc, &host, second, readers.1, writers.1);
     let receipts = (first.receipts().len(), second.receipts().len());
-    let count = first.count(slots.0);
+    let count = first.count(slot);
     seats.push_reserved(own);
     seats.push_reserved(first);
     seats.push_reserved(second);
@@ -110,6 +77,22 @@ fn serve<H: House, T: Wait, R: Read, W: Write>(
     })
 }
 
+/// The same over sixteen slots, and devices in memory.
+fn serve_in_slots<H: House, T: Wait, R: Read, W: Write>(
+    rt: &T,
+    alloc: Global,
+    blanks: Blanks,
+    readers: (&mut R, &mut R),
+    writers: (&mut W, &mut W),
+) -> Result<Left, Errno>
+    requires names { AreNamed H.names blanks }
+    requires parts { AreCut H.all blanks }
+    requires all { H.all ≡ 2 ^ 64 - 1 }
+{
+    let devices = (in_memory(alloc)?, in_memory(alloc)?);
+    serve::<H, Slots<H>, T, R, W>(rt, alloc, blanks, devices, readers, writers)
+}
+
 /// The same over new ledgers.
 fn serves<T: Wait, R: Read, W: Write>(
     rt: &T,
@@ -120,10 +103,7 @@ fn serves<T: Wait, R: Read, W: Write>(
 ) -> Result<Left, Errno>
     requires parts { AreCut (2 ^ 64 - 1) blanks }
 {
-    let (Some(first), Some(second)) = (Slot::new(0), Slot::new(1)) else {
-        return Err(Errno::Invalid);
-    };
-    serve::<Brand, T, R, W>(rt, alloc, blanks, (first, second), readers, writers)
+    serve_in_slots::<Brand, T, R, W>(rt, alloc, blanks, readers, writers)
 }
 
 /// Asserts what two sessions over memory write, one after another, and what they leave.
@@ -271,33 +251,18 @@ fn told<C: Calls>(alloc: Global, calls: &mut C, line: &[u8]) -> Option<Reply> {
     }
 }
 
-/// Two sessions at once: the second names the transaction of the first, which goes on; and what the end of the host found.
-fn cross<H: House, T: Wait>(
+/// What lines of two sessions at once are answered: the second names the transaction of the first, which goes on. Their seats, once both
+/// have ended.
+fn cross<H: House, D: Desk<H, T>, T: Wait>(
     rt: &T,
     alloc: Global,
-    blanks: Blanks,
-    slot: Slot,
-) -> Result<([Option<Reply>; 4], u64, Result<(), CloseFault>), Errno>
-    requires names { AreNamed H.names blanks }
-    requires parts { AreCut H.all blanks }
-    requires all { H.all ≡ 2 ^ 64 - 1 }
+    host: &Host<H, D>,
+    seats: (HostSeat<H>, HostSeat<H>),
+) -> ([Option<Reply>; 4], HostSeat<H>, HostSeat<H>)
+    requires boards { (seats.0.board.board ≡ host.now.board) × (seats.1.board.board ≡ host.now.board) }
 {
-    let mut seats = Vec::new(alloc);
-    let Ok(()) = seats.reserve(3) else {
-        return Err(Errno::NoMemory);
-    };
-    let (Ok(home), Ok(log)) = (
-        Box::new(alloc, MemHome::new(alloc)),
-        Box::new(alloc, MemLog::new(alloc)),
-    ) else {
-        return Err(Errno::NoMemory);
-    };
-    let (host, mut own, passes) = Host::<H>::new(alloc, blanks, 1, 1_048_576)?;
-    mount(rt, &host, &mut own, slot, home, log)?;
-    let first = host.seat(rt, &mut own)?;
-    let second = host.seat(rt, &mut own)?;
-    let mut first = HostCalls::new(rt, alloc, &host, first);
-    let mut second = HostCalls::new(rt, alloc, &host, second);
+    let mut first = HostCalls::new(rt, alloc, host, seats.0);
+    let mut second = HostCalls::new(rt, alloc, host, seats.1);
     let replies = [
         told(alloc, &mut first, b"0.1 alloc 1 1 plain"),
         told(alloc, &mut second, b"0.1 cancel t1"),
@@ -306,24 +271,58 @@ fn cross<H: House, T: Wait>(
     ];
     first.end();
     second.end();
-    let second = second.into_seat();
+    (replies, first.into_seat(), second.into_seat())
+}
+
+/// What the two sessions are answered, how many events of slot 0 the second counted, and what the end of the host found.
+type Crossed = ([Option<Reply>; 4], u64, Result<(), CloseFault>);
+
+/// The same over a host with slots 0 and 1 mounted, which it ends.
+fn cross_over<H: House, D: Stand<H, T>, T: Wait>(
+    rt: &T,
+    alloc: Global,
+    blanks: Blanks,
+    devices: (D::Devices, D::Devices),
+) -> Result<Crossed, Errno>
+    requires names { AreNamed H.names blanks }
+    requires parts { AreCut H.all blanks }
+    requires all { H.all ≡ 2 ^ 64 - 1 }
+{
+    let mut seats = Vec::new(alloc);
+    let Ok(()) = seats.reserve(3) else {
+        return Err(Errno::NoMemory);
+    };
+    let (slot, other) = two_slots()?;
+    let (host, mut own, passes) = mounted::<H, D, T>(rt, alloc, blanks, (slot, other), devices)?;
+    let first = host.seat(rt, &mut own)?;
+    let second = host.seat(rt, &mut own)?;
+    let (replies, first, second) = cross(rt, alloc, &host, (first, second));
     let count = second.count(slot);
     seats.push_reserved(own);
-    seats.push_reserved(first.into_seat());
+    seats.push_reserved(first);
     seats.push_reserved(second);
     Ok((replies, count, host.close(seats, passes)))
 }
 
-/// The same over new ledgers.
-fn crosses<T: Wait>(
+/// The same over sixteen slots, and devices in memory.
+fn cross_in_slots<H: House, T: Wait>(
     rt: &T,
     alloc: Global,
     blanks: Blanks,
-) -> Result<([Option<Reply>; 4], u64, Result<(), CloseFault>), Errno>
+) -> Result<Crossed, Errno>
+    requires names { AreNamed H.names blanks }
+    requires parts { AreCut H.all blanks }
+    requires all { H.all ≡ 2 ^ 64 - 1 }
+{
+    let devices = (in_memory(alloc)?, in_memory(alloc)?);
+    cross_over::<H, Slots<H>, T>(rt, alloc, blanks, devices)
+}
+
+/// The same over new ledgers.
+fn crosses<T: Wait>(rt: &T, alloc: Global, blanks: Blanks) -> Result<Crossed, Errno>
     requires parts { AreCut (2 ^ 64 - 1) blanks }
 {
-    let slot = Slot::new(0).ok_or(Errno::Invalid)?;
-    cross::<Brand, T>(rt, alloc, blanks, slot)
+    cross_in_slots::<Brand, T>(rt, alloc, blanks)
 }
 
 /// A session can't touch another's transaction, and none of its lines on it reaches the host.

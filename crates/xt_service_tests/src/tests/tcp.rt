@@ -4,25 +4,24 @@ ghost use Rattle.std.specs.Prelude.{◌≡◌, ◌-◌, ◌^◌, All};
 ghost use Rattle.std.specs.Arc.{arc_value};
 ghost use Rattle.xt_cell.specs.Ledgers.{AreCut, AreNamed};
 
-use super::host::mount;
+use crate::tests::stand::{Stand, in_memory, mounted, two_slots};
 use std::alloc::Global;
-use std::io;
 use std::io::{Read, Write};
 use std::marker::Brand;
 use std::net::{Net, Shutdown, SocketAddr, TcpListener, TcpStream};
 use std::process::Abort;
 use std::rt::HostRuntime;
 use std::sync::{Arc, Wait};
-use std::thread::{Threads, join};
+use std::thread::{JoinHandle, Threads};
 use std::time::{Clock, Duration};
+use std::{io, thread};
 use xt_base::names::{Life, Slot};
 use xt_base::sizes::SLOTS;
 use xt_base::steps::Errno;
 use xt_cell::house::House;
 use xt_cell::mount_ref::MountRef;
 use xt_cell::reserve::Blanks;
-use xt_dev::mem_home::MemHome;
-use xt_dev::mem_log::MemLog;
+use xt_host::desk::Slots;
 use xt_host::fault::CloseFault;
 use xt_host::host::Host;
 use xt_service::service::{Service, ServiceEnd};
@@ -133,55 +132,6 @@ struct Told {
     closed: Result<(), CloseFault>,
 }
 
-/// Serves a visit over a host with slots 0 and 1 mounted.
-fn serve<
-    H: House + Send + Sync + 'static,
-    R: Net<Listener = TcpListener, Stream = TcpStream>
-        + Threads
-        + Wait
-        + Clock
-        + Copy
-        + Send
-        + 'static,
->(rt: R, alloc: Global, blanks: Blanks, slots: (Slot, Slot), visit: Visit) -> Result<Told, Errno>
-    requires names { AreNamed H.names blanks }
-    requires parts { AreCut H.all blanks }
-    requires all { H.all ≡ 2 ^ 64 - 1 }
-{
-    let (Ok(home), Ok(log)) = (
-        Box::new(alloc, MemHome::new(alloc)),
-        Box::new(alloc, MemLog::new(alloc)),
-    ) else {
-        return Err(Errno::NoMemory);
-    };
-    let (Ok(next_home), Ok(next_log)) = (
-        Box::new(alloc, MemHome::new(alloc)),
-        Box::new(alloc, MemLog::new(alloc)),
-    ) else {
-        return Err(Errno::NoMemory);
-    };
-    let (first, second) = slots;
-    let mounts = [at(first), at(second)];
-    let (host, mut own, passes) = Host::<H>::new(alloc, blanks, 1, 1_048_576)?;
-    mount(&rt, &host, &mut own, first, home, log)?;
-    mount(&rt, &host, &mut own, second, next_home, next_log)?;
-    let Ok(host) = Arc::new(alloc, host) else {
-        return Err(Errno::NoMemory);
-    };
-    let service = Service::start(rt, alloc, &host, own, passes)?;
-    let (said, end) = visited(rt, alloc, &host, service, &mounts, visit)?;
-    let Some(host) = Arc::into_inner(host) else {
-        return Err(Errno::Busy);
-    };
-    let ServiceEnd {
-        kept,
-        seats,
-        passes,
-    } = end;
-    let closed = host.close(seats, passes);
-    Ok(Told { said, kept, closed })
-}
-
 /// The first mount of a slot.
 fn at(slot: Slot) -> MountRef {
     MountRef {
@@ -190,26 +140,34 @@ fn at(slot: Slot) -> MountRef {
     }
 }
 
-/// Serves so many sessions, and ends the service.
-fn serve_out<H: House + Send + Sync + 'static, R: Threads + Wait + Clock + Copy + Send + 'static>(
-    rt: R,
-    alloc: Global,
-    host: &Arc<Host<H>, Global>,
-    service: Service<H>,
-    listener: &TcpListener,
-    sessions: u32,
-    mounts: &[MountRef],
-) -> (ServiceEnd<H>, io::Result<()>)
-    requires board { service.own.board.board ≡ (arc_value host.now).board }
-    requires workers { All (λ worker. (worker.promise.0.value.seat.board.board ≡ (arc_value host.now).board) × (worker.promise.0.value.pass.queue ≡ arc_value (arc_value host.now).queue)) service.crew.workers.items }
-{
-    let mut service = service;
-    let served = service.serve(rt, alloc, host, listener, sessions);
-    (service.end(&rt, host, mounts), served)
+/// A listener at a port of its own.
+fn listen<R: Net<Listener = TcpListener, Stream = TcpStream>>(
+    rt: &R,
+) -> Result<TcpListener, Errno> {
+    match TcpListener::bind(rt, "127.0.0.1:0") {
+        Ok(listener) => Ok(listener),
+        Err(_refused) => Err(Errno::NoDevice),
+    }
 }
 
-/// Serves a visit, and ends the service.
-fn visited<
+/// The clients of a visit, in a thread of their own.
+fn call_on<R: Net<Listener = TcpListener, Stream = TcpStream> + Threads + Copy + Send + 'static>(
+    rt: R,
+    alloc: Global,
+    listener: &TcpListener,
+    visit: Visit,
+) -> Result<JoinHandle<io::Result<Vec<u8>>>, Errno> {
+    let Ok(at) = listener.local_addr() else {
+        return Err(Errno::NoDevice);
+    };
+    match thread::spawn(&rt, move || pay(&rt, alloc, at, visit)) {
+        Ok(clients) => Ok(clients),
+        Err(_refused) => Err(Errno::NoMemory),
+    }
+}
+
+/// Serves the clients of a visit: what they are told.
+fn serve_clients<
     H: House + Send + Sync + 'static,
     R: Net<Listener = TcpListener, Stream = TcpStream>
         + Threads
@@ -222,31 +180,77 @@ fn visited<
     rt: R,
     alloc: Global,
     host: &Arc<Host<H>, Global>,
-    service: Service<H>,
-    mounts: &[MountRef],
+    service: &mut Service<H>,
     visit: Visit,
-) -> Result<(Vec<u8>, ServiceEnd<H>), Errno>
-    requires board { service.own.board.board ≡ (arc_value host.now).board }
-    requires workers { All (λ worker. (worker.promise.0.value.seat.board.board ≡ (arc_value host.now).board) × (worker.promise.0.value.pass.queue ≡ arc_value (arc_value host.now).queue)) service.crew.workers.items }
+) -> Result<Vec<u8>, Errno>
+    requires board { service.old.own.board.board ≡ (arc_value host.now).board }
+    requires workers { All (λ worker. (worker.promise.0.value.seat.board.board ≡ (arc_value host.now).board) × (worker.promise.0.value.pass.queue ≡ arc_value (arc_value host.now).queue)) service.old.crew.workers.items }
+    ensures board { service.new.own.board.board ≡ (arc_value host.now).board }
+    ensures workers { All (λ worker. (worker.promise.0.value.seat.board.board ≡ (arc_value host.now).board) × (worker.promise.0.value.pass.queue ≡ arc_value (arc_value host.now).queue)) service.new.crew.workers.items }
 {
-    let Ok(listener) = TcpListener::bind(&rt, "127.0.0.1:0") else {
-        return Err(Errno::NoDevice);
-    };
-    let Ok(at) = listener.local_addr() else {
-        return Err(Errno::NoDevice);
-    };
-    let sessions = visit.sessions();
-    let (told, (end, served)) = join(
-        &rt,
-        move || pay(&rt, alloc, at, visit),
-        || -> (ServiceEnd<H>, io::Result<()>)
-            requires { (service.own.board.board ≡ (arc_value host.now).board) × All (λ worker. (worker.promise.0.value.seat.board.board ≡ (arc_value host.now).board) × (worker.promise.0.value.pass.queue ≡ arc_value (arc_value host.now).queue)) service.crew.workers.items }
-        { serve_out(rt, alloc, host, service, &listener, sessions, mounts) },
-    );
-    match (told, served) {
-        (Ok(told), Ok(())) => Ok((told, end)),
+    let listener = listen(&rt)?;
+    let clients = call_on(rt, alloc, &listener, visit)?;
+    let served = service.serve(rt, alloc, host, &listener, visit.sessions());
+    match (clients.join(&rt), served) {
+        (Ok(told), Ok(())) => Ok(told),
         _ => Err(Errno::Io),
     }
+}
+
+/// Ends a service over the two mounts, and its host: what the end finds, with what clients were told.
+fn finish<H: House, D: Stand<H, R>, R: Threads + Wait>(
+    rt: &R,
+    host: Arc<Host<H, D>, Global>,
+    service: Service<H>,
+    mounts: &[MountRef],
+    said: Result<Vec<u8>, Errno>,
+) -> Result<Told, Errno>
+    requires board { service.own.board.board ≡ (arc_value host).board }
+    requires workers { All (λ worker. (worker.promise.0.value.seat.board.board ≡ (arc_value host).board) × (worker.promise.0.value.pass.queue ≡ arc_value (arc_value host).queue)) service.crew.workers.items }
+{
+    let ServiceEnd {
+        kept,
+        seats,
+        passes,
+    } = service.end(rt, &host, mounts);
+    let Some(host) = Arc::into_inner(host) else {
+        return Err(Errno::Busy);
+    };
+    let closed = host.close(seats, passes);
+    let said = said?;
+    Ok(Told { said, kept, closed })
+}
+
+/// Serves a visit over a host with slots 0 and 1 mounted.
+fn serve<
+    H: House + Send + Sync + 'static,
+    R: Net<Listener = TcpListener, Stream = TcpStream>
+        + Threads
+        + Wait
+        + Clock
+        + Copy
+        + Send
+        + 'static,
+>(rt: R, alloc: Global, blanks: Blanks, visit: Visit) -> Result<Told, Errno>
+    requires names { AreNamed H.names blanks }
+    requires parts { AreCut H.all blanks }
+    requires all { H.all ≡ 2 ^ 64 - 1 }
+{
+    let (slot, other) = two_slots()?;
+    let devices = (in_memory(alloc)?, in_memory(alloc)?);
+    let (host, own, passes) = mounted::<H, Slots<H>, R>(
+        &rt,
+        alloc,
+        blanks,
+        (slot, other),
+        devices,
+    )?;
+    let Ok(host) = Arc::new(alloc, host) else {
+        return Err(Errno::NoMemory);
+    };
+    let mut service = Service::start(rt, alloc, &host, own, passes)?;
+    let said = serve_clients(rt, alloc, &host, &mut service, visit);
+    finish(&rt, host, service, &[at(slot), at(other)], said)
 }
 
 /// The same over new ledgers.
@@ -261,10 +265,7 @@ fn serves<
 >(rt: R, alloc: Global, blanks: Blanks, visit: Visit) -> Result<Told, Errno>
     requires parts { AreCut (2 ^ 64 - 1) blanks }
 {
-    let (Some(first), Some(second)) = (Slot::new(0), Slot::new(1)) else {
-        return Err(Errno::Invalid);
-    };
-    serve::<Brand, R>(rt, alloc, blanks, (first, second), visit)
+    serve::<Brand, R>(rt, alloc, blanks, visit)
 }
 
 /// Asserts what the clients of a visit are told, with all given back at its end and the books in order.

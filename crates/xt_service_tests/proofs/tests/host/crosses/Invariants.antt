@@ -3,8 +3,8 @@ use Rattle.xt_cell.specs.Ledgers.{name_in}
 use Rattle.xt_service_tests.proofs.tests.host.crosses.Given as goal
 
 -- the house of sixteen new ledgers
-abbrev pub ghosts-cross : goal.ghosts-cross
-ghosts-cross g a = record {
+abbrev pub ghosts-cross_in_slots : goal.ghosts-cross_in_slots
+ghosts-cross_in_slots g a = record {
   names = name_in a.blanks;
   all = 2 ^ 64 - 1;
 }
