@@ -3,10 +3,13 @@
 ghost use Rattle.std.specs.Prelude.{◌≡◌, ◌-◌, ◌^◌};
 ghost use Rattle.xt_cell.specs.Ledgers.{AreCut, AreNamed};
 
+mod calls;
+mod door;
 mod example;
 mod folding;
 mod gates;
 mod lines;
+mod place;
 mod replay;
 mod rows;
 mod taking;
@@ -15,8 +18,10 @@ mod threads;
 mod volumes;
 mod waiting;
 
+use crate::tests::place::Place;
 use std::alloc::Global;
 use std::marker::Brand;
+use std::process::Abort;
 use std::rt::HostRuntime;
 use std::sync::Wait;
 use xt_base::names::{Life, Slot};
@@ -25,11 +30,17 @@ use xt_cell::house::House;
 use xt_cell::mount_ref::MountRef;
 use xt_cell::reserve::Blanks;
 use xt_cell::seat::HostSeat;
+use xt_host::desk::{Desk, Slots};
 use xt_host::fault::CloseFault;
 use xt_host::host::Host;
 
 /// Whether a call of a slot that nothing is mounted in is told so.
-fn is_empty<H: House, R: Wait>(rt: &R, host: &Host<H>, seat: &mut HostSeat<H>, slot: Slot) -> bool
+fn is_empty<H: House, D: Desk<H, R>, R: Wait>(
+    rt: &R,
+    host: &Host<H, D>,
+    seat: &mut HostSeat<H>,
+    slot: Slot,
+) -> bool
     requires board { seat.old.board.board ≡ host.now.board }
     ensures board { seat.new.board.board ≡ seat.old.board.board }
 {
@@ -42,7 +53,7 @@ fn is_empty<H: House, R: Wait>(rt: &R, host: &Host<H>, seat: &mut HostSeat<H>, s
 
 /// Two seats call one slot each, and the host is closed with both of them, or with the first alone; None where a call is told
 /// something else.
-fn closed<H: House, R: Wait>(
+fn closed<H: House, D: Place<H, R>, R: Abort + Wait>(
     rt: &R,
     alloc: Global,
     blanks: Blanks,
@@ -57,7 +68,7 @@ fn closed<H: House, R: Wait>(
     let Ok(()) = seats.reserve(2) else {
         return Err(Errno::NoMemory);
     };
-    let (host, mut first, passes) = Host::<H>::new(alloc, blanks, 1, 1)?;
+    let (host, mut first, passes) = Host::<H, D>::new(alloc, blanks, 1, 1)?;
     let mut second = host.seat(rt, &mut first)?;
     let told = is_empty(rt, &host, &mut first, slots.0)
         && is_empty(rt, &host, &mut second, slots.1);
@@ -69,8 +80,25 @@ fn closed<H: House, R: Wait>(
     Ok(if told { Some(answer) } else { None })
 }
 
-/// The same over new ledgers, in slots 3 and 15.
-fn closes<R: Wait>(
+/// The same on sixteen slots, in slots 3 and 15.
+fn closed_on_slots<H: House, R: Abort + Wait>(
+    rt: &R,
+    alloc: Global,
+    blanks: Blanks,
+    is_away: bool,
+) -> Result<Option<Result<(), CloseFault>>, Errno>
+    requires names { AreNamed H.names blanks }
+    requires parts { AreCut H.all blanks }
+    requires all { H.all ≡ 2 ^ 64 - 1 }
+{
+    let (Some(first), Some(second)) = (Slot::new(3), Slot::new(15)) else {
+        return Err(Errno::Invalid);
+    };
+    closed::<H, Slots<H>, R>(rt, alloc, blanks, (first, second), is_away)
+}
+
+/// The same over new ledgers.
+fn closes<R: Abort + Wait>(
     rt: &R,
     alloc: Global,
     blanks: Blanks,
@@ -78,10 +106,7 @@ fn closes<R: Wait>(
 ) -> Result<Option<Result<(), CloseFault>>, Errno>
     requires parts { AreCut (2 ^ 64 - 1) blanks }
 {
-    let (Some(first), Some(second)) = (Slot::new(3), Slot::new(15)) else {
-        return Err(Errno::Invalid);
-    };
-    closed::<Brand, R>(rt, alloc, blanks, (first, second), is_away)
+    closed_on_slots::<Brand, R>(rt, alloc, blanks, is_away)
 }
 
 /// With both seats there is nothing wrong.

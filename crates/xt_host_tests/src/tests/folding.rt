@@ -3,19 +3,19 @@
 ghost use Rattle.std.specs.Prelude.{◌≡◌, ◌-◌, ◌^◌};
 ghost use Rattle.xt_cell.specs.Ledgers.{AreCut, AreNamed};
 
-use crate::tests::lines::mounted;
+use crate::tests::place::{Devices, Place, in_memory, stand};
 use std::alloc::Global;
 use std::marker::Brand;
+use std::process::Abort;
 use std::rt::HostRuntime;
 use std::sync::Wait;
-use xt_base::names::Slot;
 use xt_base::steps::Errno;
 use xt_cell::house::House;
 use xt_cell::mount_ref::MountRef;
 use xt_cell::reserve::Blanks;
 use xt_cell::seat::HostSeat;
 use xt_dev::mem_home::MemHome;
-use xt_dev::mem_log::MemLog;
+use xt_host::desk::{Desk, Slots};
 use xt_host::host::Host;
 
 /// From how many entries on a book is folded.
@@ -28,9 +28,9 @@ const CALLS: u32 = 1_000;
 type Length = (u64, usize);
 
 /// Freezes a mount and thaws it again, so often, and forgets the receipts.
-fn call_often<H: House, R: Wait>(
+fn call_often<H: House, D: Desk<H, R>, R: Wait>(
     rt: &R,
-    host: &Host<H>,
+    host: &Host<H, D>,
     seat: &mut HostSeat<H>,
     at: &MountRef,
 ) -> Result<(), Errno>
@@ -46,32 +46,42 @@ fn call_often<H: House, R: Wait>(
 }
 
 /// How long the book of a slot is after so many calls.
-fn book_after<H: House, R: Wait>(rt: &R, alloc: Global, blanks: Blanks) -> Result<Length, Errno>
+fn book_after<H: House, D: Place<H, R>, R: Abort + Wait>(
+    rt: &R,
+    alloc: Global,
+    blanks: Blanks,
+    devices: D::Devices,
+) -> Result<Length, Errno>
     requires names { AreNamed H.names blanks }
     requires parts { AreCut H.all blanks }
     requires all { H.all ≡ 2 ^ 64 - 1 }
 {
-    let (Ok(home), Ok(log)) = (
-        Box::new(alloc, MemHome::new(alloc)),
-        Box::new(alloc, MemLog::new(alloc)),
-    ) else {
-        return Err(Errno::NoMemory);
-    };
-    let (host, mut seat, _passes) = Host::<H>::new(alloc, blanks, 1, BOOK_LIMIT)?;
-    let (Some(slot), Some(life)) = (Slot::new(0), mounted(rt, &host, &mut seat, (home, log))) else {
-        return Err(Errno::Invalid);
-    };
-    let at = MountRef { slot, life };
+    let (host, mut seat, _pass, at) = stand::<H, D, R>(rt, alloc, blanks, BOOK_LIMIT, devices)?;
     call_often(rt, &host, &mut seat, &at)?;
     let books = host.into_books();
     Ok((books[0].folded(), books[0].entries().len()))
 }
 
+/// The same on sixteen slots.
+fn book_on_slots<H: House, R: Abort + Wait>(
+    rt: &R,
+    alloc: Global,
+    blanks: Blanks,
+    devices: Devices,
+) -> Result<Length, Errno>
+    requires names { AreNamed H.names blanks }
+    requires parts { AreCut H.all blanks }
+    requires all { H.all ≡ 2 ^ 64 - 1 }
+{
+    book_after::<H, Slots<H>, R>(rt, alloc, blanks, devices)
+}
+
 /// The same over new ledgers.
-fn books_after<R: Wait>(rt: &R, alloc: Global, blanks: Blanks) -> Result<Length, Errno>
+fn books_after<R: Abort + Wait>(rt: &R, alloc: Global, blanks: Blanks) -> Result<Length, Errno>
     requires parts { AreCut (2 ^ 64 - 1) blanks }
 {
-    book_after::<Brand, R>(rt, alloc, blanks)
+    let (home, log) = in_memory(alloc, Ok(MemHome::new(alloc)))?;
+    book_on_slots::<Brand, R>(rt, alloc, blanks, (home, log))
 }
 
 /// Of 2,001 events 31 times 64 were folded, and 17 are left.

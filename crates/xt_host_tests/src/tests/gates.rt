@@ -4,9 +4,10 @@ ghost use Rattle.std.specs.Prelude.{◌≡◌, ◌-◌, ◌^◌, IfOk};
 ghost use Rattle.std.specs.Arc.{arc_value};
 ghost use Rattle.xt_cell.specs.Ledgers.{AreCut, AreNamed};
 
-use crate::tests::example::{change, give_up};
-use crate::tests::lines::Devices;
-use crate::tests::threads::{Door, work_for};
+use crate::tests::calls::{change, give_up};
+use crate::tests::door::Door;
+use crate::tests::place::{Devices, Place, Workplace, in_memory};
+use crate::tests::threads::work_for;
 use std::alloc::{AllocError, Global};
 use std::marker::Brand;
 use std::process::Abort;
@@ -23,8 +24,9 @@ use xt_dev::gates::{Flag, GateHome, GateLog, Meeting};
 use xt_dev::mem_home::MemHome;
 use xt_dev::mem_log::MemLog;
 use xt_host::comparing::compare_all;
+use xt_host::desk::{Desk, Slots};
 use xt_host::fault::CloseFault;
-use xt_host::host::Host;
+use xt_host::host::{BOOK_ENTRIES, Host};
 use xt_host::outcomes::Forced;
 use xt_queue::jobs::WorkPass;
 
@@ -66,21 +68,22 @@ impl Flags {
     }
 }
 
-/// Mounts a slot over devices.
-fn mount<H: House, R: Wait>(
+/// Mounts the first two slots.
+fn mount_two<H: House, D: Place<H, R>, R: Abort + Wait>(
     rt: &R,
-    host: &Host<H>,
+    host: &Host<H, D>,
     seat: &mut HostSeat<H>,
-    slot: u8,
-    devices: Devices,
-) -> Result<MountRef, Errno>
+    volumes: (D::Devices, D::Devices),
+) -> Result<(MountRef, MountRef), Errno>
     requires board { seat.old.board.board ≡ host.now.board }
     ensures board { seat.new.board.board ≡ seat.old.board.board }
 {
-    let (home, log) = devices;
-    let slot = Slot::new(slot).ok_or(Errno::Invalid)?;
-    let mounted = host.mount(rt, seat, slot, 65_536, 1_024, home, log);
-    mounted.map_err(|back| back.errno)
+    let (Some(zero), Some(one)) = (Slot::new(0), Slot::new(1)) else {
+        return Err(Errno::Invalid);
+    };
+    let zero = D::mount(rt, host, seat, zero, volumes.0)?;
+    let one = D::mount(rt, host, seat, one, volumes.1)?;
+    Ok((zero, one))
 }
 
 /// A seat, and what its thread was told.
@@ -90,9 +93,9 @@ type Reader<H> = (HostSeat<H>, Result<(), Errno>);
 type Caller<H> = (HostSeat<H>, bool, Result<Forced, Errno>);
 
 /// Reads a block in a transaction of its own.
-fn read<H: House, R: Abort + Wait>(
+fn read<H: House, D: Desk<H, R>, R: Abort + Wait>(
     rt: &R,
-    host: &Host<H>,
+    host: &Host<H, D>,
     seat: &mut HostSeat<H>,
     at: MountRef,
 ) -> Result<(), Errno>
@@ -106,9 +109,9 @@ fn read<H: House, R: Abort + Wait>(
 }
 
 /// The thread whose read waits at the gate.
-fn reader<H: House, R: Abort + Wait>(
+fn reader<H: House, D: Desk<H, R>, R: Abort + Wait>(
     rt: &R,
-    host: &Host<H>,
+    host: &Host<H, D>,
     seat: HostSeat<H>,
     at: MountRef,
 ) -> Reader<H>
@@ -120,29 +123,31 @@ fn reader<H: House, R: Abort + Wait>(
 }
 
 /// The thread that calls another mount once the read is at the gate, and opens that when it was answered.
-fn caller<H: House, R: Wait>(
+fn caller<H: House, D: Desk<H, R>, R: Wait>(
     rt: &R,
-    host: &Host<H>,
+    host: &Host<H, D>,
     seat: HostSeat<H>,
     at: MountRef,
-    flags: &Flags,
+    reached: &Flag,
+    answered: &Flag,
 ) -> Caller<H>
     requires board { seat.board.board ≡ host.now.board }
 {
     let mut seat = seat;
-    let is_reached = flags.first.is_seen_within(TURNS);
+    let is_reached = reached.is_seen_within(TURNS);
     let told = host.force(rt, &mut seat, at);
-    flags.second.raise();
+    answered.raise();
     (seat, is_reached, told)
 }
 
 /// Both threads.
-fn read_beside<H: House + Send + Sync, R: Abort + Threads + Wait + Sync>(
+fn read_beside<H: House + Send + Sync, D: Desk<H, R> + Sync, R: Abort + Threads + Wait + Sync>(
     rt: &R,
-    host: &Host<H>,
+    host: &Host<H, D>,
     seats: (HostSeat<H>, HostSeat<H>),
     mounts: (MountRef, MountRef),
-    flags: &Flags,
+    reached: &Flag,
+    answered: &Flag,
 ) -> (Reader<H>, Caller<H>)
     requires first { seats.0.board.board ≡ host.now.board }
     requires second { seats.1.board.board ≡ host.now.board }
@@ -155,7 +160,7 @@ fn read_beside<H: House + Send + Sync, R: Abort + Threads + Wait + Sync>(
         { reader(rt, host, first, mounts.0) },
         move || -> Caller<H>
             requires { second.board.board ≡ host.now.board }
-        { caller(rt, host, second, mounts.1, flags) },
+        { caller(rt, host, second, mounts.1, reached, answered) },
     )
 }
 
@@ -168,46 +173,36 @@ type Met = (
 );
 
 /// A read of one mount that waits until a call of another mount was answered.
-fn meet_two_mounts<H: House + Send + Sync, R: Abort + Threads + Wait + Sync>(
+fn meet_two_mounts<H: House + Send + Sync, D: Place<H, R> + Sync, R: Abort + Threads + Wait + Sync>(
     rt: &R,
     alloc: Global,
     blanks: Blanks,
+    volumes: (D::Devices, D::Devices),
+    flags: &Flags,
 ) -> Result<Met, Errno>
     requires names { AreNamed H.names blanks }
     requires parts { AreCut H.all blanks }
     requires all { H.all ≡ 2 ^ 64 - 1 }
 {
-    let flags = Flags::new(alloc).map_err(|_| Errno::NoMemory)?;
-    let meeting = flags.first_waits().map_err(|_| Errno::NoMemory)?;
-    let gated = GateHome::new(alloc, MemHome::new(alloc), meeting);
-    let (Ok(gated), Ok(log)) = (Box::new(alloc, gated), Box::new(alloc, MemLog::new(alloc))) else {
-        return Err(Errno::NoMemory);
-    };
-    let (Ok(home), Ok(other)) = (
-        Box::new(alloc, MemHome::new(alloc)),
-        Box::new(alloc, MemLog::new(alloc)),
-    ) else {
-        return Err(Errno::NoMemory);
-    };
-    let (host, mut first, _passes) = Host::<H>::new(alloc, blanks, 1, 1_048_576)?;
+    let (host, mut first, _passes) = Host::<H, D>::new(alloc, blanks, 1, BOOK_ENTRIES)?;
     let second = host.seat(rt, &mut first)?;
-    let zero = mount(rt, &host, &mut first, 0, (gated, log))?;
-    let one = mount(rt, &host, &mut first, 1, (home, other))?;
+    let mounts = mount_two(rt, &host, &mut first, volumes)?;
     let ((first, read), (second, is_reached, called)) = read_beside(
         rt,
         &host,
         (first, second),
-        (zero, one),
-        &flags,
+        mounts,
+        &flags.first,
+        &flags.second,
     );
     let closed = compare_all(&host.into_books(), &[first, second]);
     Ok((read, is_reached, called, closed))
 }
 
 /// Two workers that work until no name waits: their seats.
-fn work_beside<H: House + Send + Sync, R: Abort + Threads + Wait + Sync>(
+fn work_beside<H: House + Send + Sync, D: Workplace<H, R> + Sync, R: Abort + Threads + Wait + Sync>(
     rt: &R,
-    host: &Host<H>,
+    host: &Host<H, D>,
     passes: (WorkPass, WorkPass),
     seats: (HostSeat<H>, HostSeat<H>),
 ) -> (HostSeat<H>, HostSeat<H>)
@@ -217,8 +212,7 @@ fn work_beside<H: House + Send + Sync, R: Abort + Threads + Wait + Sync>(
 {
     let (first, second) = seats;
     let (pass, other) = passes;
-    let shut = Door::new();
-    shut.shut();
+    let shut = Door::closed();
     let door = &shut;
     join(
         rt,
@@ -232,10 +226,10 @@ fn work_beside<H: House + Send + Sync, R: Abort + Threads + Wait + Sync>(
 }
 
 /// Changes a mount, and asks that it be logged: the checkpoint that is to have it.
-fn changed<H: House, R: Abort + Wait>(
+fn changed<H: House, D: Desk<H, R>, R: Abort + Wait>(
     rt: &R,
     alloc: Global,
-    host: &Host<H>,
+    host: &Host<H, D>,
     seat: &mut HostSeat<H>,
     at: &MountRef,
 ) -> Result<Forced, Errno>
@@ -250,44 +244,44 @@ fn changed<H: House, R: Abort + Wait>(
 type Logged = ([Result<Forced, Errno>; 4], Result<(), CloseFault>);
 
 /// Two checkpoints, each of which waits until the other is being written too.
-fn meet_two_logs<H: House + Send + Sync, R: Abort + Threads + Wait + Sync>(
+fn meet_two_logs<H: House + Send + Sync, D: Place<H, R> + Sync, R: Abort + Threads + Wait + Sync>(
     rt: &R,
     alloc: Global,
     blanks: Blanks,
+    volumes: (D::Devices, D::Devices),
 ) -> Result<Logged, Errno>
     requires names { AreNamed H.names blanks }
     requires parts { AreCut H.all blanks }
     requires all { H.all ≡ 2 ^ 64 - 1 }
 {
-    let flags = Flags::new(alloc).map_err(|_| Errno::NoMemory)?;
-    let meeting = flags.first_waits().map_err(|_| Errno::NoMemory)?;
-    let other = flags.second_waits().map_err(|_| Errno::NoMemory)?;
-    let (Ok(home), Ok(log)) = (
-        Box::new(alloc, MemHome::new(alloc)),
-        Box::new(alloc, GateLog::new(alloc, MemLog::new(alloc), meeting)),
-    ) else {
-        return Err(Errno::NoMemory);
-    };
-    let (Ok(home_too), Ok(log_too)) = (
-        Box::new(alloc, MemHome::new(alloc)),
-        Box::new(alloc, GateLog::new(alloc, MemLog::new(alloc), other)),
-    ) else {
-        return Err(Errno::NoMemory);
-    };
-    let (host, mut own, mut passes) = Host::<H>::new(alloc, blanks, 2, 1_048_576)?;
+    let (host, mut own, mut passes) = Host::<H, D>::new(alloc, blanks, 2, BOOK_ENTRIES)?;
     let (Some(second), Some(first)) = (passes.pop(), passes.pop()) else {
         return Err(Errno::Invalid);
     };
     let seats = (host.seat(rt, &mut own)?, host.seat(rt, &mut own)?);
-    let zero = &mount(rt, &host, &mut own, 0, (home, log))?;
-    let one = &mount(rt, &host, &mut own, 1, (home_too, log_too))?;
-    let before = changed(rt, alloc, &host, &mut own, zero);
-    let before_too = changed(rt, alloc, &host, &mut own, one);
+    let (zero, one) = mount_two(rt, &host, &mut own, volumes)?;
+    let before = changed(rt, alloc, &host, &mut own, &zero);
+    let before_too = changed(rt, alloc, &host, &mut own, &one);
     let (seat, seat_too) = work_beside(rt, &host, (first, second), seats);
-    let after = host.force(rt, &mut own, *zero);
-    let after_too = host.force(rt, &mut own, *one);
+    let after = host.force(rt, &mut own, zero);
+    let after_too = host.force(rt, &mut own, one);
     let closed = compare_all(&host.into_books(), &[own, seat, seat_too]);
     Ok(([before, before_too, after, after_too], closed))
+}
+
+/// The first on sixteen slots.
+fn mounts_on_slots<H: House + Send + Sync, R: Abort + Threads + Wait + Sync>(
+    rt: &R,
+    alloc: Global,
+    blanks: Blanks,
+    volumes: (Devices, Devices),
+    flags: &Flags,
+) -> Result<Met, Errno>
+    requires names { AreNamed H.names blanks }
+    requires parts { AreCut H.all blanks }
+    requires all { H.all ≡ 2 ^ 64 - 1 }
+{
+    meet_two_mounts::<H, Slots<H>, R>(rt, alloc, blanks, volumes, flags)
 }
 
 /// The first over new ledgers.
@@ -298,7 +292,39 @@ fn meets_two_mounts<R: Abort + Threads + Wait + Sync>(
 ) -> Result<Met, Errno>
     requires parts { AreCut (2 ^ 64 - 1) blanks }
 {
-    meet_two_mounts::<Brand, R>(rt, alloc, blanks)
+    let flags = Flags::new(alloc).map_err(|_| Errno::NoMemory)?;
+    let meeting = flags.first_waits().map_err(|_| Errno::NoMemory)?;
+    let gated = GateHome::new(alloc, MemHome::new(alloc), meeting);
+    let (Ok(gated), Ok(log)) = (Box::new(alloc, gated), Box::new(alloc, MemLog::new(alloc))) else {
+        return Err(Errno::NoMemory);
+    };
+    let (home, other) = in_memory(alloc, Ok(MemHome::new(alloc)))?;
+    let volumes: (Devices, Devices) = ((gated, log), (home, other));
+    mounts_on_slots::<Brand, R>(rt, alloc, blanks, volumes, &flags)
+}
+
+/// A volume in memory, whose log device waits at a gate.
+fn gated_log(
+    alloc: Global,
+    meeting: Result<Meeting, AllocError>,
+) -> Result<(Box<MemHome>, Box<GateLog<MemLog>>), AllocError> {
+    let home = Box::new(alloc, MemHome::new(alloc))?;
+    let log = GateLog::new(alloc, MemLog::new(alloc), meeting?);
+    Ok((home, Box::new(alloc, log)?))
+}
+
+/// The second on sixteen slots.
+fn logs_on_slots<H: House + Send + Sync, R: Abort + Threads + Wait + Sync>(
+    rt: &R,
+    alloc: Global,
+    blanks: Blanks,
+    volumes: (Devices, Devices),
+) -> Result<Logged, Errno>
+    requires names { AreNamed H.names blanks }
+    requires parts { AreCut H.all blanks }
+    requires all { H.all ≡ 2 ^ 64 - 1 }
+{
+    meet_two_logs::<H, Slots<H>, R>(rt, alloc, blanks, volumes)
 }
 
 /// The second over new ledgers.
@@ -309,7 +335,15 @@ fn meets_two_logs<R: Abort + Threads + Wait + Sync>(
 ) -> Result<Logged, Errno>
     requires parts { AreCut (2 ^ 64 - 1) blanks }
 {
-    meet_two_logs::<Brand, R>(rt, alloc, blanks)
+    let flags = Flags::new(alloc).map_err(|_| Errno::NoMemory)?;
+    let (Ok((home, log)), Ok((other, log_too))) = (
+        gated_log(alloc, flags.first_waits()),
+        gated_log(alloc, flags.second_waits()),
+    ) else {
+        return Err(Errno::NoMemory);
+    };
+    let volumes: (Devices, Devices) = ((home, log), (other, log_too));
+    logs_on_slots::<Brand, R>(rt, alloc, blanks, volumes)
 }
 
 /// A call of one mount is answered while another mount's home device is being read.

@@ -2,15 +2,16 @@
 
 ghost use Rattle.std.specs.Prelude.{◌≡◌};
 
+use crate::tests::place::Place;
 use std::alloc::{AllocError, Global};
+use std::process::Abort;
 use std::sync::Wait;
-use xt_base::names::{Block, Life, Slot};
+use xt_base::names::Block;
 use xt_base::steps::{Reply, Request, Step};
 use xt_cell::house::House;
 use xt_cell::mount_ref::MountRef;
 use xt_cell::seat::HostSeat;
 use xt_dev::home::HomeDevice;
-use xt_dev::log::LogDevice;
 use xt_dev::mem_home::MemHome;
 use xt_host::host::Host;
 use xt_text::print_reply::print_reply;
@@ -26,9 +27,6 @@ pub struct Script {
     pub lines: &'static [Line],
 }
 
-/// The two devices of a mount.
-pub type Devices = (Box<dyn HomeDevice + Send>, Box<dyn LogDevice + Send>);
-
 /// A home device in memory with these blocks.
 pub fn home_of(alloc: Global, blocks: &[(u64, u8)]) -> Result<MemHome, AllocError> {
     let mut home = MemHome::new(alloc);
@@ -40,26 +38,10 @@ pub fn home_of(alloc: Global, blocks: &[(u64, u8)]) -> Result<MemHome, AllocErro
     Ok(home)
 }
 
-/// Mounts slot 0 over devices: the life that it has.
-pub fn mounted<H: House, R: Wait>(
-    rt: &R,
-    host: &Host<H>,
-    seat: &mut HostSeat<H>,
-    devices: Devices,
-) -> Option<Life>
-    requires board { seat.old.board.board ≡ host.now.board }
-    ensures board { seat.new.board.board ≡ seat.old.board.board }
-{
-    let (home, log) = devices;
-    let slot = Slot::new(0)?;
-    let at = host.mount(rt, seat, slot, 65536, 1024, home, log).ok()?;
-    Some(at.life)
-}
-
 /// Asks a mount something, or unmounts it.
-pub fn ask<H: House, R: Wait>(
+pub fn ask<H: House, D: Place<H, R>, R: Abort + Wait>(
     rt: &R,
-    host: &Host<H>,
+    host: &Host<H, D>,
     seat: &mut HostSeat<H>,
     at: MountRef,
     request: Request,
@@ -70,16 +52,16 @@ pub fn ask<H: House, R: Wait>(
     if request != Request::Unmount {
         return host.call(rt, seat, at, request);
     }
-    match host.unmount(rt, seat, at) {
-        Ok(_) => Reply::Okay,
+    match D::unmount(rt, host, seat, at) {
+        Ok(()) => Reply::Okay,
         Err(errno) => Reply::Refused(errno),
     }
 }
 
 /// The reply to a step, where that is a call or a look at the board.
-fn reply_to<H: House, R: Wait>(
+fn reply_to<H: House, D: Place<H, R>, R: Abort + Wait>(
     rt: &R,
-    host: &Host<H>,
+    host: &Host<H, D>,
     seat: &mut HostSeat<H>,
     step: Step,
 ) -> Option<Reply>
@@ -111,10 +93,10 @@ fn is_spelled(alloc: Global, reply: &Reply, wanted: &str) -> bool {
 }
 
 /// Whether a line is told what is wanted.
-pub fn is_told<H: House, R: Wait>(
+pub fn is_told<H: House, D: Place<H, R>, R: Abort + Wait>(
     rt: &R,
     alloc: Global,
-    host: &Host<H>,
+    host: &Host<H, D>,
     seat: &mut HostSeat<H>,
     line: Line,
 ) -> bool
@@ -131,10 +113,10 @@ pub fn is_told<H: House, R: Wait>(
 }
 
 /// The first line that is told something else, counted from 0.
-pub fn first_wrong<H: House, R: Wait>(
+pub fn first_wrong<H: House, D: Place<H, R>, R: Abort + Wait>(
     rt: &R,
     alloc: Global,
-    host: &Host<H>,
+    host: &Host<H, D>,
     seat: &mut HostSeat<H>,
     lines: &[Line],
 ) -> Option<usize>

@@ -3,59 +3,71 @@
 ghost use Rattle.std.specs.Prelude.{◌≡◌, ◌-◌, ◌^◌};
 ghost use Rattle.xt_cell.specs.Ledgers.{AreCut, AreNamed};
 
-use crate::tests::lines::{Script, first_wrong, home_of, mounted};
+use crate::tests::lines::{Line, Script, first_wrong, home_of};
+use crate::tests::place::{Devices, Place, end, in_memory, stand};
 use std::alloc::Global;
 use std::marker::Brand;
+use std::process::Abort;
 use std::rt::HostRuntime;
 use std::sync::Wait;
 use xt_base::names::Life;
 use xt_base::steps::Errno;
 use xt_cell::house::House;
 use xt_cell::reserve::Blanks;
-use xt_dev::mem_log::MemLog;
+use xt_host::desk::Slots;
 use xt_host::fault::CloseFault;
-use xt_host::host::Host;
 
 /// The life that the slot has, the first line that is told something else, and what the end of the host found wrong.
-type Played = (Option<Life>, Option<usize>, Result<(), CloseFault>);
+type Played = (Life, Option<usize>, Result<(), CloseFault>);
 
 /// All lines of a script by one seat, and the end of the host with that seat.
-fn played<H: House, R: Wait>(
+fn played<H: House, D: Place<H, R>, R: Abort + Wait>(
     rt: &R,
     alloc: Global,
     blanks: Blanks,
-    script: Script,
+    lines: &[Line],
+    devices: D::Devices,
 ) -> Result<Played, Errno>
     requires names { AreNamed H.names blanks }
     requires parts { AreCut H.all blanks }
     requires all { H.all ≡ 2 ^ 64 - 1 }
 {
-    let mut seats = Vec::new(alloc);
-    let Ok(()) = seats.reserve(1) else {
-        return Err(Errno::NoMemory);
-    };
-    let Ok(home) = home_of(alloc, script.blocks) else {
-        return Err(Errno::NoMemory);
-    };
-    let (Ok(home), Ok(log)) = (Box::new(alloc, home), Box::new(alloc, MemLog::new(alloc))) else {
-        return Err(Errno::NoMemory);
-    };
-    let (host, mut seat, passes) = Host::<H>::new(alloc, blanks, 1, 1)?;
-    let life = mounted(rt, &host, &mut seat, (home, log));
-    let wrong = first_wrong(rt, alloc, &host, &mut seat, script.lines);
-    seats.push_reserved(seat);
-    Ok((life, wrong, host.close(seats, passes)))
+    let (host, mut seat, _pass, at) = stand::<H, D, R>(rt, alloc, blanks, 1, devices)?;
+    let wrong = first_wrong(rt, alloc, &host, &mut seat, lines);
+    let closed = end(alloc, host, vec![in alloc; seat].ok())?;
+    Ok((at.life, wrong, closed))
+}
+
+/// The same on sixteen slots.
+fn played_on_slots<H: House, R: Abort + Wait>(
+    rt: &R,
+    alloc: Global,
+    blanks: Blanks,
+    lines: &[Line],
+    devices: Devices,
+) -> Result<Played, Errno>
+    requires names { AreNamed H.names blanks }
+    requires parts { AreCut H.all blanks }
+    requires all { H.all ≡ 2 ^ 64 - 1 }
+{
+    played::<H, Slots<H>, R>(rt, alloc, blanks, lines, devices)
 }
 
 /// The same over new ledgers.
-fn plays<R: Wait>(rt: &R, alloc: Global, blanks: Blanks, script: Script) -> Result<Played, Errno>
+fn plays<R: Abort + Wait>(
+    rt: &R,
+    alloc: Global,
+    blanks: Blanks,
+    script: Script,
+) -> Result<Played, Errno>
     requires parts { AreCut (2 ^ 64 - 1) blanks }
 {
-    played::<Brand, R>(rt, alloc, blanks, script)
+    let (home, log) = in_memory(alloc, home_of(alloc, script.blocks))?;
+    played_on_slots::<Brand, R>(rt, alloc, blanks, script.lines, (home, log))
 }
 
 /// All lines are told what they should be, and the host ends with nothing wrong.
-const AS_WANTED: Result<Played, Errno> = Ok((Some(Life(1)), None, Ok(())));
+const AS_WANTED: Result<Played, Errno> = Ok((Life(1), None, Ok(())));
 
 /// Two transactions at one block.
 const LOCKED_ELSEWHERE: Script = Script {

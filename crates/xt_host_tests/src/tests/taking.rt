@@ -4,8 +4,8 @@ ghost use Rattle.std.specs.Prelude.{◌≡◌, ◌-◌, ◌^◌};
 ghost use Rattle.std.specs.Arc.{arc_value};
 ghost use Rattle.xt_cell.specs.Ledgers.{AreCut, AreNamed};
 
-use crate::tests::example::change;
-use crate::tests::lines::mounted;
+use crate::tests::calls::change;
+use crate::tests::place::{Devices, Place, in_memory, stand};
 use std::alloc::Global;
 use std::marker::Brand;
 use std::process::Abort;
@@ -18,18 +18,18 @@ use xt_cell::mount_ref::MountRef;
 use xt_cell::reserve::Blanks;
 use xt_cell::seat::HostSeat;
 use xt_dev::mem_home::MemHome;
-use xt_dev::mem_log::MemLog;
-use xt_host::host::Host;
+use xt_host::desk::{Desk, Slots};
+use xt_host::host::{BOOK_ENTRIES, Host};
 use xt_queue::jobs::WorkPass;
 
 /// What a worker takes before a force, and twice after it.
 type Taken = (Option<JobName>, Option<JobName>, Option<JobName>);
 
 /// Changes a mount and forces its log: what a worker takes before and after.
-fn take_around<H: House, R: Abort + Wait>(
+fn take_around<H: House, D: Desk<H, R>, R: Abort + Wait>(
     rt: &R,
     alloc: Global,
-    host: &Host<H>,
+    host: &Host<H, D>,
     seat: &mut HostSeat<H>,
     pass: &mut WorkPass,
     at: &MountRef,
@@ -45,37 +45,46 @@ fn take_around<H: House, R: Abort + Wait>(
 }
 
 /// The same on a host with one worker and one volume.
-fn take_one<H: House, R: Abort + Wait>(
+fn take_one<H: House, D: Place<H, R>, R: Abort + Wait>(
     rt: &R,
     alloc: Global,
     blanks: Blanks,
+    devices: D::Devices,
 ) -> Result<Taken, Errno>
     requires names { AreNamed H.names blanks }
     requires parts { AreCut H.all blanks }
     requires all { H.all ≡ 2 ^ 64 - 1 }
 {
-    let (Ok(home), Ok(log)) = (
-        Box::new(alloc, MemHome::new(alloc)),
-        Box::new(alloc, MemLog::new(alloc)),
-    ) else {
-        return Err(Errno::NoMemory);
-    };
-    let (host, mut seat, mut passes) = Host::<H>::new(alloc, blanks, 1, 1_048_576)?;
-    let Some(mut pass) = passes.pop() else {
-        return Err(Errno::Invalid);
-    };
-    let (Some(slot), Some(life)) = (Slot::new(0), mounted(rt, &host, &mut seat, (home, log))) else {
-        return Err(Errno::Invalid);
-    };
-    let at = &MountRef { slot, life };
-    take_around(rt, alloc, &host, &mut seat, &mut pass, at)
+    let (host, mut seat, mut pass, at) = stand::<H, D, R>(
+        rt,
+        alloc,
+        blanks,
+        BOOK_ENTRIES,
+        devices,
+    )?;
+    take_around(rt, alloc, &host, &mut seat, &mut pass, &at)
+}
+
+/// The same on sixteen slots.
+fn take_on_slots<H: House, R: Abort + Wait>(
+    rt: &R,
+    alloc: Global,
+    blanks: Blanks,
+    devices: Devices,
+) -> Result<Taken, Errno>
+    requires names { AreNamed H.names blanks }
+    requires parts { AreCut H.all blanks }
+    requires all { H.all ≡ 2 ^ 64 - 1 }
+{
+    take_one::<H, Slots<H>, R>(rt, alloc, blanks, devices)
 }
 
 /// The same over new ledgers.
 fn takes<R: Abort + Wait>(rt: &R, alloc: Global, blanks: Blanks) -> Result<Taken, Errno>
     requires parts { AreCut (2 ^ 64 - 1) blanks }
 {
-    take_one::<Brand, R>(rt, alloc, blanks)
+    let (home, log) = in_memory(alloc, Ok(MemHome::new(alloc)))?;
+    take_on_slots::<Brand, R>(rt, alloc, blanks, (home, log))
 }
 
 /// A commit posts nothing; a force posts the name of the checkpoint, once.

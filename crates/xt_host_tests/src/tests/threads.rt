@@ -4,62 +4,32 @@ ghost use Rattle.std.specs.Prelude.{◌≡◌, ◌-◌, ◌^◌, IfOk};
 ghost use Rattle.std.specs.Arc.{arc_value};
 ghost use Rattle.xt_cell.specs.Ledgers.{AreCut, AreNamed};
 
-use crate::tests::example::change;
-use crate::tests::lines::mounted;
+use crate::tests::calls::change;
+use crate::tests::door::Door;
+use crate::tests::place::{Devices, Place, Workplace, end, in_memory, stand};
 use std::alloc::Global;
 use std::marker::Brand;
 use std::process::Abort;
 use std::rt::HostRuntime;
 use std::sync::Wait;
-use std::sync::atomic::{AtomicBool, Ordering};
 use std::thread;
 use std::thread::{Threads, join};
-use xt_base::names::{JobName, Slot};
 use xt_base::steps::Errno;
 use xt_cell::house::House;
 use xt_cell::mount_ref::MountRef;
 use xt_cell::reserve::Blanks;
 use xt_cell::seat::HostSeat;
 use xt_dev::mem_home::MemHome;
-use xt_dev::mem_log::MemLog;
+use xt_host::desk::{Desk, Slots};
 use xt_host::fault::CloseFault;
-use xt_host::gate::Gate;
-use xt_host::host::Host;
+use xt_host::host::{BOOK_ENTRIES, Host};
 use xt_host::outcomes::Forced;
 use xt_queue::jobs::WorkPass;
 
-/// A gate that is shut when the callers are done.
-#[derive(Drop)]
-pub struct Door {
-    is_shut: AtomicBool,
-}
-
-impl Door {
-    /// An open one.
-    pub fn new() -> Self {
-        Door {
-            is_shut: AtomicBool::new(false),
-        }
-    }
-
-    /// Shuts it.
-    pub fn shut(&self) {
-        self.is_shut.store(true, Ordering::SeqCst);
-    }
-}
-
-impl Gate for Door {
-    fn before(&self, _name: &JobName) {}
-
-    fn go_on(&self) -> bool {
-        !self.is_shut.load(Ordering::SeqCst)
-    }
-}
-
 /// Works until a door is shut and no name waits.
-pub fn work_for<H: House, R: Abort + Wait>(
+pub fn work_for<H: House, D: Workplace<H, R>, R: Abort + Wait>(
     rt: &R,
-    host: &Host<H>,
+    host: &Host<H, D>,
     pass: WorkPass,
     seat: HostSeat<H>,
     door: &Door,
@@ -69,16 +39,14 @@ pub fn work_for<H: House, R: Abort + Wait>(
 {
     let mut pass = pass;
     let mut seat = seat;
-    if let Some(_stranger) = host.work(rt, &mut pass, &mut seat, door) {
-        panic!(rt; "a job came back");
-    }
+    D::work(rt, host, &mut pass, &mut seat, door);
     seat
 }
 
 /// Forces the log of a mount, again and again until all is written.
-pub fn force_out<H: House, R: Wait>(
+pub fn force_out<H: House, D: Desk<H, R>, R: Wait>(
     rt: &R,
-    host: &Host<H>,
+    host: &Host<H, D>,
     seat: &mut HostSeat<H>,
     at: &MountRef,
 ) -> Result<(), Errno>
@@ -95,10 +63,10 @@ pub fn force_out<H: House, R: Wait>(
 }
 
 /// Changes a mount, has the log written, and asks that the block be.
-fn write_out<H: House, R: Abort + Wait>(
+fn write_out<H: House, D: Desk<H, R>, R: Abort + Wait>(
     rt: &R,
     alloc: Global,
-    host: &Host<H>,
+    host: &Host<H, D>,
     seat: &mut HostSeat<H>,
     at: &MountRef,
 ) -> Result<(), Errno>
@@ -111,10 +79,10 @@ fn write_out<H: House, R: Abort + Wait>(
 }
 
 /// Changes a mount, has the log written, asks for the block, and then shuts the door.
-fn change_out<H: House, R: Abort + Wait>(
+fn change_out<H: House, D: Desk<H, R>, R: Abort + Wait>(
     rt: &R,
     alloc: Global,
-    host: &Host<H>,
+    host: &Host<H, D>,
     seat: HostSeat<H>,
     at: &MountRef,
     door: &Door,
@@ -132,10 +100,10 @@ fn change_out<H: House, R: Abort + Wait>(
 type Both<H> = (HostSeat<H>, HostSeat<H>, Result<(), Errno>);
 
 /// A caller beside a worker that has a thread of its own.
-fn by_two<H: House + Send + Sync, R: Abort + Threads + Wait + Sync>(
+fn by_two<H: House + Send + Sync, D: Workplace<H, R> + Sync, R: Abort + Threads + Wait + Sync>(
     rt: &R,
     alloc: Global,
-    host: &Host<H>,
+    host: &Host<H, D>,
     pass: WorkPass,
     seats: (HostSeat<H>, HostSeat<H>),
     at: &MountRef,
@@ -146,7 +114,7 @@ fn by_two<H: House + Send + Sync, R: Abort + Threads + Wait + Sync>(
     ensures board { result.0.board.board ≡ host.now.board }
 {
     let (first, second) = seats;
-    let open = Door::new();
+    let open = Door::open();
     let door = &open;
     let (worked, called) = join(
         rt,
@@ -165,39 +133,36 @@ fn by_two<H: House + Send + Sync, R: Abort + Threads + Wait + Sync>(
 type Told = (Result<(), Errno>, Result<(), CloseFault>);
 
 /// A change that a worker in a thread of its own writes, an unmount, and the end of the host.
-fn write_beside<H: House + Send + Sync, R: Abort + Threads + Wait + Sync>(
+fn write_beside<H: House + Send + Sync, D: Place<H, R> + Sync, R: Abort + Threads + Wait + Sync>(
     rt: &R,
     alloc: Global,
     blanks: Blanks,
+    devices: D::Devices,
 ) -> Result<Told, Errno>
     requires names { AreNamed H.names blanks }
     requires parts { AreCut H.all blanks }
     requires all { H.all ≡ 2 ^ 64 - 1 }
 {
-    let mut seats = Vec::new(alloc);
-    let Ok(()) = seats.reserve(2) else {
-        return Err(Errno::NoMemory);
-    };
-    let (Ok(home), Ok(log)) = (
-        Box::new(alloc, MemHome::new(alloc)),
-        Box::new(alloc, MemLog::new(alloc)),
-    ) else {
-        return Err(Errno::NoMemory);
-    };
-    let (host, mut seat, mut passes) = Host::<H>::new(alloc, blanks, 1, 1_048_576)?;
-    let Some(pass) = passes.pop() else {
-        return Err(Errno::Invalid);
-    };
+    let (host, mut seat, pass, at) = stand::<H, D, R>(rt, alloc, blanks, BOOK_ENTRIES, devices)?;
     let other = host.seat(rt, &mut seat)?;
-    let (Some(slot), Some(life)) = (Slot::new(0), mounted(rt, &host, &mut seat, (home, log))) else {
-        return Err(Errno::Invalid);
-    };
-    let at = &MountRef { slot, life };
-    let (mut seat, other, told) = by_two(rt, alloc, &host, pass, (seat, other), at);
-    let _devices = host.unmount(rt, &mut seat, *at)?;
-    seats.push_reserved(seat);
-    seats.push_reserved(other);
-    Ok((told, host.close(seats, passes)))
+    let (mut seat, other, told) = by_two(rt, alloc, &host, pass, (seat, other), &at);
+    D::unmount(rt, &host, &mut seat, at)?;
+    let closed = end(alloc, host, vec![in alloc; seat, other].ok())?;
+    Ok((told, closed))
+}
+
+/// The same on sixteen slots.
+fn write_on_slots<H: House + Send + Sync, R: Abort + Threads + Wait + Sync>(
+    rt: &R,
+    alloc: Global,
+    blanks: Blanks,
+    devices: Devices,
+) -> Result<Told, Errno>
+    requires names { AreNamed H.names blanks }
+    requires parts { AreCut H.all blanks }
+    requires all { H.all ≡ 2 ^ 64 - 1 }
+{
+    write_beside::<H, Slots<H>, R>(rt, alloc, blanks, devices)
 }
 
 /// The same over new ledgers.
@@ -208,7 +173,8 @@ fn writes_beside<R: Abort + Threads + Wait + Sync>(
 ) -> Result<Told, Errno>
     requires parts { AreCut (2 ^ 64 - 1) blanks }
 {
-    write_beside::<Brand, R>(rt, alloc, blanks)
+    let (home, log) = in_memory(alloc, Ok(MemHome::new(alloc)))?;
+    write_on_slots::<Brand, R>(rt, alloc, blanks, (home, log))
 }
 
 #[test]

@@ -4,7 +4,8 @@ ghost use Rattle.std.specs.Prelude.{◌≡◌, ◌-◌, ◌^◌, All, IfOk};
 ghost use Rattle.std.specs.Arc.{arc_value};
 ghost use Rattle.xt_cell.specs.Ledgers.{AreCut, AreNamed};
 
-use crate::tests::example::{UntilIdle, finish, give_up};
+use crate::tests::calls::settle;
+use crate::tests::place::{Devices, Place, Workplace, work_off};
 use crate::tests::replay::{Replayed, replay};
 use crate::tests::tape::{Tape, TapedHome, TapedLog};
 use std::alloc::{AllocError, Global};
@@ -25,8 +26,9 @@ use xt_cell::seat::HostSeat;
 use xt_dev::fail_at::FailAt;
 use xt_dev::mem_home::MemHome;
 use xt_host::comparing::compare_all;
+use xt_host::desk::{Desk, Slots};
 use xt_host::fault::CloseFault;
-use xt_host::host::Host;
+use xt_host::host::{BOOK_ENTRIES, Host};
 use xt_host::outcomes::Forced;
 use xt_queue::jobs::WorkPass;
 
@@ -61,10 +63,10 @@ type Pair<H> = (Tenant<H>, Tenant<H>);
 type LivedPair<H> = (Lived<H>, Lived<H>);
 
 /// Changes some bytes of a block in a transaction.
-fn rewrite<H: House, R: Abort + Wait>(
+fn rewrite<H: House, D: Desk<H, R>, R: Abort + Wait>(
     rt: &R,
     alloc: Global,
-    host: &Host<H>,
+    host: &Host<H, D>,
     seat: &mut HostSeat<H>,
     at: &MountRef,
     round: u8,
@@ -81,30 +83,28 @@ fn rewrite<H: House, R: Abort + Wait>(
     if told.is_ok() {
         told = host.log(rt, seat, &mut trans, block, u32::from(round) * 16, bytes);
     }
-    if let Err(errno) = told {
-        give_up(rt, host, seat, trans);
-        return Err(errno);
-    }
-    finish(rt, host, seat, trans)?;
+    settle(rt, host, seat, trans, told)?;
     Ok(())
 }
 
 /// Works until no name waits.
-fn help<H: House, R: Abort + Wait>(rt: &R, host: &Host<H>, tenant: &mut Tenant<H>)
+fn help<H: House, D: Workplace<H, R>, R: Abort + Wait>(
+    rt: &R,
+    host: &Host<H, D>,
+    tenant: &mut Tenant<H>,
+)
     requires queue { tenant.old.pass.queue ≡ arc_value host.now.queue }
     requires board { tenant.old.seat.board.board ≡ host.now.board }
     ensures queue { tenant.new.pass.queue ≡ tenant.old.pass.queue }
     ensures board { tenant.new.seat.board.board ≡ tenant.old.seat.board.board }
 {
-    if let Some(_stranger) = host.work(rt, &mut tenant.pass, &mut tenant.seat, &UntilIdle) {
-        panic!(rt; "a job came back");
-    }
+    work_off(rt, host, &mut tenant.pass, &mut tenant.seat);
 }
 
 /// Forces the log, and works, until all is written.
-fn force_out<H: House, R: Abort + Wait>(
+fn force_out<H: House, D: Workplace<H, R>, R: Abort + Wait>(
     rt: &R,
-    host: &Host<H>,
+    host: &Host<H, D>,
     tenant: &mut Tenant<H>,
 ) -> Result<(), Errno>
     requires queue { tenant.old.pass.queue ≡ arc_value host.now.queue }
@@ -123,10 +123,10 @@ fn force_out<H: House, R: Abort + Wait>(
 }
 
 /// One change, written to the log; by turns the blocks are written home.
-fn live_once<H: House, R: Abort + Wait>(
+fn live_once<H: House, D: Workplace<H, R>, R: Abort + Wait>(
     rt: &R,
     alloc: Global,
-    host: &Host<H>,
+    host: &Host<H, D>,
     tenant: &mut Tenant<H>,
     round: u8,
 ) -> Result<(), Errno>
@@ -146,10 +146,10 @@ fn live_once<H: House, R: Abort + Wait>(
 }
 
 /// All changes of one tenant, up to the first that is refused.
-fn live<H: House, R: Abort + Wait>(
+fn live<H: House, D: Workplace<H, R>, R: Abort + Wait>(
     rt: &R,
     alloc: Global,
-    host: &Host<H>,
+    host: &Host<H, D>,
     tenant: Tenant<H>,
 ) -> Lived<H>
     requires queue { tenant.pass.queue ≡ arc_value host.now.queue }
@@ -167,10 +167,10 @@ fn live<H: House, R: Abort + Wait>(
 }
 
 /// Two tenants, in two threads.
-fn by_two<H: House + Send + Sync, R: Abort + Threads + Wait + Sync>(
+fn by_two<H: House + Send + Sync, D: Workplace<H, R> + Sync, R: Abort + Threads + Wait + Sync>(
     rt: &R,
     alloc: Global,
-    host: &Host<H>,
+    host: &Host<H, D>,
     pair: Pair<H>,
 ) -> LivedPair<H>
     requires queue { (pair.0.pass.queue ≡ arc_value host.now.queue) × (pair.1.pass.queue ≡ arc_value host.now.queue) }
@@ -190,10 +190,10 @@ fn by_two<H: House + Send + Sync, R: Abort + Threads + Wait + Sync>(
 }
 
 /// Four tenants, in four threads.
-fn by_four<H: House + Send + Sync, R: Abort + Threads + Wait + Sync>(
+fn by_four<H: House + Send + Sync, D: Workplace<H, R> + Sync, R: Abort + Threads + Wait + Sync>(
     rt: &R,
     alloc: Global,
-    host: &Host<H>,
+    host: &Host<H, D>,
     pairs: (Pair<H>, Pair<H>),
 ) -> (LivedPair<H>, LivedPair<H>)
     requires queues { (pairs.0.0.pass.queue ≡ arc_value host.now.queue) × (pairs.0.1.pass.queue ≡ arc_value host.now.queue) × (pairs.1.0.pass.queue ≡ arc_value host.now.queue) × (pairs.1.1.pass.queue ≡ arc_value host.now.queue) }
@@ -239,15 +239,12 @@ fn slot_of(index: usize) -> Option<Slot> {
 /// The log device of a volume, which fails once, in the broken volume early and elsewhere in a call that never comes.
 type OneLog = FailAt<TapedLog, LogOffer>;
 
-/// The slot of a volume, and its devices.
+/// The devices of a volume.
 fn taped(
     alloc: Global,
     index: usize,
     tapes: &Tapes,
-) -> Result<Option<(Slot, TapedHome, OneLog)>, AllocError> {
-    let Some(slot) = slot_of(index) else {
-        return Ok(None);
-    };
+) -> Result<(Box<TapedHome>, Box<OneLog>), AllocError> {
     let home = TapedHome {
         home: MemHome::new(alloc),
         tape: Arc::try_clone(&tapes.home)?,
@@ -260,12 +257,33 @@ fn taped(
     } else {
         u64::MAX
     };
-    Ok(Some((slot, home, FailAt::over_log(alloc, log, at))))
+    let log = FailAt::over_log(alloc, log, at);
+    Ok((Box::new(alloc, home)?, Box::new(alloc, log)?))
+}
+
+/// Mounts each volume in the slot of its place.
+fn mount_all<H: House, D: Place<H, R>, R: Abort + Wait>(
+    rt: &R,
+    alloc: Global,
+    host: &Host<H, D>,
+    seat: &mut HostSeat<H>,
+    volumes: Vec<D::Devices>,
+) -> Result<Vec<MountRef>, Errno>
+    requires board { seat.old.board.board ≡ host.now.board }
+    ensures board { seat.new.board.board ≡ seat.old.board.board }
+{
+    let mut mounts = Vec::new(alloc);
+    for devices in volumes {
+        let slot = slot_of(mounts.len()).ok_or(Errno::Invalid)?;
+        let at = D::mount(rt, host, seat, slot, devices)?;
+        mounts.push(at).map_err(|_| Errno::NoMemory)?;
+    }
+    Ok(mounts)
 }
 
 /// The last mount and the last worker, with a seat.
-fn seated<H: House>(
-    host: &Host<H>,
+fn seated<H: House, D>(
+    host: &Host<H, D>,
     seat: HostSeat<H>,
     passes: &mut Vec<WorkPass>,
     mounts: &mut Vec<MountRef>,
@@ -282,9 +300,9 @@ fn seated<H: House>(
 }
 
 /// The four tenants of four mounts.
-fn tenants<H: House, R: Wait>(
+fn tenants<H: House, D, R: Wait>(
     rt: &R,
-    host: &Host<H>,
+    host: &Host<H, D>,
     seat: HostSeat<H>,
     passes: Vec<WorkPass>,
     mounts: Vec<MountRef>,
@@ -331,30 +349,19 @@ fn replays(
 type Ended = (Result<(), CloseFault>, Vec<Told>);
 
 /// A host of four volumes, from its making to its end.
-fn run<H: House + Send + Sync, R: Abort + Threads + Wait + Sync>(
+fn run<H: House + Send + Sync, D: Place<H, R> + Sync, R: Abort + Threads + Wait + Sync>(
     rt: &R,
     alloc: Global,
     blanks: Blanks,
+    volumes: Vec<D::Devices>,
+    tapes: &[Tapes],
 ) -> Result<Ended, Errno>
     requires names { AreNamed H.names blanks }
     requires parts { AreCut H.all blanks }
     requires all { H.all ≡ 2 ^ 64 - 1 }
 {
-    let tapes = blank_tapes(alloc).map_err(|_| Errno::NoMemory)?;
-    let mut mounts = Vec::new(alloc);
-    let (host, mut seat, passes) = Host::<H>::new(alloc, blanks, VOLUMES, 1_048_576)?;
-    for (index, tapes) in tapes.iter().enumerate() {
-        let Ok(Some((slot, home, log))) = taped(alloc, index, tapes) else {
-            return Err(Errno::NoMemory);
-        };
-        let (Ok(home), Ok(log)) = (Box::new(alloc, home), Box::new(alloc, log)) else {
-            return Err(Errno::NoMemory);
-        };
-        let mounted = host.mount(rt, &mut seat, slot, 65_536, 1_024, home, log);
-        mounts
-            .push(mounted.map_err(|back| back.errno)?)
-            .map_err(|_| Errno::NoMemory)?;
-    }
+    let (host, mut seat, passes) = Host::<H, D>::new(alloc, blanks, VOLUMES, BOOK_ENTRIES)?;
+    let mounts = mount_all(rt, alloc, &host, &mut seat, volumes)?;
     let pairs = tenants(rt, &host, seat, passes, mounts)?;
     let (((one, first), (two, second)), ((three, third), (four, fourth))) = by_four(
         rt, alloc, &host, pairs,
@@ -363,8 +370,23 @@ fn run<H: House + Send + Sync, R: Abort + Threads + Wait + Sync>(
     let seats = [one.seat, two.seat, three.seat, four.seat];
     let books = host.into_books();
     let closed = compare_all(&books, &seats);
-    let all = replays(alloc, &books, &tapes, told).map_err(|_| Errno::NoMemory)?;
+    let all = replays(alloc, &books, tapes, told).map_err(|_| Errno::NoMemory)?;
     Ok((closed, all))
+}
+
+/// The same on sixteen slots.
+fn run_on_slots<H: House + Send + Sync, R: Abort + Threads + Wait + Sync>(
+    rt: &R,
+    alloc: Global,
+    blanks: Blanks,
+    volumes: Vec<Devices>,
+    tapes: &[Tapes],
+) -> Result<Ended, Errno>
+    requires names { AreNamed H.names blanks }
+    requires parts { AreCut H.all blanks }
+    requires all { H.all ≡ 2 ^ 64 - 1 }
+{
+    run::<H, Slots<H>, R>(rt, alloc, blanks, volumes, tapes)
 }
 
 /// The same over new ledgers.
@@ -375,7 +397,15 @@ fn runs<R: Abort + Threads + Wait + Sync>(
 ) -> Result<Ended, Errno>
     requires parts { AreCut (2 ^ 64 - 1) blanks }
 {
-    run::<Brand, R>(rt, alloc, blanks)
+    let tapes = blank_tapes(alloc).map_err(|_| Errno::NoMemory)?;
+    let mut volumes: Vec<Devices> = Vec::new(alloc);
+    for (index, tapes) in tapes.iter().enumerate() {
+        let Ok((home, log)) = taped(alloc, index, tapes) else {
+            return Err(Errno::NoMemory);
+        };
+        volumes.push((home, log)).map_err(|_| Errno::NoMemory)?;
+    }
+    run_on_slots::<Brand, R>(rt, alloc, blanks, volumes, &tapes)
 }
 
 /// The broken volume's caller is told EIO, and its book still gives its replies; of the other three, no caller is told anything but

@@ -4,9 +4,9 @@ ghost use Rattle.std.specs.Prelude.{◌≡◌, ◌-◌, ◌^◌, IfOk};
 ghost use Rattle.std.specs.Arc.{arc_value};
 ghost use Rattle.xt_cell.specs.Ledgers.{AreCut, AreNamed};
 
-use crate::tests::example::{UntilIdle, change, finish, give_up};
-use crate::tests::lines::mounted;
-use crate::tests::threads::Door;
+use crate::tests::calls::{change, finish, give_up};
+use crate::tests::door::Door;
+use crate::tests::place::{Devices, Place, Workplace, in_memory, stand, work_off};
 use std::alloc::Global;
 use std::marker::Brand;
 use std::process::Abort;
@@ -22,11 +22,10 @@ use xt_cell::mount_ref::MountRef;
 use xt_cell::reserve::Blanks;
 use xt_cell::seat::HostSeat;
 use xt_dev::mem_home::MemHome;
-use xt_dev::mem_log::MemLog;
 use xt_host::comparing::compare_all;
+use xt_host::desk::{Desk, IntoBooks, Slots};
 use xt_host::fault::CloseFault;
-use xt_host::gate::Gate;
-use xt_host::host::Host;
+use xt_host::host::{BOOK_ENTRIES, Host};
 use xt_queue::jobs::WorkPass;
 
 /// How often a thread looks whether another one has called, and how often it lets others run between two looks.
@@ -53,9 +52,9 @@ fn rest() {
 }
 
 /// Opens a transaction, waits for a block that another one has, and gives up what it has: what it was told.
-fn wait_for_lock<H: House, R: Abort + Wait>(
+fn wait_for_lock<H: House, D: Desk<H, R>, R: Abort + Wait>(
     rt: &R,
-    host: &Host<H>,
+    host: &Host<H, D>,
     seat: &mut HostSeat<H>,
     at: &MountRef,
 ) -> Result<(), Errno>
@@ -69,9 +68,9 @@ fn wait_for_lock<H: House, R: Abort + Wait>(
 }
 
 /// Waits in a scene: what it was told.
-fn waits<H: House, R: Abort + Wait>(
+fn waits<H: House, D: Desk<H, R>, R: Abort + Wait>(
     rt: &R,
-    host: &Host<H>,
+    host: &Host<H, D>,
     seat: &mut HostSeat<H>,
     at: &MountRef,
     scene: Scene,
@@ -91,9 +90,9 @@ fn waits<H: House, R: Abort + Wait>(
 }
 
 /// Calls a mount again and again, until so many events of other seats stand between its own: whether they came in time.
-fn sees_others<H: House, R: Wait>(
+fn sees_others<H: House, D: Desk<H, R>, R: Wait>(
     rt: &R,
-    host: &Host<H>,
+    host: &Host<H, D>,
     seat: &mut HostSeat<H>,
     at: &MountRef,
     wanted: u64,
@@ -117,9 +116,9 @@ fn sees_others<H: House, R: Wait>(
 }
 
 /// Locks a block, opens the door, and commits once another seat has opened a transaction and tried for the block: whether it did.
-fn free_lock<H: House, R: Abort + Wait>(
+fn free_lock<H: House, D: Desk<H, R>, R: Abort + Wait>(
     rt: &R,
-    host: &Host<H>,
+    host: &Host<H, D>,
     seat: &mut HostSeat<H>,
     at: &MountRef,
     door: &Door,
@@ -137,10 +136,10 @@ fn free_lock<H: House, R: Abort + Wait>(
 }
 
 /// Does what another thread waits for, once that has tried: whether it did.
-fn does<H: House, R: Abort + Wait>(
+fn does<H: House, D: Desk<H, R>, R: Abort + Wait>(
     rt: &R,
     alloc: Global,
-    host: &Host<H>,
+    host: &Host<H, D>,
     seat: &mut HostSeat<H>,
     at: &MountRef,
     door: &Door,
@@ -173,9 +172,9 @@ type Waited<H> = (HostSeat<H>, Result<(), Errno>);
 type Did<H> = (HostSeat<H>, Result<bool, Errno>);
 
 /// A thread that waits, once the door is shut.
-fn wait_behind<H: House, R: Abort + Wait>(
+fn wait_behind<H: House, D: Desk<H, R>, R: Abort + Wait>(
     rt: &R,
-    host: &Host<H>,
+    host: &Host<H, D>,
     seat: HostSeat<H>,
     at: MountRef,
     door: &Door,
@@ -185,7 +184,7 @@ fn wait_behind<H: House, R: Abort + Wait>(
 {
     let mut seat = seat;
     for _ in rt.forever() {
-        if !door.go_on() {
+        if door.is_shut() {
             let told = waits(rt, host, &mut seat, &at, scene);
             return (seat, told);
         }
@@ -195,10 +194,10 @@ fn wait_behind<H: House, R: Abort + Wait>(
 }
 
 /// A thread that does something, and works then until no name waits.
-fn do_beside<H: House, R: Abort + Wait>(
+fn do_beside<H: House, D: Workplace<H, R>, R: Abort + Wait>(
     rt: &R,
     alloc: Global,
-    host: &Host<H>,
+    host: &Host<H, D>,
     pass: WorkPass,
     seat: HostSeat<H>,
     at: &MountRef,
@@ -212,17 +211,15 @@ fn do_beside<H: House, R: Abort + Wait>(
     let mut seat = seat;
     let seen = does(rt, alloc, host, &mut seat, at, door, scene);
     door.shut();
-    if let Some(_stranger) = host.work(rt, &mut pass, &mut seat, &UntilIdle) {
-        panic!(rt; "a job came back");
-    }
+    work_off(rt, host, &mut pass, &mut seat);
     (seat, seen)
 }
 
 /// Both threads.
-fn by_two<H: House + Send + Sync, R: Abort + Threads + Wait + Sync>(
+fn by_two<H: House + Send + Sync, D: Workplace<H, R> + Sync, R: Abort + Threads + Wait + Sync>(
     rt: &R,
     alloc: Global,
-    host: &Host<H>,
+    host: &Host<H, D>,
     pass: WorkPass,
     seats: (HostSeat<H>, HostSeat<H>),
     at: &MountRef,
@@ -233,7 +230,7 @@ fn by_two<H: House + Send + Sync, R: Abort + Threads + Wait + Sync>(
     requires second { seats.1.board.board ≡ host.now.board }
 {
     let (first, second) = seats;
-    let open = Door::new();
+    let open = Door::open();
     let door = &open;
     let place = *at;
     join(
@@ -283,7 +280,12 @@ struct Told {
 }
 
 /// What a host ends with, after both threads.
-fn ended<H: House>(host: Host<H>, slot: Slot, waited: Waited<H>, did: Did<H>) -> Told {
+fn ended<H: House, D: IntoBooks>(
+    host: Host<H, D>,
+    slot: Slot,
+    waited: Waited<H>,
+    did: Did<H>,
+) -> Told {
     let (seat, told) = waited;
     let (other, seen) = did;
     let books = host.into_books();
@@ -304,34 +306,36 @@ fn ended<H: House>(host: Host<H>, slot: Slot, waited: Waited<H>, did: Did<H>) ->
 }
 
 /// A scene in a new host.
-fn play<H: House + Send + Sync, R: Abort + Threads + Wait + Sync>(
+fn play<H: House + Send + Sync, D: Place<H, R> + Sync, R: Abort + Threads + Wait + Sync>(
     rt: &R,
     alloc: Global,
     blanks: Blanks,
     scene: Scene,
+    devices: D::Devices,
 ) -> Result<Told, Errno>
     requires names { AreNamed H.names blanks }
     requires parts { AreCut H.all blanks }
     requires all { H.all ≡ 2 ^ 64 - 1 }
 {
-    let (Ok(home), Ok(log)) = (
-        Box::new(alloc, MemHome::new(alloc)),
-        Box::new(alloc, MemLog::new(alloc)),
-    ) else {
-        return Err(Errno::NoMemory);
-    };
-    let (host, mut first, mut passes) = Host::<H>::new(alloc, blanks, 1, 1_048_576)?;
-    let Some(pass) = passes.pop() else {
-        return Err(Errno::Invalid);
-    };
+    let (host, mut first, pass, at) = stand::<H, D, R>(rt, alloc, blanks, BOOK_ENTRIES, devices)?;
     let second = host.seat(rt, &mut first)?;
-    let (Some(slot), Some(life)) = (Slot::new(0), mounted(rt, &host, &mut first, (home, log)))
-    else {
-        return Err(Errno::Invalid);
-    };
-    let at = &MountRef { slot, life };
-    let (waited, did) = by_two(rt, alloc, &host, pass, (first, second), at, scene);
-    Ok(ended(host, slot, waited, did))
+    let (waited, did) = by_two(rt, alloc, &host, pass, (first, second), &at, scene);
+    Ok(ended(host, at.slot, waited, did))
+}
+
+/// The same on sixteen slots.
+fn play_on_slots<H: House + Send + Sync, R: Abort + Threads + Wait + Sync>(
+    rt: &R,
+    alloc: Global,
+    blanks: Blanks,
+    scene: Scene,
+    devices: Devices,
+) -> Result<Told, Errno>
+    requires names { AreNamed H.names blanks }
+    requires parts { AreCut H.all blanks }
+    requires all { H.all ≡ 2 ^ 64 - 1 }
+{
+    play::<H, Slots<H>, R>(rt, alloc, blanks, scene, devices)
 }
 
 /// The same over new ledgers.
@@ -343,7 +347,8 @@ fn plays<R: Abort + Threads + Wait + Sync>(
 ) -> Result<Told, Errno>
     requires parts { AreCut (2 ^ 64 - 1) blanks }
 {
-    play::<Brand, R>(rt, alloc, blanks, scene)
+    let (home, log) = in_memory(alloc, Ok(MemHome::new(alloc)))?;
+    play_on_slots::<Brand, R>(rt, alloc, blanks, scene, (home, log))
 }
 
 /// What is to become of a scene, in which so many calls are not told to try again.

@@ -3,8 +3,8 @@ use Rattle.xt_cell.specs.Ledgers.{name_in}
 use Rattle.xt_host_tests.proofs.tests.folding.books_after.Given as goal
 
 -- the house of sixteen new ledgers
-abbrev pub ghosts-book_after : goal.ghosts-book_after
-ghosts-book_after g a = record {
+abbrev pub ghosts-book_on_slots : goal.ghosts-book_on_slots
+ghosts-book_on_slots g a = record {
   names = name_in a.blanks;
   all = 2 ^ 64 - 1;
 }

@@ -3,8 +3,8 @@ use Rattle.xt_cell.specs.Ledgers.{name_in}
 use Rattle.xt_host_tests.proofs.tests.gates.meets_two_logs.Given as goal
 
 -- the house of sixteen new ledgers
-abbrev pub ghosts-meet_two_logs : goal.ghosts-meet_two_logs
-ghosts-meet_two_logs g a = record {
+abbrev pub ghosts-logs_on_slots : goal.ghosts-logs_on_slots
+ghosts-logs_on_slots g a = record {
   names = name_in a.blanks;
   all = 2 ^ 64 - 1;
 }

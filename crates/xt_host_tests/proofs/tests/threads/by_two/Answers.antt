@@ -1,27 +1,16 @@
 use denote.Param.{param}
-use denote.Param.Object.{Vt, ghosts_of}
-use denote.Param.Send.{IsSend, IsSync, sendable}
+use denote.Param.Send.{IsSync, sendable}
 use Rattle.std.proofs.Crossing.{crosses}
 use Rattle.xt_cell.proofs.seat.HostSeat.TheSendSync as seats
-use Rattle.xt_host.proofs.CrossLemmas.{host_sync}
+use Rattle.xt_host.proofs.CrossLemmas.{host_sync_over}
 use Rattle.xt_host_tests.proofs.tests.threads.by_two.Goals as goal
-use Rattle.xt_host.specs.contracts.host.Host as Host
-use Rattle.xt_host_tests.specs.contracts.tests.threads.Door as Door
-use Rattle.xt_host_tests.specs.contracts.tests.threads.by_two.dyn-1 as one
-use Rattle.xt_host_tests.specs.contracts.tests.threads.by_two.dyn-2 as two
+use Rattle.xt_host_tests.specs.contracts.tests.door.Door as Door
 use Rattle.xt_queue.proofs.jobs.WorkPass.TheSendSync as passes
-use Rattle.xt_slots.specs.contracts.desk.Slots as Slots
 
 -- the host and the door are lent to the other thread; a seat and a pass go to it
 pub join-worked-requires-send-F : goal.join-worked-requires-send-F
 join-worked-requires-send-F g c κs within =
-    let A = Vt (one.slots g.row.H g.row.R) g.dyn-1.0 in
-    let B = Vt (two.slots g.row.H g.row.R) g.dyn-2.0 in
-    let ga = ghosts_of (one.slots g.row.H g.row.R) g.dyn-1.0 g.dyn-1.1 in
-    let gb = ghosts_of (two.slots g.row.H g.row.R) g.dyn-2.0 g.dyn-2.1 in
-    let a : IsSend A = search sendable in
-    let b : IsSend B = search sendable in
-    let host : IsSync (Host.the_row (param 0 g.row.H) (Slots.the_row (param 0 g.row.H) A B g.H.House ga gb) g.H.House) = host_sync (param 0 g.row.H) A B g.H.House ga gb g.dyn-1.2 a g.dyn-2.2 b in
+    let host = host_sync_over (param 0 g.row.H) _ g.H.House c.type_bounds.sync-D in
     let door : IsSync Door.the_row = search (crosses, sendable) depth 30 in
     let rt = c.type_bounds.sync-R in
-    search (host, rt, door, seats.the_send, passes.the_send, sendable) depth 40
+    search (host, rt, door, seats.the_send, passes.the_send, crosses, sendable) depth 60

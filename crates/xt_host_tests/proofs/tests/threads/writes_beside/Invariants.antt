@@ -3,8 +3,8 @@ use Rattle.xt_cell.specs.Ledgers.{name_in}
 use Rattle.xt_host_tests.proofs.tests.threads.writes_beside.Given as goal
 
 -- the house of sixteen new ledgers
-abbrev pub ghosts-write_beside : goal.ghosts-write_beside
-ghosts-write_beside g a = record {
+abbrev pub ghosts-write_on_slots : goal.ghosts-write_on_slots
+ghosts-write_on_slots g a = record {
   names = name_in a.blanks;
   all = 2 ^ 64 - 1;
 }

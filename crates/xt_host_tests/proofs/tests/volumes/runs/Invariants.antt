@@ -3,8 +3,8 @@ use Rattle.xt_cell.specs.Ledgers.{name_in}
 use Rattle.xt_host_tests.proofs.tests.volumes.runs.Given as goal
 
 -- the house of sixteen new ledgers
-abbrev pub ghosts-run : goal.ghosts-run
-ghosts-run g a = record {
+abbrev pub ghosts-run_on_slots : goal.ghosts-run_on_slots
+ghosts-run_on_slots g a = record {
   names = name_in a.blanks;
   all = 2 ^ 64 - 1;
 }

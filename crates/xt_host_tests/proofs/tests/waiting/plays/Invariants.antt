@@ -3,8 +3,8 @@ use Rattle.xt_cell.specs.Ledgers.{name_in}
 use Rattle.xt_host_tests.proofs.tests.waiting.plays.Given as goal
 
 -- the house of sixteen new ledgers
-abbrev pub ghosts-play : goal.ghosts-play
-ghosts-play g a = record {
+abbrev pub ghosts-play_on_slots : goal.ghosts-play_on_slots
+ghosts-play_on_slots g a = record {
   names = name_in a.blanks;
   all = 2 ^ 64 - 1;
 }

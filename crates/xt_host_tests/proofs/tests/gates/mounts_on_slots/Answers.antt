@@ -1,0 +1,19 @@
+use denote.Exit as exits
+use denote.Param.{param}
+use denote.Param.Object.{Vt, ghosts_of}
+use denote.Param.Send.{IsSend, arg_sync, param_sync, sendable}
+use Rattle.xt_host_tests.proofs.tests.gates.mounts_on_slots.Goals as goal
+use Rattle.xt_host_tests.specs.contracts.tests.gates.mounts_on_slots.dyn-1 as one
+use Rattle.xt_host_tests.specs.contracts.tests.gates.mounts_on_slots.dyn-2 as two
+use Rattle.xt_slots.proofs.CrossLemmas.{slots_sync}
+
+-- the sixteen slots may be lent to another thread
+pub meet_two_mounts-requires-sync-D : goal.meet_two_mounts-requires-sync-D
+meet_two_mounts-requires-sync-D g c κs within =
+    let A = Vt (one.slots g.row.H g.row.R) g.dyn-1.0 in
+    let B = Vt (two.slots g.row.H g.row.R) g.dyn-2.0 in
+    let ga = ghosts_of (one.slots g.row.H g.row.R) g.dyn-1.0 g.dyn-1.1 in
+    let gb = ghosts_of (two.slots g.row.H g.row.R) g.dyn-2.0 g.dyn-2.1 in
+    let a : IsSend A = search sendable in
+    let b : IsSend B = search sendable in
+    param_sync 1 _ (arg_sync _ exits.no _ (slots_sync (param 0 g.row.H) A B g.H.House ga gb g.dyn-1.2 a g.dyn-2.2 b))

@@ -1,6 +1,0 @@
-use Rattle.std.proofs.Common.{◌≡◌}
-use Rattle.xt_host_tests.proofs.tests.volumes.run.Given as goal
-
--- the seat is of the host's board
-abbrev pub invariant-loop-index : goal.invariant-loop-index
-invariant-loop-index g l = l.seat.board.board ≡ l.host.board
