@@ -5,9 +5,9 @@ ghost use Rattle.std.specs.Arc.{arc_value};
 ghost use Rattle.xt_cell.specs.Ledgers.{AreCut, AreNamed};
 
 use crate::dice::Dice;
-use crate::guess::BLOCKS;
-use crate::guest::{Guest, LOG_BYTES, Lived, live};
+use crate::guest::{Guest, Lived, live, size_in};
 use crate::replay::{Tally, gives_replies};
+use crate::working::Workplace;
 use anyhow::{Context, Error, Result};
 use std::alloc::{AllocError, Global};
 use std::marker::Brand;
@@ -133,8 +133,8 @@ fn by_four<H: House + Send + Sync, R: Threads + Wait + Sync>(
 }
 
 /// The last worker with a seat, and a seed.
-fn seated<H: House>(
-    host: &Host<H>,
+fn seated<H: House, D>(
+    host: &Host<H, D>,
     seat: HostSeat<H>,
     passes: &mut Vec<WorkPass>,
     seed: u64,
@@ -150,9 +150,9 @@ fn seated<H: House>(
 }
 
 /// The four guests of a host.
-fn crew_of<H: House, R: Wait>(
+fn crew_of<H: House, D, R: Wait>(
     rt: &R,
-    host: &Host<H>,
+    host: &Host<H, D>,
     seat: HostSeat<H>,
     passes: Vec<WorkPass>,
     seed: u64,
@@ -193,6 +193,22 @@ fn refused(errno: Errno) -> Error {
     Error::msg(errno.name())
 }
 
+/// Mounts a slot over devices.
+fn mount<H: House, D: Workplace<H, R>, R: Wait>(
+    rt: &R,
+    host: &Host<H, D>,
+    seat: &mut HostSeat<H>,
+    index: u8,
+    devices: D::Devices,
+) -> Result<()>
+    requires board { seat.old.board.board ≡ host.now.board }
+    ensures board { seat.new.board.board ≡ seat.old.board.board }
+{
+    let slot = Slot::new(index).context("a slot")?;
+    let mounted = D::mount(rt, host, seat, &size_in(slot), devices);
+    mounted.map_err(|(_devices, errno)| refused(errno))
+}
+
 /// A host from its making to its end: four threads call its sixteen slots, and its books are run again.
 fn run<H: House + Send + Sync, R: Threads + Wait + Sync>(
     rt: &R,
@@ -211,11 +227,9 @@ fn run<H: House + Send + Sync, R: Threads + Wait + Sync>(
     };
     let mut dice = Dice::new(plan.seed);
     for index in 0..SLOTS as u8 {
-        let slot = Slot::new(index).context("a slot")?;
         let home = Box::new(alloc, faulty_home(alloc, &mut dice))?;
         let log = Box::new(alloc, faulty_log(alloc, &mut dice))?;
-        let mounted = host.mount(rt, &mut seat, slot, LOG_BYTES, u64::from(BLOCKS), home, log);
-        mounted.map_err(|back| refused(back.errno))?;
+        mount(rt, &host, &mut seat, index, (home, log))?;
     }
     let crew = crew_of(rt, &host, seat, passes, plan.seed).map_err(refused)?;
     let (((one, first), (two, second)), ((three, third), (four, fourth))) = by_four(

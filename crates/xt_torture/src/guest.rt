@@ -5,7 +5,7 @@ ghost use Rattle.std.specs.Arc.{arc_value};
 
 use crate::dice::Dice;
 use crate::guess::{BLOCKS, Guess};
-use crate::working::work;
+use crate::working::{Size, Workplace};
 use std::alloc::{AllocError, Global};
 use std::sync::Wait;
 use xt_base::names::{Life, Slot};
@@ -15,16 +15,20 @@ use xt_cell::house::House;
 use xt_cell::mount_ref::MountRef;
 use xt_cell::records::Receipt;
 use xt_cell::seat::HostSeat;
-use xt_dev::home::HomeDevice;
-use xt_dev::log::LogDevice;
 use xt_host::host::Host;
 use xt_queue::jobs::WorkPass;
 
 /// The bytes of a log.
-pub const LOG_BYTES: u32 = 65_536;
+const LOG_BYTES: u32 = 65_536;
 
-/// The two devices of a mount.
-pub type Devices = (Box<dyn HomeDevice + Send>, Box<dyn LogDevice + Send>);
+/// What is mounted in a slot.
+pub fn size_in(slot: Slot) -> Size {
+    Size {
+        slot,
+        log_bytes: LOG_BYTES,
+        blocks: u64::from(BLOCKS),
+    }
+}
 
 /// What a thread does next.
 #[derive(Clone, Copy)]
@@ -116,31 +120,30 @@ pub struct Guest<H: House> {
 }
 
 /// Mounts a slot over devices that some mount gave back, if there are any. Where it is refused they are kept.
-fn mount<H: House, R: Wait>(
+fn mount<H: House, D: Workplace<H, R>, R: Wait>(
     rt: &R,
-    host: &Host<H>,
+    host: &Host<H, D>,
     seat: &mut HostSeat<H>,
-    stock: &mut Vec<Devices>,
+    stock: &mut Vec<D::Devices>,
     slot: Slot,
 )
     requires board { seat.old.board.board ≡ host.now.board }
     ensures board { seat.new.board.board ≡ seat.old.board.board }
 {
-    let Some((home, log)) = stock.pop() else {
+    let Some(devices) = stock.pop() else {
         return;
     };
-    let mounted = host.mount(rt, seat, slot, LOG_BYTES, u64::from(BLOCKS), home, log);
-    if let Err(back) = mounted {
-        let _ = stock.push((back.home, back.log));
+    if let Err((devices, _errno)) = D::mount(rt, host, seat, &size_in(slot), devices) {
+        let _ = stock.push(devices);
     }
 }
 
 /// Asks a mount something, or unmounts it, and keeps the devices.
-fn call<H: House, R: Wait>(
+fn call<H: House, D: Workplace<H, R>, R: Wait>(
     rt: &R,
-    host: &Host<H>,
+    host: &Host<H, D>,
     seat: &mut HostSeat<H>,
-    stock: &mut Vec<Devices>,
+    stock: &mut Vec<D::Devices>,
     at: &MountRef,
     request: Request,
 )
@@ -149,17 +152,17 @@ fn call<H: House, R: Wait>(
 {
     if request != Request::Unmount {
         let _reply = host.call(rt, seat, *at, request);
-    } else if let Ok(devices) = host.unmount(rt, seat, *at) {
+    } else if let Some(devices) = D::unmount(rt, host, seat, *at) {
         let _ = stock.push(devices);
     }
 }
 
 /// Mounts, calls, or looks at the board, and learns from it.
-fn serve<H: House, R: Wait>(
+fn serve<H: House, D: Workplace<H, R>, R: Wait>(
     rt: &R,
-    host: &Host<H>,
+    host: &Host<H, D>,
     seat: &mut HostSeat<H>,
-    stock: &mut Vec<Devices>,
+    stock: &mut Vec<D::Devices>,
     mind: &mut Mind,
     deed: Deed,
 ) -> Result<(), AllocError>
@@ -189,12 +192,12 @@ fn serve<H: House, R: Wait>(
 pub type Lived<H> = (HostSeat<H>, Result<bool, AllocError>);
 
 /// Does one thing: whether no job came back.
-fn turn<H: House, R: Wait>(
+fn turn<H: House, D: Workplace<H, R>, R: Wait>(
     rt: &R,
-    host: &Host<H>,
+    host: &Host<H, D>,
     seat: &mut HostSeat<H>,
     pass: &mut WorkPass,
-    stock: &mut Vec<Devices>,
+    stock: &mut Vec<D::Devices>,
     mind: &mut Mind,
 ) -> Result<bool, AllocError>
     requires queue { pass.old.queue ≡ arc_value host.now.queue }
@@ -204,17 +207,17 @@ fn turn<H: House, R: Wait>(
 {
     let deed = mind.deed();
     if let Deed::Work = deed {
-        return Ok(work(rt, host, pass, seat));
+        return Ok(D::work(rt, host, pass, seat));
     }
     serve(rt, host, seat, stock, mind, deed)?;
     Ok(true)
 }
 
 /// Does so many things.
-pub fn live<H: House, R: Wait>(
+pub fn live<H: House, D: Workplace<H, R>, R: Wait>(
     rt: &R,
     alloc: Global,
-    host: &Host<H>,
+    host: &Host<H, D>,
     guest: Guest<H>,
     turns: u32,
 ) -> Lived<H>

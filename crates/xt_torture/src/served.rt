@@ -4,14 +4,12 @@ ghost use Rattle.std.specs.Prelude.{◌≡◌, ◌-◌, ◌^◌};
 ghost use Rattle.std.specs.Arc.{arc_value};
 ghost use Rattle.xt_cell.specs.Ledgers.{AreCut, AreNamed};
 
-use crate::guest::Devices;
 use crate::refusals::Seen;
 use crate::row::{Row, RowFault, is_printed};
-use crate::working::work;
+use crate::working::{Size, Workplace};
 use std::alloc::{AllocError, Global};
 use std::marker::Brand;
 use std::sync::Wait;
-use xt_base::names::Slot;
 use xt_base::steps::{Errno, Request, Step};
 use xt_cell::house::House;
 use xt_cell::mount_ref::MountRef;
@@ -23,14 +21,6 @@ use xt_dev::mem_log::MemLog;
 use xt_host::host::{BOOK_ENTRIES, Host};
 use xt_queue::jobs::WorkPass;
 use xt_text::buffer::Text;
-
-/// What a row mounts first: a slot, with so many bytes of log and so many blocks.
-#[derive(Clone, Copy)]
-struct Size {
-    slot: Slot,
-    log_bytes: u32,
-    blocks: u64,
-}
 
 /// The mount that a row begins with.
 fn size_of(row: &Row) -> Result<Size, RowFault> {
@@ -51,40 +41,31 @@ fn size_of(row: &Row) -> Result<Size, RowFault> {
 }
 
 /// Mounts a slot over devices, and once more where that is refused memory.
-fn mount<H: House, R: Wait>(
+fn mount<H: House, D: Workplace<H, R>, R: Wait>(
     rt: &R,
-    host: &Host<H>,
+    host: &Host<H, D>,
     seat: &mut HostSeat<H>,
-    size: Size,
-    devices: Devices,
+    size: &Size,
+    devices: D::Devices,
     seen: &mut Seen,
 )
     requires board { seat.old.board.board ≡ host.now.board }
     ensures board { seat.new.board.board ≡ seat.old.board.board }
 {
-    let (home, log) = devices;
-    let Err(back) = host.mount(rt, seat, size.slot, size.log_bytes, size.blocks, home, log) else {
+    let Err((devices, errno)) = D::mount(rt, host, seat, size, devices) else {
         return;
     };
     seen.refuse();
-    seen.judge(back.errno == Errno::NoMemory);
-    let again = host.mount(
-        rt,
-        seat,
-        size.slot,
-        size.log_bytes,
-        size.blocks,
-        back.home,
-        back.log,
-    );
+    seen.judge(errno == Errno::NoMemory);
+    let again = D::mount(rt, host, seat, size, devices);
     seen.judge(again.is_ok());
 }
 
 /// Asks a mount something, and once more where that is refused memory. An unmount is not asked.
-fn call<H: House, R: Wait>(
+fn call<H: House, D: Workplace<H, R>, R: Wait>(
     rt: &R,
     alloc: Global,
-    host: &Host<H>,
+    host: &Host<H, D>,
     seat: &mut HostSeat<H>,
     at: &MountRef,
     request: &Request,
@@ -106,10 +87,10 @@ fn call<H: House, R: Wait>(
 
 /// Takes a step of a row: a call is made, and where a job is posted the worker does it to its end. What the worker does itself, and the
 /// mount, are left out.
-fn take<H: House, R: Wait>(
+fn take<H: House, D: Workplace<H, R>, R: Wait>(
     rt: &R,
     alloc: Global,
-    host: &Host<H>,
+    host: &Host<H, D>,
     seat: &mut HostSeat<H>,
     pass: &mut WorkPass,
     step: &Step,
@@ -134,7 +115,7 @@ fn take<H: House, R: Wait>(
             call(rt, alloc, host, seat, &at, request, seen)
         }
         Step::Post(_) => {
-            seen.judge(work(rt, host, pass, seat));
+            seen.judge(D::work(rt, host, pass, seat));
             Ok(())
         }
         _ => Ok(()),
@@ -142,10 +123,10 @@ fn take<H: House, R: Wait>(
 }
 
 /// Takes all steps of a row.
-fn take_all<H: House, R: Wait>(
+fn take_all<H: House, D: Workplace<H, R>, R: Wait>(
     rt: &R,
     alloc: Global,
-    host: &Host<H>,
+    host: &Host<H, D>,
     seat: &mut HostSeat<H>,
     pass: &mut WorkPass,
     row: &Row,
@@ -217,7 +198,7 @@ fn run<H: House, R: Wait>(
     let mut pass = passes.pop().ok_or(RowFault::Input)?;
     let home = Box::new(alloc, MemHome::new(alloc)).map_err(|_| RowFault::Memory)?;
     let log = Box::new(alloc, MemLog::new(alloc)).map_err(|_| RowFault::Memory)?;
-    mount(rt, &host, &mut seat, size, (home, log), seen);
+    mount(rt, &host, &mut seat, &size, (home, log), seen);
     take_all(rt, alloc, &host, &mut seat, &mut pass, row, seen)?;
     compare(alloc, row, seat.receipts(), seen)?;
     seats.push_reserved(seat);
