@@ -1,7 +1,7 @@
 //! Each device through its happy path, `FailAt` through each of its calls, and what is offered.
 //!
-//! A test function is proved too, at a cost that grows with the square of its length. So what is
-//! expected stands in constants, helpers compare, and a test has few assertions.
+//! A test function is proved too, at a cost that grows with the square of its length. So calls stand
+//! in constants, with the answers that are expected: one function plays those of a log, another those of a home device.
 
 ghost use Rattle.std.specs.Prelude.{◌≡◌, ◌≤◌, ◌<◌, [], false, length, is_ok};
 ghost use Rattle.xt_dev.specs.Devices.{failures_after};
@@ -11,8 +11,6 @@ mod gates;
 
 use bytes::Bytes;
 use std::alloc::Global;
-use std::process::Abort;
-use xt_base::content::Content;
 use xt_base::names::Block;
 use xt_base::steps::{HomeAnswers, HomeOffer, LogAnswers, LogOffer};
 use xt_dev::call::HomeCall;
@@ -37,11 +35,10 @@ const EMPTY: Option<&[u8]> = Some(b"");
 const SYNC: Option<&[u8]> = None;
 
 fn is_offer(offer: &LogOffer, piece: Option<&[u8]>, answered: bool) -> bool {
-    match offer {
-        LogOffer::Piece { bytes, ok } => {
-            piece.is_some_and(|piece| bytes.holds(piece)) && *ok == answered
-        }
-        LogOffer::Sync { ok } => piece.is_none() && *ok == answered,
+    match (offer, piece) {
+        (LogOffer::Piece { bytes, ok }, Some(piece)) => bytes.holds(piece) && *ok == answered,
+        (LogOffer::Sync { ok }, None) => *ok == answered,
+        _ => false,
     }
 }
 
@@ -69,13 +66,14 @@ enum Told {
 }
 
 /// The byte that a content has all over.
-fn even_byte(content: &Content) -> Option<u8> {
-    let first = *content.bytes().first()?;
-    if content.bytes().iter().all(|b| *b == first) {
-        Some(first)
-    } else {
-        None
+fn even_byte(content: &[u8]) -> Option<u8> {
+    let first = *content.first()?;
+    for byte in content {
+        if *byte != first {
+            return None;
+        }
     }
+    Some(first)
 }
 
 /// A call as a test writes it.
@@ -84,10 +82,10 @@ fn plain(call: &HomeCall) -> Told {
         HomeCall::Read {
             block,
             content: Some(content),
-        } => Told::Read(block.0, even_byte(content)),
+        } => Told::Read(block.0, even_byte(content.bytes())),
         HomeCall::Read { block, .. } => Told::Unread(block.0),
         HomeCall::Offer(HomeOffer::Write { block, content, ok }) => {
-            Told::Write(block.0, even_byte(content), *ok)
+            Told::Write(block.0, even_byte(content.bytes()), *ok)
         }
         HomeCall::Offer(HomeOffer::Sync { ok }) => Told::Sync(*ok),
     }
@@ -159,32 +157,62 @@ fn append_through<L: LogDevice>(log: &mut L, piece: &[u8]) -> Result<(), DevFaul
     log.append(piece)
 }
 
-/// Reads the first byte of a block through the bound.
-fn first_byte<H: HomeDevice>(home: &mut H, block: Block) -> Result<u8, DevFault> {
+/// Whether a log answers these calls so, one after another.
+fn log_answers<L: LogDevice>(log: &mut L, calls: &[LogCall]) -> bool {
+    for (piece, answered) in calls {
+        let is_taken = match piece {
+            Some(piece) => piece.len() <= 4096 && append_through(log, piece).is_ok(),
+            None => log.sync().is_ok(),
+        };
+        if is_taken != *answered {
+            return false;
+        }
+    }
+    true
+}
+
+/// The read of a block, with the answer.
+fn read_of<H: HomeDevice>(home: &mut H, block: u64) -> Told {
     let mut content = [0xff; 4096];
-    home.read(block, &mut content)?;
-    Ok(content[0])
+    match home.read(Block(block), &mut content) {
+        Ok(()) => Told::Read(block, even_byte(&content)),
+        Err(_) => Told::Unread(block),
+    }
+}
+
+/// Writes a block full of one byte, and whether that is answered Ok.
+fn is_written<H: HomeDevice>(home: &mut H, block: u64, byte: u8) -> bool {
+    let content = [byte; 4096];
+    home.write(Block(block), &content).is_ok()
+}
+
+/// The same call, with the answer that a home device gives to it. A write of no byte is none.
+fn answered<H: HomeDevice>(home: &mut H, call: Told) -> Told {
+    match call {
+        Told::Read(block, _) | Told::Unread(block) => read_of(home, block),
+        Told::Write(block, Some(byte), _) => {
+            Told::Write(block, Some(byte), is_written(home, block, byte))
+        }
+        Told::Write(block, None, _) => Told::Unread(block),
+        Told::Sync(_) => Told::Sync(home.sync().is_ok()),
+    }
+}
+
+/// Whether a home device answers these calls so, one after another.
+fn home_answers<H: HomeDevice>(home: &mut H, calls: &[Told]) -> bool {
+    for call in calls {
+        if answered(home, *call) != *call {
+            return false;
+        }
+    }
+    true
 }
 
 #[test]
 fn log_in_memory(rt: HostRuntime) {
     const CALLS: &[LogCall] = &[(AB, true), (SYNC, true), (EMPTY, true)];
     let mut log = MemLog::new(rt.alloc());
-    let is_taken = append_through(&mut log, b"ab").is_ok()
-        && log.sync().is_ok()
-        && append_through(&mut log, b"").is_ok();
-    assert!(rt; is_taken);
-    assert!(rt; log_tells(log.taken(), CALLS));
-}
-
-/// Writes a block full of one byte.
-fn write(home: &mut MemHome, block: u64, byte: u8) -> bool {
-    home.write(Block(block), &[byte; 4096]).is_ok()
-}
-
-/// Whether a block of a device is read and begins with a byte.
-fn reads(home: &mut MemHome, block: u64, byte: u8) -> bool {
-    first_byte(home, Block(block)) == Ok(byte)
+    assert!(rt; log_answers(&mut log, CALLS) && log_tells(log.taken(), CALLS));
 }
 
 #[test]
@@ -199,11 +227,7 @@ fn home_in_memory(rt: HostRuntime) {
         Told::Read(u64::MAX, Some(4)),
     ];
     let mut home = MemHome::new(rt.alloc());
-    assert!(rt; reads(&mut home, 7, 0));
-    assert!(rt; write(&mut home, 7, 3) && write(&mut home, u64::MAX, 4) && write(&mut home, 7, 5));
-    assert!(rt; home.sync().is_ok());
-    assert!(rt; reads(&mut home, 7, 5) && reads(&mut home, u64::MAX, 4));
-    assert!(rt; home_tells(home.taken(), CALLS));
+    assert!(rt; home_answers(&mut home, CALLS) && home_tells(home.taken(), CALLS));
 }
 
 /// Offers two pieces.
@@ -219,37 +243,60 @@ const ALL_TAKEN: LogAnswers = LogAnswers {
     sync: Some(true),
 };
 
-/// Two pieces are offered to a log that fails one call: what it answers and tells, and what it answers to them later.
-fn log_fails(
-    rt: &impl Abort,
-    alloc: Global,
-    at: u64,
-    first: LogAnswers,
-    calls: &[LogCall],
-    later: LogAnswers,
-)
-    requires at { 0 < at }
-{
-    let mut log = FailAt::over_log(alloc, MemLog::new(alloc), at);
-    assert_eq!(rt; offer_two(&mut log), first);
-    assert!(rt; log_tells(log.taken(), calls), "call {at}");
-    assert_eq!(rt; count(log.device.taken()), Some(at as usize - 1));
-    assert_eq!(rt; offer_two(&mut log), later);
+const TAKEN: &[LogCall] = &[(AB, true), (CDE, true), (SYNC, true)];
+
+/// Of each call that fails, 1, 2, 3 or none: how many pieces a log takes of two and what it answers to the sync, what it tells, and
+/// what it answers to them later.
+type LogFault = (
+    u32,
+    (u32, Option<bool>),
+    &'static [LogCall],
+    (u32, Option<bool>),
+);
+
+const LOG_FAULTS: &[LogFault] = &[
+    (1, (0, None), &[(AB, false)], (2, Some(true))),
+    (2, (1, None), &[(AB, true), (CDE, false)], (2, Some(true))),
+    (
+        3,
+        (2, Some(false)),
+        &[(AB, true), (CDE, true), (SYNC, false)],
+        (2, Some(true)),
+    ),
+    (4, (2, Some(true)), TAKEN, (0, None)),
+];
+
+/// Whether two pieces are taken so.
+fn takes_two(log: &mut FailAt<MemLog, LogOffer>, (taken, sync): (u32, Option<bool>)) -> bool {
+    offer_two(log) == LogAnswers { taken, sync }
 }
 
-/// The call 1, 2, 3 or none fails.
+/// Two pieces are offered to a log that fails one call: whether it takes and tells them so, and takes them so later.
+fn log_fails(
+    alloc: Global,
+    at: u32,
+    first: (u32, Option<bool>),
+    calls: &[LogCall],
+    later: (u32, Option<bool>),
+) -> bool {
+    if at == 0 {
+        return false;
+    }
+    let mut log = FailAt::over_log(alloc, MemLog::new(alloc), u64::from(at));
+    takes_two(&mut log, first)
+        && log_tells(log.taken(), calls)
+        && count(log.device.taken()) == Some(at as usize - 1)
+        && takes_two(&mut log, later)
+}
+
 #[test]
 fn log_fails_at_each_call(rt: HostRuntime) {
-    const FIRST: &[LogCall] = &[(AB, false)];
-    const SECOND: &[LogCall] = &[(AB, true), (CDE, false)];
-    const THIRD: &[LogCall] = &[(AB, true), (CDE, true), (SYNC, false)];
-    const NONE: &[LogCall] = &[(AB, true), (CDE, true), (SYNC, true)];
-    let alloc = rt.alloc();
-    let taken = |taken, sync| LogAnswers { taken, sync };
-    log_fails(&rt, alloc, 1, taken(0, None), FIRST, ALL_TAKEN);
-    log_fails(&rt, alloc, 2, taken(1, None), SECOND, ALL_TAKEN);
-    log_fails(&rt, alloc, 3, taken(2, Some(false)), THIRD, ALL_TAKEN);
-    log_fails(&rt, alloc, 4, ALL_TAKEN, NONE, taken(0, None));
+    for (at, first, calls, later) in LOG_FAULTS {
+        assert!(rt;
+            log_fails(rt.alloc(), *at, *first, calls, *later),
+            "call {at}"
+        );
+    }
 }
 
 /// Whether two writes were answered so, and then the sync.
@@ -257,28 +304,29 @@ fn answers(answers: &HomeAnswers, first: bool, second: bool, sync: bool) -> bool
     answers.count == 2 && answers.writes[..2] == [first, second] && answers.sync == sync
 }
 
-/// Two writes are offered to a home device that fails one call: each other one is answered Ok.
-fn home_fails(rt: &impl Abort, alloc: Global, at: u64)
+/// Two writes are offered to a home device that fails one call: whether each other one is answered Ok.
+fn home_fails(alloc: Global, at: u64) -> bool
     requires at { 0 < at }
 {
     let (first, second, sync) = (at != 1, at != 2, at != 3);
-    let mut home = FailAt::over_home(alloc, MemHome::new(alloc), at);
-    let offered = offer_home(&mut home, &[(Block(7), &[7; 4096]), (Block(9), &[9; 4096])]);
-    assert!(rt; answers(&offered, first, second, sync), "call {at}");
     let calls = [
         Told::Write(7, Some(7), first),
         Told::Write(9, Some(9), second),
         Told::Sync(sync),
     ];
-    assert!(rt; home_tells(home.taken(), &calls));
-    assert!(rt; reads(&mut home.device, 7, if first { 7 } else { 0 }));
+    let mut home = FailAt::over_home(alloc, MemHome::new(alloc), at);
+    let offered = offer_home(&mut home, &[(Block(7), &[7; 4096]), (Block(9), &[9; 4096])]);
+    let kept = Told::Read(7, Some(if first { 7 } else { 0 }));
+    answers(&offered, first, second, sync)
+        && home_tells(home.taken(), &calls)
+        && read_of(&mut home.device, 7) == kept
 }
 
 /// The call 1, 2, 3 or none fails.
 #[test]
 fn home_fails_at_each_call(rt: HostRuntime) {
     for at in 1..5 {
-        home_fails(&rt, rt.alloc(), at);
+        assert!(rt; home_fails(rt.alloc(), at), "call {at}");
     }
 }
 
@@ -287,72 +335,78 @@ fn read_fails_once(rt: HostRuntime) {
     const CALLS: &[Told] = &[Told::Unread(7), Told::Read(7, Some(0))];
     let alloc = rt.alloc();
     let mut home = FailAt::over_home(alloc, MemHome::new(alloc), 1);
-    assert_eq!(rt; first_byte(&mut home, Block(7)), Err(DevFault));
-    assert_eq!(rt; first_byte(&mut home, Block(7)), Ok(0));
-    assert!(rt; home_tells(home.taken(), CALLS));
+    assert!(rt; home_answers(&mut home, CALLS) && home_tells(home.taken(), CALLS));
 }
 
 /// Nothing is allocated here: run it with the first allocation failing.
 #[test]
 fn offers_take_no_memory(rt: HostRuntime) {
     let pieces = [Bytes::from_static(b"ab"), Bytes::from_static(b"cde")];
-    assert_eq!(rt; offer(&mut Deaf, &pieces), ALL_TAKEN);
+    assert!(rt; offer(&mut Deaf, &pieces) == ALL_TAKEN);
     let zeros = [0; 4096];
     let offered = offer_home(&mut Deaf, &[(Block(7), &zeros), (Block(7), &zeros)]);
     assert!(rt; answers(&offered, true, true, true));
 }
 
+const NONE_OFFERED: LogAnswers = LogAnswers {
+    taken: 0,
+    sync: Some(true),
+};
+
 #[test]
 fn nothing_to_offer(rt: HostRuntime) {
     let mut log = MemLog::new(rt.alloc());
-    let answers = offer(&mut log, &[]);
-    assert!(rt; answers.taken == 0 && answers.sync == Some(true));
-    assert!(rt; log_tells(log.taken(), &[(SYNC, true)]));
+    assert!(rt; offer(&mut log, &[]) == NONE_OFFERED && log_tells(log.taken(), &[(SYNC, true)]));
     let mut home = MemHome::new(rt.alloc());
-    assert_eq!(rt; offer_home(&mut home, &[]).count, 0);
-    assert!(rt; home_tells(home.taken(), &[]));
+    assert!(rt; offer_home(&mut home, &[]).count == 0 && home_tells(home.taken(), &[]));
 }
 
 /// Whichever growth is refused, a log answers as before, and what it still tells is all there.
 #[test]
 fn log_without_memory(rt: HostRuntime) {
-    const CALLS: &[LogCall] = &[(AB, true), (CDE, true), (SYNC, true)];
     let mut log = MemLog::new(rt.alloc());
-    let is_taken = log.append(b"ab").is_ok() && log.append(b"cde").is_ok() && log.sync().is_ok();
-    assert!(rt; is_taken);
-    assert!(rt; log.taken().is_none() || log_tells(log.taken(), CALLS));
+    assert!(rt; log_answers(&mut log, TAKEN));
+    assert!(rt; log.taken().is_none() || log_tells(log.taken(), TAKEN));
 }
 
 /// A write either failed and is not there, or is there whole.
 fn is_kept_or_not(home: &mut MemHome, block: u64, byte: u8) -> bool {
-    let is_kept = write(home, block, byte);
-    reads(home, block, if is_kept { byte } else { 0 })
+    let there = if is_written(home, block, byte) {
+        byte
+    } else {
+        0
+    };
+    read_of(home, block) == Told::Read(block, Some(there))
 }
 
 /// Whichever growth is refused, what a home device still tells is all there.
 #[test]
 fn home_without_memory(rt: HostRuntime) {
     let mut home = MemHome::new(rt.alloc());
-    assert!(rt; is_kept_or_not(&mut home, 7, 7) && is_kept_or_not(&mut home, 9, 9));
-    assert!(rt; home.sync().is_ok());
+    let is_kept = is_kept_or_not(&mut home, 7, 7) && is_kept_or_not(&mut home, 9, 9);
+    assert!(rt; is_kept && home.sync().is_ok());
     assert!(rt; matches!(count(home.taken()), None | Some(5)));
 }
 
-/// Appends the numbers below a count, and syncs after each fifth.
-fn append_many(log: &mut MemLog, count: u64) -> bool {
-    for n in 0..count {
-        let is_taken = append_through(log, &n.to_be_bytes()).is_ok();
-        if !is_taken || n % 5 == 4 && log.sync().is_err() {
+/// Makes so many calls, each sixth a sync and the others appends of their numbers: whether just the one at this place fails.
+fn fails_just<L: LogDevice>(log: &mut L, calls: u64, fault: u64) -> bool {
+    for n in 0..calls {
+        let is_taken = if n % 6 == 5 {
+            log.sync().is_ok()
+        } else {
+            append_through(log, &n.to_be_bytes()).is_ok()
+        };
+        if is_taken == (n == fault) {
             return false;
         }
     }
     true
 }
 
-/// Whether these are the calls of `append_many`.
+/// Whether these are such calls, of which none failed.
 fn are_many(offers: &[LogOffer]) -> bool {
     for (i, offer) in offers.iter().enumerate() {
-        let n = ((i - i / 6) as u64).to_be_bytes();
+        let n = (i as u64).to_be_bytes();
         let piece = if i % 6 == 5 { None } else { Some(n.as_slice()) };
         if !is_offer(offer, piece, true) {
             return false;
@@ -365,22 +419,8 @@ fn are_many(offers: &[LogOffer]) -> bool {
 #[test]
 fn log_over_many_calls(rt: HostRuntime) {
     let mut log = MemLog::new(rt.alloc());
-    assert!(rt; append_many(&mut log, 5000));
-    let Some(taken) = log.taken() else {
-        return assert!(rt; false, "it tells");
-    };
-    assert_eq!(rt; taken.len(), 6000);
-    assert!(rt; are_many(taken));
-}
-
-/// Whether a log fails just this one of its calls from 1 to 4,000.
-fn fails_just(log: &mut FailAt<MemLog, LogOffer>, at: u64) -> bool {
-    for n in 1..4001u64 {
-        if append_through(log, &n.to_be_bytes()).is_ok() == (n == at) {
-            return false;
-        }
-    }
-    true
+    assert!(rt; fails_just(&mut log, 6000, u64::MAX) && count(log.taken()) == Some(6000));
+    assert!(rt; are_many(log.taken().unwrap_or(&[])));
 }
 
 /// A log that fails its call 3,000 takes the 2,999 before it and the 1,000 after it.
@@ -388,52 +428,59 @@ fn fails_just(log: &mut FailAt<MemLog, LogOffer>, at: u64) -> bool {
 fn log_fails_at_a_late_call(rt: HostRuntime) {
     let alloc = rt.alloc();
     let mut log = FailAt::over_log(alloc, MemLog::new(alloc), 3000);
-    assert!(rt; fails_just(&mut log, 3000));
-    assert_eq!(rt; count(log.taken()), Some(4000));
-    assert_eq!(rt; count(log.device.taken()), Some(3999));
+    assert!(rt; fails_just(&mut log, 4000, 2999) && count(log.taken()) == Some(4000));
+    assert!(rt; count(log.device.taken()) == Some(3999));
 }
 
 /// The last block that a mount may have.
 const LAST: u64 = 1_099_511_627_775;
 
-/// Writes a thousand blocks down from the last, each with a byte that tells it from those near it.
-fn write_many(home: &mut MemHome, byte: u8) -> bool
+/// Whether a home device writes a thousand blocks down from the last, each with a byte that tells it from those near it, or reads
+/// them so.
+fn answers_many(home: &mut MemHome, byte: u8, is_write: bool) -> bool
     requires byte { byte ≤ 2 }
 {
     for n in 0..1000u64 {
-        if !write(home, LAST - n, byte + (n % 250) as u8) {
+        let (block, byte) = (LAST - n, Some(byte + (n % 250) as u8));
+        let call = if is_write {
+            Told::Write(block, byte, true)
+        } else {
+            Told::Read(block, byte)
+        };
+        if answered(home, call) != call {
             return false;
         }
     }
     true
 }
 
-/// Whether they are read so.
-fn reads_many(home: &mut MemHome, byte: u8) -> bool
-    requires byte { byte ≤ 2 }
-{
-    for n in 0..1000u64 {
-        if !reads(home, LAST - n, byte + (n % 250) as u8) {
-            return false;
+/// What stands at some places of the calls of such a device.
+const PLACES: &[(usize, Told)] = &[
+    (0, Told::Write(LAST, Some(1), true)),
+    (1999, Told::Write(LAST - 999, Some(251), true)),
+    (2000, Told::Read(LAST, Some(2))),
+];
+
+/// Whether calls are 3,002, with these at their places.
+fn have_places(calls: &[HomeCall]) -> bool {
+    for (place, want) in PLACES {
+        match calls.get(*place) {
+            Some(call) if plain(call) == *want => {}
+            _ => return false,
         }
     }
-    true
-}
-
-/// What a home device tells of one of its calls.
-fn call_at(taken: Option<&[HomeCall]>, place: usize) -> Option<Told> {
-    Some(plain(taken?.get(place)?))
+    calls.len() == 3002
 }
 
 /// A home device keeps a thousand blocks up to the last that a mount may have, each written twice, and tells all calls.
 #[test]
 fn home_over_many_calls(rt: HostRuntime) {
+    const OTHERS: &[Told] = &[
+        Told::Read(LAST - 1000, Some(0)),
+        Told::Read(LAST + 1, Some(0)),
+    ];
     let mut home = MemHome::new(rt.alloc());
-    assert!(rt; write_many(&mut home, 1) && write_many(&mut home, 2));
-    assert!(rt; reads_many(&mut home, 2));
-    assert!(rt; reads(&mut home, LAST - 1000, 0) && reads(&mut home, LAST + 1, 0));
-    assert_eq!(rt; count(home.taken()), Some(3002));
-    assert!(rt; call_at(home.taken(), 0) == Some(Told::Write(LAST, Some(1), true)));
-    assert!(rt; call_at(home.taken(), 1999) == Some(Told::Write(LAST - 999, Some(251), true)));
-    assert!(rt; call_at(home.taken(), 2000) == Some(Told::Read(LAST, Some(2))));
+    assert!(rt; answers_many(&mut home, 1, true) && answers_many(&mut home, 2, true));
+    assert!(rt; answers_many(&mut home, 2, false) && home_answers(&mut home, OTHERS));
+    assert!(rt; have_places(home.taken().unwrap_or(&[])));
 }

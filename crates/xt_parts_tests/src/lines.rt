@@ -3,11 +3,10 @@
 //! A test function is proved too, at a cost that grows with the square of its length. So lines
 //! stand in constants, helpers compare, and a test has few assertions.
 
-use std::alloc::Global;
-use std::process::Abort;
+use std::alloc::{AllocError, Global};
 use xt_base::content::Data;
 use xt_base::sizes::DATA_BYTES;
-use xt_base::steps::{Answer, HomeAnswers, Request, Step};
+use xt_base::steps::{Answer, Request, Step};
 use xt_text::bad_line::BadLine;
 use xt_text::buffer::Text;
 use xt_text::line::Line;
@@ -97,33 +96,70 @@ fn lines_of_steps_are_read_and_printed(rt: HostRuntime) {
     }
 }
 
-/// What a line of an `alloc` asks: its slot and life, and the three numbers of the request.
-fn alloc_of(alloc: Global, line: &str) -> Option<((usize, u32), (u32, u32, bool))> {
-    match &parse_line(alloc, line.as_bytes()).ok()? {
-        Step::Call {
-            slot,
-            life,
-            request: Request::Alloc { unit, count, perm },
-            ..
-        } => Some(((slot.index(), life.0), (*unit, *count, *perm))),
-        _ => None,
+/// Steps with their fields, as Rust writes them for whoever debugs.
+const FIELDS: &[(&str, &str)] = &[
+    (
+        "3.9 alloc 5000 2 perm",
+        "Call { slot: Slot(3), life: Life(9), request: Alloc { unit: 5000, count: 2, perm: true \
+         }, answer: None }",
+    ),
+    (
+        "3.9 read t5 7",
+        "Call { slot: Slot(3), life: Life(9), request: Read { trans: TransNo(5), block: \
+         Block(7) }, answer: None }",
+    ),
+    (
+        "3.9 read t5 7 = fail",
+        "Call { slot: Slot(3), life: Life(9), request: Read { trans: TransNo(5), block: \
+         Block(7) }, answer: Failed }",
+    ),
+    (
+        "3.9 forceto c5",
+        "Call { slot: Slot(3), life: Life(9), request: ForceTo { number: CkptNo(5) }, answer: \
+         None }",
+    ),
+    ("show 11", "Show(Slot(11))"),
+    ("peek 12", "Peek(Slot(12))"),
+    (
+        "flush 0 0.1.flush.1 ok fail ok fail",
+        "Flush { worker: Worker(0), name: JobName { slot: Slot(0), life: Life(1), kind: Flush, \
+         serial: 1 }, answers: HomeAnswers { count: 3, writes: [true, false, true, false, \
+         false, false, false, false], sync: false } }",
+    ),
+    (
+        "flush 0 0.1.flush.1 fail ok",
+        "Flush { worker: Worker(0), name: JobName { slot: Slot(0), life: Life(1), kind: Flush, \
+         serial: 1 }, answers: HomeAnswers { count: 1, writes: [false, false, false, false, \
+         false, false, false, false], sync: true } }",
+    ),
+    (
+        "flush 0 0.1.flush.1 ok ok ok ok ok ok ok ok ok",
+        "Flush { worker: Worker(0), name: JobName { slot: Slot(0), life: Life(1), kind: Flush, \
+         serial: 1 }, answers: HomeAnswers { count: 8, writes: [true, true, true, true, true, \
+         true, true, true], sync: true } }",
+    ),
+    (
+        "flush 0 0.1.flush.1",
+        "Flush { worker: Worker(0), name: JobName { slot: Slot(0), life: Life(1), kind: Flush, \
+         serial: 1 }, answers: HomeAnswers { count: 0, writes: [false, false, false, false, \
+         false, false, false, false], sync: false } }",
+    ),
+];
+
+/// Whether a line is read as a step with these fields.
+fn has_fields(alloc: Global, line: &str, fields: &str) -> Result<bool, AllocError> {
+    match parse_line(alloc, line.as_bytes()) {
+        Ok(step) => Ok(format!(in alloc; "{step:?}")?.as_str() == fields),
+        Err(_) => Ok(false),
     }
 }
 
 #[test]
-fn fields_are_where_they_belong(rt: HostRuntime) {
-    let read = alloc_of(rt.alloc(), "3.9 alloc 5000 2 perm");
-    assert!(rt; read == Some(((3, 9), (5000, 2, true))));
-}
-
-/// Whether these are 4,096 bytes, of which the first is so and all others 0.
-fn is_first_alone(bytes: &[u8], first: u8) -> bool {
-    match bytes {
-        [one, rest @ ..] => {
-            *one == first && rest.len() == 4095 && rest.iter().all(|byte| *byte == 0)
-        }
-        [] => false,
+fn fields_are_where_they_belong(rt: HostRuntime) -> Result<(), AllocError> {
+    for (line, fields) in FIELDS {
+        assert!(rt; has_fields(rt.alloc(), line, fields)?, "{line}");
     }
+    Ok(())
 }
 
 /// Whether a line is one that a session may have.
@@ -139,63 +175,31 @@ fn sessions_freeze_and_thaw_and_do_not_unmount(rt: HostRuntime) {
     assert!(rt; is_in_session(rt.alloc(), "0.1 unmount") == Some(false));
 }
 
-/// What a read was answered, where it is of block 7 in transaction 5: a content that is 11 and then 0, a failure, nothing, or another content.
-fn read_of(alloc: Global, line: &str) -> Option<&'static str> {
-    let step = parse_line(alloc, line.as_bytes()).ok()?;
-    let Step::Call {
-        request: Request::Read { trans, block },
-        answer,
-        ..
-    } = &step
-    else {
-        return None;
+/// 4,096 bytes, of which the first is 0x11 and all others are 0.
+fn first_alone() -> [u8; DATA_BYTES] {
+    let mut bytes = [0; DATA_BYTES];
+    bytes[0] = 0x11;
+    bytes
+}
+
+/// Whether a line is the read of block 7 in transaction 5, answered by such a content.
+fn has_content(alloc: Global, line: &str) -> bool {
+    let Ok(step) = parse_line(alloc, line.as_bytes()) else {
+        return false;
     };
-    if (trans.0, block.0) != (5, 7) {
-        return None;
-    }
-    match answer {
-        Answer::Content(content) if is_first_alone(content.bytes(), 0x11) => Some("content"),
-        Answer::Content(_) => Some("another content"),
-        Answer::Failed => Some("failed"),
-        Answer::None => Some("none"),
-    }
-}
-
-#[test]
-fn answers_of_reads_are_read(rt: HostRuntime) {
-    let alloc = rt.alloc();
-    assert!(rt; read_of(alloc, "3.9 read t5 7 = 11.00*4095") == Some("content"));
-    assert!(rt; read_of(alloc, "3.9 read t5 7 = fail") == Some("failed"));
-    assert!(rt; read_of(alloc, "3.9 read t5 7") == Some("none"));
-}
-
-/// The slot, the life and the checkpoint of a line of a `forceto`.
-fn force_of(alloc: Global, line: &str) -> Option<(usize, u32, u64)> {
-    match &parse_line(alloc, line.as_bytes()).ok()? {
+    match &step {
         Step::Call {
-            slot,
-            life,
-            request: Request::ForceTo { number },
+            request: Request::Read { trans, block },
+            answer: Answer::Content(content),
             ..
-        } => Some((slot.index(), life.0, number.0)),
-        _ => None,
-    }
-}
-
-/// Whether a line looks at a slot by `show`, and which one.
-fn look_of(alloc: Global, line: &str) -> Option<(bool, usize)> {
-    match &parse_line(alloc, line.as_bytes()).ok()? {
-        Step::Show(slot) => Some((true, slot.index())),
-        Step::Peek(slot) => Some((false, slot.index())),
-        _ => None,
+        } => (trans.0, block.0) == (5, 7) && content.bytes() == first_alone().as_slice(),
+        _ => false,
     }
 }
 
 #[test]
-fn the_checkpoint_of_a_force_and_the_slot_of_a_look_are_read(rt: HostRuntime) {
-    assert!(rt; force_of(rt.alloc(), "3.9 forceto c5") == Some((3, 9, 5)));
-    assert!(rt; look_of(rt.alloc(), "show 11") == Some((true, 11)));
-    assert!(rt; look_of(rt.alloc(), "peek 12") == Some((false, 12)));
+fn contents_of_reads_are_read(rt: HostRuntime) {
+    assert!(rt; has_content(rt.alloc(), "3.9 read t5 7 = 11.00*4095"));
 }
 
 /// Answers of reads in other spellings.
@@ -356,25 +360,49 @@ const BAD_FLUSHES: &[&str] = &[
     "0.1 flush",
 ];
 
+/// Log requests with texts that are no spelling of data.
+const BAD_DATA: &[&str] = &[
+    "0.1 log t1 7 0 ",
+    "0.1 log t1 7 0 a",
+    "0.1 log t1 7 0 AA",
+    "0.1 log t1 7 0 aaaaaaaa",
+    "0.1 log t1 7 0 aa*3",
+    "0.1 log t1 7 0 aa*04",
+    "0.1 log t1 7 0 aa*4097",
+    "0.1 log t1 7 0 aa*4.aa*4",
+    "0.1 log t1 7 0 aa*4.aa",
+    "0.1 log t1 7 0 11.22",
+    "0.1 log t1 7 0 11.00*4096",
+    "0.1 log t1 7 0 aa*4.",
+    "0.1 log t1 7 0 .aa*4",
+    "0.1 log t1 7 0 aa*4..bb*4",
+    "0.1 log t1 7 0 aa*4bb",
+    "0.1 log t1 7 0 -.aa",
+    "0.1 log t1 7 0 zz",
+    "0.1 log t1 7 0 aa*",
+    "0.1 log t1 7 0 *4",
+];
+
 /// Whether a line is refused for its spelling.
 fn is_bad(alloc: Global, line: &[u8]) -> bool {
     matches!(parse_line(alloc, line), Err(BadLine::Spelling))
 }
 
-/// Asserts that each line is refused for its spelling.
-fn are_bad(rt: &impl Abort, alloc: Global, lines: &[&str]) {
-    for line in lines {
-        assert!(rt; is_bad(alloc, line.as_bytes()), "{line}");
-    }
-}
-
 #[test]
 fn other_spellings_are_bad(rt: HostRuntime) {
-    are_bad(&rt, rt.alloc(), BAD_READS);
-    are_bad(&rt, rt.alloc(), BAD_BUFFER_WORDS);
-    are_bad(&rt, rt.alloc(), BAD_MOUNT_WORDS);
-    are_bad(&rt, rt.alloc(), BAD_LINES);
-    are_bad(&rt, rt.alloc(), BAD_FLUSHES);
+    const ALL: &[&[&str]] = &[
+        BAD_READS,
+        BAD_BUFFER_WORDS,
+        BAD_MOUNT_WORDS,
+        BAD_LINES,
+        BAD_FLUSHES,
+        BAD_DATA,
+    ];
+    for lines in ALL {
+        for line in *lines {
+            assert!(rt; is_bad(rt.alloc(), line.as_bytes()), "{line}");
+        }
+    }
 }
 
 /// Whether a line of so many digits is refused for its spelling.
@@ -399,12 +427,6 @@ const DATA: &[(&str, &[u8])] = &[
     ("07.ff*4.00*4.01", &[7, 255, 255, 255, 255, 0, 0, 0, 0, 1]),
 ];
 
-/// A log request with such data.
-fn log_step(alloc: Global, data: &str) -> Option<Step> {
-    let line = format!(in alloc; "0.1 log t1 7 0 {data}").ok()?;
-    parse_line(alloc, line.as_bytes()).ok()
-}
-
 /// The data of a log request.
 fn logged(step: &Step) -> Option<&Data> {
     match step {
@@ -417,110 +439,22 @@ fn logged(step: &Step) -> Option<&Data> {
 }
 
 /// Whether a text of data is read as these bytes.
-fn is_data(alloc: Global, data: &str, want: &[u8]) -> bool {
-    match log_step(alloc, data) {
-        Some(step) => logged(&step).is_some_and(|bytes| bytes.holds(want)),
-        None => false,
+fn is_data(alloc: Global, data: &str, want: &[u8]) -> Result<bool, AllocError> {
+    let line = format!(in alloc; "0.1 log t1 7 0 {data}")?;
+    let Ok(step) = parse_line(alloc, line.as_bytes()) else {
+        return Ok(false);
+    };
+    match logged(&step) {
+        Some(bytes) => Ok(bytes.holds(want)),
+        None => Ok(false),
     }
 }
 
-/// Whether a text of data is read as 4,096 bytes, of which the first is so and all others 0.
-fn is_block(alloc: Global, data: &str, first: u8) -> bool {
-    let Some(step) = log_step(alloc, data) else {
-        return false;
-    };
-    let Some(bytes) = logged(&step) else {
-        return false;
-    };
-    let mut room = [0xff; DATA_BYTES];
-    let all = &mut room[..bytes.len()];
-    bytes.copy_to(all);
-    is_first_alone(all, first)
-}
-
 #[test]
-fn data_has_one_spelling(rt: HostRuntime) {
+fn data_has_one_spelling(rt: HostRuntime) -> Result<(), AllocError> {
     for (data, want) in DATA {
-        assert!(rt; is_data(rt.alloc(), data, want), "{data}");
+        assert!(rt; is_data(rt.alloc(), data, want)?, "{data}");
     }
-    assert!(rt; is_block(rt.alloc(), "11.00*4095", 0x11));
-}
-
-/// Texts that are no spelling of data.
-const BAD_DATA: &[&str] = &[
-    "",
-    "a",
-    "AA",
-    "aaaaaaaa",
-    "aa*3",
-    "aa*04",
-    "aa*4097",
-    "aa*4.aa*4",
-    "aa*4.aa",
-    "11.22",
-    "11.00*4096",
-    "aa*4.",
-    ".aa*4",
-    "aa*4..bb*4",
-    "aa*4bb",
-    "-.aa",
-    "zz",
-    "aa*",
-    "*4",
-];
-
-/// Whether a log request with such data is refused for its spelling.
-fn is_bad_data(alloc: Global, data: &str) -> bool {
-    match format!(in alloc; "0.1 log t1 7 0 {data}") {
-        Ok(line) => is_bad(alloc, line.as_bytes()),
-        Err(_) => false,
-    }
-}
-
-#[test]
-fn other_spellings_of_data_are_bad(rt: HostRuntime) {
-    for data in BAD_DATA {
-        assert!(rt; is_bad_data(rt.alloc(), data), "{data}");
-    }
-}
-
-/// Flushes, with the count of writes, the answers to these, and to the sync.
-const FLUSHES: &[(&str, u8, &[bool], bool)] = &[
-    (
-        "flush 0 0.1.flush.1 ok fail ok fail",
-        3,
-        &[true, false, true, false, false, false, false, false],
-        false,
-    ),
-    ("flush 0 0.1.flush.1 fail ok", 1, &[false; 8], true),
-    (
-        "flush 0 0.1.flush.1 ok ok ok ok ok ok ok ok ok",
-        8,
-        &[true; 8],
-        true,
-    ),
-    ("flush 0 0.1.flush.1", 0, &[false; 8], false),
-];
-
-/// What a line of a flush says that the home device answered.
-fn answered(alloc: Global, line: &str) -> Option<HomeAnswers> {
-    match &parse_line(alloc, line.as_bytes()).ok()? {
-        Step::Flush { answers, .. } => Some(*answers),
-        _ => None,
-    }
-}
-
-/// Whether a line of a flush says just these answers.
-fn is_flush(alloc: Global, line: &str, count: u8, writes: &[bool], sync: bool) -> bool {
-    let Some(answers) = answered(alloc, line) else {
-        return false;
-    };
-    answers.count == count && answers.writes.as_slice() == writes && answers.sync == sync
-}
-
-#[test]
-fn answers_of_flushes_are_read(rt: HostRuntime) {
-    for (line, count, writes, sync) in FLUSHES {
-        assert!(rt; is_flush(rt.alloc(), line, *count, writes, *sync), "{line}");
-    }
+    assert!(rt; is_data(rt.alloc(), "11.00*4095", &first_alone())?);
+    Ok(())
 }

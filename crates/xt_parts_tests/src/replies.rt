@@ -1,8 +1,7 @@
 //! Replies and offers as they are printed, and a buffer that is full.
 
-use std::alloc::Global;
+use std::alloc::{AllocError, Global};
 use std::process::Abort;
-use std::test::Fail;
 use xt_base::content::{Content, Data, HeldBlocks};
 use xt_base::form::Form;
 use xt_base::names::{Block, CkptNo, Life, Slot, TransNo};
@@ -10,13 +9,16 @@ use xt_base::steps::{Errno, HomeOffer, LogOffer, Reason, Reply};
 use xt_text::buffer::Text;
 use xt_text::print_reply::{print_home_offer, print_log_offer, print_reply, print_slot_reply};
 
+/// Whether a reply is printed so.
+fn is_said(alloc: Global, reply: &Reply, want: &str) -> Result<bool, AllocError> {
+    let mut out = Text::new(alloc)?;
+    print_reply(reply, &mut out);
+    Ok(out.holds(want.as_bytes()))
+}
+
 /// Asserts that a reply is printed so.
 fn says(rt: &impl Abort, alloc: Global, reply: Reply, want: &str) {
-    let Ok(mut out) = Text::new(alloc) else {
-        return assert!(rt; false, "a buffer");
-    };
-    print_reply(&reply, &mut out);
-    assert!(rt; out.holds(want.as_bytes()), "{want}");
+    assert!(rt; is_said(alloc, &reply, want) == Ok(true), "{want}");
 }
 
 #[test]
@@ -47,43 +49,6 @@ fn replies_of_jobs_are_printed(rt: HostRuntime) {
     says(&rt, alloc, Reply::Landed(CkptNo(1)), "landed c1");
     says(&rt, alloc, Reply::Failed(CkptNo(1)), "failed c1");
     says(&rt, alloc, Reply::Flushed(8), "flushed 8");
-}
-
-#[test]
-fn a_content_is_printed(rt: HostRuntime) -> Result<(), Fail> {
-    let zeros = Content::zeros(rt.alloc(), Form::one())?;
-    says(&rt, rt.alloc(), Reply::Data(zeros), "data 00*4096");
-    Ok(())
-}
-
-/// Held blocks of these numbers, in order.
-fn held(alloc: Global, numbers: &[u64]) -> Option<HeldBlocks> {
-    let mut blocks = Vec::new(alloc);
-    for number in numbers {
-        blocks.push(Block(*number)).ok()?;
-    }
-    HeldBlocks::of(alloc, blocks).ok()?
-}
-
-#[test]
-fn held_blocks_are_printed(rt: HostRuntime) {
-    let alloc = rt.alloc();
-    let (Some(five), Some(seven)) = (held(alloc, &[5]), held(alloc, &[7])) else {
-        return assert!(rt; false, "one block");
-    };
-    says(&rt, alloc, Reply::OkayHeld(five), "ok held 5");
-    says(&rt, alloc, Reply::Aborted(seven), "EIO held 7");
-    assert!(rt; held(alloc, &[]).is_none());
-}
-
-#[test]
-fn held_blocks_of_a_commit_are_printed(rt: HostRuntime) {
-    let Some(held) = held(rt.alloc(), &[0, 1099511627775]) else {
-        return assert!(rt; false, "two blocks");
-    };
-    let number = CkptNo(0);
-    let reply = Reply::CommittedHeld { number, held };
-    says(&rt, rt.alloc(), reply, "c0 held 0 1099511627775");
 }
 
 /// Refusals, and how they are printed.
@@ -119,62 +84,110 @@ fn names_of_refusals_and_reasons_are_printed(rt: HostRuntime) {
     }
 }
 
-/// Asserts that an offer to the log is printed so.
-fn log_says(rt: &impl Abort, out: &mut Text, slot: Slot, offer: LogOffer, want: &[u8]) {
-    out.clear();
-    print_log_offer(slot, &offer, out);
-    assert!(rt; out.holds(want));
+#[test]
+fn a_content_is_printed(rt: HostRuntime) -> Result<(), AllocError> {
+    let zeros = Reply::Data(Content::zeros(rt.alloc(), Form::one())?);
+    assert!(rt; is_said(rt.alloc(), &zeros, "data 00*4096")?);
+    Ok(())
 }
 
-/// Asserts that an offer to the home device is printed so.
-fn home_says(rt: &impl Abort, out: &mut Text, slot: Slot, offer: HomeOffer, want: &[u8]) {
-    out.clear();
-    print_home_offer(slot, &offer, out);
-    assert!(rt; out.holds(want));
+/// Held blocks of these numbers, in order; none of no number.
+fn held(alloc: Global, numbers: &[u64]) -> Result<Option<HeldBlocks>, AllocError> {
+    let mut blocks = Vec::new(alloc);
+    for number in numbers {
+        blocks.push(Block(*number))?;
+    }
+    HeldBlocks::of(alloc, blocks)
+}
+
+/// A reply that leaves blocks held, of a kind.
+fn holding(alloc: Global, kind: &str, numbers: &[u64]) -> Result<Option<Reply>, AllocError> {
+    let Some(held) = held(alloc, numbers)? else {
+        return Ok(None);
+    };
+    Ok(match kind {
+        "cancelled" => Some(Reply::OkayHeld(held)),
+        "aborted" => Some(Reply::Aborted(held)),
+        _ => Some(Reply::CommittedHeld {
+            number: CkptNo(0),
+            held,
+        }),
+    })
+}
+
+/// Kinds of replies that leave blocks held, the blocks, and how they are printed.
+const HOLDING: &[(&str, &[u64], &str)] = &[
+    ("cancelled", &[5], "ok held 5"),
+    ("aborted", &[7], "EIO held 7"),
+    ("committed", &[0, 1099511627775], "c0 held 0 1099511627775"),
+];
+
+#[test]
+fn held_blocks_are_printed(rt: HostRuntime) -> Result<(), AllocError> {
+    for (kind, numbers, want) in HOLDING {
+        let reply = holding(rt.alloc(), kind, numbers)?.ok_or(AllocError)?;
+        assert!(rt; is_said(rt.alloc(), &reply, want)?, "{want}");
+    }
+    assert!(rt; held(rt.alloc(), &[])?.is_none());
+    Ok(())
+}
+
+/// Whether an offer of slot 15 to the log is printed so.
+fn is_log_said(alloc: Global, offer: &LogOffer, want: &[u8]) -> Result<bool, AllocError> {
+    let mut out = Text::new(alloc)?;
+    print_log_offer(Slot::new(15).ok_or(AllocError)?, offer, &mut out);
+    Ok(out.holds(want))
+}
+
+/// Whether one of slot 15 to the home device is.
+fn is_home_said(alloc: Global, offer: &HomeOffer, want: &[u8]) -> Result<bool, AllocError> {
+    let mut out = Text::new(alloc)?;
+    print_home_offer(Slot::new(15).ok_or(AllocError)?, offer, &mut out);
+    Ok(out.holds(want))
+}
+
+/// Data of these bytes.
+fn data_of(alloc: Global, bytes: &[u8]) -> Result<Data, AllocError> {
+    Data::of(alloc, bytes)?.ok_or(AllocError)
 }
 
 #[test]
-fn offers_to_the_log_are_printed(rt: HostRuntime) -> Result<(), Fail> {
-    let (mut out, slot) = (Text::new(rt.alloc())?, Slot::new(15).ok_or("a slot")?);
-    let bytes = Data::of(rt.alloc(), &[0xaa; 32])?.ok_or("few bytes")?;
-    let (piece, sync) = (
-        LogOffer::Piece { bytes, ok: true },
-        LogOffer::Sync { ok: false },
-    );
-    log_says(&rt, &mut out, slot, piece, b"15 log aa*32 ok");
-    log_says(&rt, &mut out, slot, sync, b"15 logsync fail");
+fn offers_to_the_log_are_printed(rt: HostRuntime) -> Result<(), AllocError> {
+    let bytes = data_of(rt.alloc(), &[0xaa; 32])?;
+    let piece = LogOffer::Piece { bytes, ok: true };
+    assert!(rt; is_log_said(rt.alloc(), &piece, b"15 log aa*32 ok")?);
+    let sync = LogOffer::Sync { ok: false };
+    assert!(rt; is_log_said(rt.alloc(), &sync, b"15 logsync fail")?);
     Ok(())
 }
 
 /// A long stretch among other bytes is kept once, and runs go on over its ends.
 #[test]
-fn a_piece_with_a_stretch_is_printed(rt: HostRuntime) -> Result<(), Fail> {
-    let (mut out, slot) = (Text::new(rt.alloc())?, Slot::new(15).ok_or("a slot")?);
+fn a_piece_with_a_stretch_is_printed(rt: HostRuntime) -> Result<(), AllocError> {
     let mut bytes = [0xb9; 160];
     bytes[3] = 0x58;
-    let bytes = Data::of(rt.alloc(), &bytes)?.ok_or("few bytes")?;
+    let bytes = data_of(rt.alloc(), &bytes)?;
     assert!(rt; bytes.kept().bytes.len() == 32);
     let piece = LogOffer::Piece { bytes, ok: false };
-    log_says(&rt, &mut out, slot, piece, b"15 log b9b9b958.b9*156 fail");
+    assert!(rt; is_log_said(rt.alloc(), &piece, b"15 log b9b9b958.b9*156 fail")?);
     Ok(())
 }
 
 #[test]
-fn offers_to_the_home_device_are_printed(rt: HostRuntime) -> Result<(), Fail> {
-    let (mut out, slot) = (Text::new(rt.alloc())?, Slot::new(15).ok_or("a slot")?);
+fn offers_to_the_home_device_are_printed(rt: HostRuntime) -> Result<(), AllocError> {
     let (block, ok) = (Block(7), false);
     let content = Content::zeros(rt.alloc(), Form::one())?;
     let write = HomeOffer::Write { block, content, ok };
-    home_says(&rt, &mut out, slot, write, b"15 home 7 00*4096 fail");
+    assert!(rt; is_home_said(rt.alloc(), &write, b"15 home 7 00*4096 fail")?);
     let sync = HomeOffer::Sync { ok: true };
-    home_says(&rt, &mut out, slot, sync, b"15 homesync ok");
+    assert!(rt; is_home_said(rt.alloc(), &sync, b"15 homesync ok")?);
     Ok(())
 }
 
 /// A slot's reply is put behind what the buffer holds.
 #[test]
-fn a_reply_of_a_slot_is_printed(rt: HostRuntime) -> Result<(), Fail> {
-    let (mut out, slot) = (Text::new(rt.alloc())?, Slot::new(15).ok_or("a slot")?);
+fn a_reply_of_a_slot_is_printed(rt: HostRuntime) -> Result<(), AllocError> {
+    let (mut out, slot) = (Text::new(rt.alloc())?, Slot::new(15).ok_or(AllocError)?);
     out.put(b"15 homesync ok\n");
     print_slot_reply(slot, &Reply::Okay, &mut out);
     assert!(rt; out.holds(b"15 homesync ok\n15 ok"));
@@ -187,7 +200,7 @@ fn has_room(out: &Text, len: usize) -> bool {
 }
 
 #[test]
-fn a_text_that_does_not_fit_fills_the_buffer(rt: HostRuntime) -> Result<(), Fail> {
+fn a_text_that_does_not_fit_fills_the_buffer(rt: HostRuntime) -> Result<(), AllocError> {
     let (mut out, half) = (Text::new(rt.alloc())?, [b'x'; 4224]);
     out.put(&half);
     out.put(&half);

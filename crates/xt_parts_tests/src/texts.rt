@@ -123,35 +123,31 @@ fn is_one(checkpoint: &Checkpoint, map: u32, content: &[u8]) -> bool {
     }
 }
 
+/// Whether a text is read as such a checkpoint, both alone and in the room of the one before: a longer one, a shorter one, and none.
+fn is_read(
+    alloc: Global,
+    rooms: &mut Rooms,
+    input: &[u8],
+    map: u32,
+    content: &[u8],
+) -> Result<Option<usize>, Fail> {
+    let (alone, len) = first_text(alloc, input)?;
+    let found = read_checkpoint_into(rooms, input)?;
+    let (checkpoint, read) = found.ok_or("a text")?;
+    let is_so = is_one(&alone, map, content) && is_one(&checkpoint, map, content) && read == len;
+    rooms.give_back(checkpoint);
+    Ok(if is_so { Some(len) } else { None })
+}
+
 #[test]
 fn texts_of_one_item(rt: HostRuntime) -> Result<(), Fail> {
+    let mut rooms = Rooms::new(rt.alloc());
     for (text, len, map, content) in OF_ONE {
         let mut input = bytes_of(rt.alloc(), text)?;
         input.push(0x58)?;
-        let (checkpoint, read) = first_text(rt.alloc(), &input)?;
         let content = bytes_of(rt.alloc(), content)?;
-        assert!(rt;
-            read == *len && is_one(&checkpoint, *map, &content),
-            "{text}"
-        );
-    }
-    Ok(())
-}
-
-/// What one text after another is read as, each in the room of the one before: a longer one, a shorter one, and none.
-#[test]
-fn rooms_used_again(rt: HostRuntime) -> Result<(), Fail> {
-    let mut rooms = Rooms::new(rt.alloc());
-    for (text, len, map, content) in OF_ONE {
-        let input = bytes_of(rt.alloc(), text)?;
-        let found = read_checkpoint_into(&mut rooms, &input)?;
-        let (checkpoint, read) = found.ok_or("a text")?;
-        let content = bytes_of(rt.alloc(), content)?;
-        assert!(rt;
-            read == *len && is_one(&checkpoint, *map, &content),
-            "{text}"
-        );
-        rooms.give_back(checkpoint);
+        let read = is_read(rt.alloc(), &mut rooms, &input, *map, &content)?;
+        assert!(rt; read == Some(*len), "{text}");
     }
     Ok(())
 }
@@ -361,23 +357,16 @@ fn pieces_of(alloc: Global, map: u32, byte: u8) -> Result<Vec<Bytes>, Fail> {
     Ok(write_checkpoint(alloc, CkptNo(1), &items)?)
 }
 
-#[test]
-fn whole_block_written(rt: HostRuntime) -> Result<(), Fail> {
-    let pieces = pieces_of(rt.alloc(), 0xffff_ffff, 0xaa)?;
-    let text = bytes_of(rt.alloc(), OF_4144)?;
-    let is_cut = match (pieces.as_slice(), text.split_at_checked(4096)) {
-        ([one, two], Some((front, back))) => one.as_slice() == front && two.as_slice() == back,
-        _ => false,
-    };
-    assert!(rt; is_cut);
-    Ok(())
-}
+/// Chunks of block 7 and the byte that they have all over, the text of that, and how many pieces it has.
+const ALONE: &[(u32, u8, &str, usize)] = &[(0xffff_ffff, 0xaa, OF_4144, 2), (0, 0, OF_48, 1)];
 
 #[test]
-fn cancel_written(rt: HostRuntime) -> Result<(), Fail> {
-    let pieces = pieces_of(rt.alloc(), 0, 0)?;
-    let text = bytes_of(rt.alloc(), OF_48)?;
-    assert!(rt; matches!(pieces.as_slice(), [piece] if piece.as_slice() == text.as_slice()));
+fn one_item_written(rt: HostRuntime) -> Result<(), Fail> {
+    for (map, byte, text, count) in ALONE {
+        let pieces = pieces_of(rt.alloc(), *map, *byte)?;
+        let text = bytes_of(rt.alloc(), text)?;
+        assert!(rt; pieces.len() == *count && are_cut(&pieces, &text), "{map}");
+    }
     Ok(())
 }
 
@@ -479,7 +468,10 @@ fn count_of_text(alloc: Global, items: &[Item], spelled: &str) -> Result<usize, 
 fn pieces_written(rt: HostRuntime) -> Result<(), Fail> {
     for (blocks, map, spelled, text, count) in WRITTEN {
         let items = items_with(rt.alloc(), *blocks, *map, spelled)?;
-        assert_eq!(rt; count_of_text(rt.alloc(), &items, text)?, *count);
+        assert!(rt;
+            count_of_text(rt.alloc(), &items, text)? == *count,
+            "{text}"
+        );
     }
     Ok(())
 }
@@ -517,36 +509,43 @@ fn piece_refused(rt: HostRuntime) -> Result<(), Errno> {
     Ok(())
 }
 
+/// Bytes that are not 0, and their places in a text of 176 bytes.
+const PLACES: &[(usize, u8)] = &[
+    (0, 0x58),
+    (1, 0x43),
+    (2, 0x50),
+    (3, 0x31),
+    (11, 1),
+    (15, 1),
+    (23, 7),
+    (27, 2),
+    (34, 1),
+    (160, 0x58),
+    (161, 0x43),
+    (162, 0x45),
+    (163, 0x31),
+    (167, 1),
+    (175, 1),
+];
+
+/// Whether a text is read as one of 176 bytes, or for want of memory not at all.
+fn is_read_or_refused(alloc: Global, input: &[u8]) -> bool {
+    match read_checkpoint(alloc, input) {
+        Ok(Some((_, len))) => len == 176,
+        Ok(None) => false,
+        Err(fault) => fault == ReadFault::Memory,
+    }
+}
+
 /// Where a growth is refused the reader says so, and else gives the same answer. Run it with
 /// each allocation failing in turn.
 #[test]
 fn growth_refused(rt: HostRuntime) {
-    const PLACES: &[(usize, u8)] = &[
-        (0, 0x58),
-        (1, 0x43),
-        (2, 0x50),
-        (3, 0x31),
-        (11, 1),
-        (15, 1),
-        (23, 7),
-        (27, 2),
-        (34, 1),
-        (160, 0x58),
-        (161, 0x43),
-        (162, 0x45),
-        (163, 0x31),
-        (167, 1),
-        (175, 1),
-    ];
     let mut input = [0u8; 176];
     for (at, byte) in PLACES {
-        assert!(rt; *at < 176);
-        input[*at] = *byte;
+        if *at < 176 {
+            input[*at] = *byte;
+        }
     }
-    let is_so = match read_checkpoint(rt.alloc(), &input) {
-        Ok(Some((_, len))) => len == 176,
-        Ok(None) => false,
-        Err(fault) => fault == ReadFault::Memory,
-    };
-    assert!(rt; is_so);
+    assert!(rt; is_read_or_refused(rt.alloc(), &input));
 }

@@ -1,16 +1,14 @@
 //! Devices over files, of which no clause can say what they have.
 
-use super::first_byte;
+use crate::devices::{AB, ALL_TAKEN, EMPTY, LogCall, SYNC, Told, home_answers, log_answers};
 use bytes::Bytes;
-use std::path::PathBuf;
+use std::path::{Path, PathBuf};
 use std::test::Fail;
 use std::{env, fs, process};
 use xt_base::names::Block;
-use xt_base::steps::LogAnswers;
-use xt_dev::fault::{DevFault, FileFault};
+use xt_dev::fault::FileFault;
 use xt_dev::files::{FILE_BLOCKS, FileHome, FileLog};
 use xt_dev::home::HomeDevice;
-use xt_dev::log::LogDevice;
 use xt_dev::offer::offer;
 
 /// A path of this process where nothing is.
@@ -26,58 +24,70 @@ fn is_not_empty(opened: &Result<FileLog, FileFault>) -> bool {
     matches!(opened, Err(FileFault::NotEmpty))
 }
 
+/// Whether a file has just these bytes; it is removed.
+fn had(rt: &HostRuntime, path: Path<'_>, bytes: &[u8]) -> Result<bool, Fail> {
+    let read = fs::read(rt, path)?;
+    fs::remove_file(rt, path)?;
+    Ok(read.as_slice() == bytes)
+}
+
+/// Whether a file is so long; it is removed.
+fn was_long(rt: &HostRuntime, path: Path<'_>, len: u64) -> Result<bool, Fail> {
+    let found = fs::metadata(rt, path)?.len();
+    fs::remove_file(rt, path)?;
+    Ok(found == len)
+}
+
 #[test]
 fn log_in_a_file(rt: HostRuntime) -> Result<(), Fail> {
-    const ALL_TAKEN: LogAnswers = LogAnswers {
-        taken: 2,
-        sync: Some(true),
-    };
+    const CALLS: &[LogCall] = &[(EMPTY, true), (Some(b"f"), true)];
     let path = fresh_path(&rt, "log")?;
     let mut log = FileLog::open(&rt, path.as_path())?;
     let pieces = [Bytes::from_static(b"ab"), Bytes::from_static(b"cde")];
-    assert_eq!(rt; offer(&mut log, &pieces), ALL_TAKEN);
-    assert!(rt; log.append(b"").is_ok() && log.append(b"f").is_ok());
-    let read = fs::read(&rt, path.as_path())?;
-    assert!(rt; read.as_slice() == b"abcdef".as_slice());
+    assert!(rt; offer(&mut log, &pieces) == ALL_TAKEN && log_answers(&mut log, CALLS));
     assert!(rt; is_not_empty(&FileLog::open(&rt, path.as_path())));
-    fs::remove_file(&rt, path.as_path())?;
+    assert!(rt; had(&rt, path.as_path(), b"abcdef")?);
     Ok(())
 }
 
 #[test]
 fn empty_log_is_opened_again(rt: HostRuntime) -> Result<(), Fail> {
+    const CALLS: &[LogCall] = &[(Some(b"x"), true), (SYNC, true)];
     let path = fresh_path(&rt, "empty")?;
     drop(FileLog::open(&rt, path.as_path())?);
     let mut log = FileLog::open(&rt, path.as_path())?;
-    assert!(rt; log.append(b"x").is_ok() && log.sync().is_ok());
-    let read = fs::read(&rt, path.as_path())?;
-    assert!(rt; read.as_slice() == b"x".as_slice());
-    fs::remove_file(&rt, path.as_path())?;
+    assert!(rt; log_answers(&mut log, CALLS) && had(&rt, path.as_path(), b"x")?);
     Ok(())
-}
-
-/// The first and the last byte of a block.
-fn ends(home: &mut FileHome, block: u64) -> Result<(u8, u8), DevFault> {
-    let mut content = [0xff; 4096];
-    home.read(Block(block), &mut content)?;
-    Ok((content[0], content[4095]))
 }
 
 #[test]
 fn home_in_a_file(rt: HostRuntime) -> Result<(), Fail> {
+    const CALLS: &[Told] = &[
+        Told::Read(3, Some(0)),
+        Told::Write(2, Some(7), true),
+        Told::Sync(true),
+        Told::Read(1, Some(0)),
+        Told::Read(2, Some(7)),
+        Told::Read(3, Some(0)),
+    ];
+    const AGAIN: &[Told] = &[Told::Read(2, Some(7))];
     let path = fresh_path(&rt, "home")?;
     let mut home = FileHome::open(&rt, path.as_path())?;
-    assert_eq!(rt; ends(&mut home, 3), Ok((0, 0)));
-    assert!(rt; home.write(Block(2), &[7; 4096]).is_ok() && home.sync().is_ok());
-    assert_eq!(rt; ends(&mut home, 1), Ok((0, 0)));
-    assert_eq!(rt; ends(&mut home, 2), Ok((7, 7)));
-    assert_eq!(rt; ends(&mut home, 3), Ok((0, 0)));
-    assert_eq!(rt; fs::metadata(&rt, path.as_path())?.len(), 12_288);
+    assert!(rt; home_answers(&mut home, CALLS));
     drop(home);
     let mut again = FileHome::open(&rt, path.as_path())?;
-    assert_eq!(rt; ends(&mut again, 2), Ok((7, 7)));
-    fs::remove_file(&rt, path.as_path())?;
+    assert!(rt; home_answers(&mut again, AGAIN) && was_long(&rt, path.as_path(), 12_288)?);
     Ok(())
+}
+
+/// Whether the first half of a block is all 9, and the other all 0.
+fn is_half(content: &[u8; 4096]) -> bool {
+    for (place, byte) in content.iter().enumerate() {
+        if *byte != if place < 2048 { 9 } else { 0 } {
+            return false;
+        }
+    }
+    true
 }
 
 #[test]
@@ -86,28 +96,30 @@ fn half_a_block_is_read_with_zeros(rt: HostRuntime) -> Result<(), Fail> {
     fs::write(&rt, path.as_path(), [9u8; 6144].as_slice())?;
     let mut home = FileHome::open(&rt, path.as_path())?;
     let mut content = [0xff; 4096];
-    assert!(rt; home.read(Block(1), &mut content).is_ok());
-    assert_eq!(rt; (content[0], content[2047]), (9, 9));
-    assert!(rt; content[2048..].iter().all(|b| *b == 0));
+    assert!(rt; home.read(Block(1), &mut content).is_ok() && is_half(&content));
     fs::remove_file(&rt, path.as_path())?;
     Ok(())
 }
 
 #[test]
 fn blocks_that_no_file_has(rt: HostRuntime) -> Result<(), Fail> {
+    const CALLS: &[Told] = &[
+        Told::Read(FILE_BLOCKS - 1, Some(0)),
+        Told::Unread(FILE_BLOCKS),
+        Told::Unread(u64::MAX),
+        Told::Write(FILE_BLOCKS, Some(7), false),
+        Told::Write(FILE_BLOCKS * 2, Some(7), false),
+    ];
     let path = fresh_path(&rt, "great")?;
     let mut home = FileHome::open(&rt, path.as_path())?;
-    assert_eq!(rt; ends(&mut home, FILE_BLOCKS - 1), Ok((0, 0)));
-    assert_eq!(rt; first_byte(&mut home, Block(FILE_BLOCKS)), Err(DevFault));
-    assert_eq!(rt; first_byte(&mut home, Block(u64::MAX)), Err(DevFault));
-    assert_eq!(rt; home.write(Block(FILE_BLOCKS), &[7; 4096]), Err(DevFault));
-    assert_eq!(rt;
-        home.write(Block(FILE_BLOCKS * 2), &[7; 4096]),
-        Err(DevFault)
-    );
-    assert_eq!(rt; fs::metadata(&rt, path.as_path())?.len(), 0);
-    fs::remove_file(&rt, path.as_path())?;
+    assert!(rt; home_answers(&mut home, CALLS) && was_long(&rt, path.as_path(), 0)?);
     Ok(())
+}
+
+/// Whether neither device is opened over this path.
+fn are_refused(rt: &HostRuntime, path: Path<'_>) -> bool {
+    matches!(FileLog::open(rt, path), Err(FileFault::Io(_)))
+        && matches!(FileHome::open(rt, path), Err(FileFault::Io(_)))
 }
 
 #[test]
@@ -115,8 +127,7 @@ fn folder_is_refused(rt: HostRuntime) -> Result<(), Fail> {
     let path = fresh_path(&rt, "folder")?;
     let _ = fs::remove_dir(&rt, path.as_path());
     fs::create_dir(&rt, path.as_path())?;
-    assert!(rt; matches!(FileLog::open(&rt, path.as_path()), Err(FileFault::Io(_))));
-    assert!(rt; matches!(FileHome::open(&rt, path.as_path()), Err(FileFault::Io(_))));
+    assert!(rt; are_refused(&rt, path.as_path()));
     fs::remove_dir(&rt, path.as_path())?;
     assert!(rt;
         matches!(
@@ -132,12 +143,11 @@ const FULL: &str = "/dev/full";
 
 #[test]
 fn full_file_fails(rt: HostRuntime) -> Result<(), Fail> {
+    const LOG: &[LogCall] = &[(AB, false), (AB, false), (SYNC, false)];
+    const HOME: &[Told] = &[Told::Write(7, Some(7), false), Told::Read(7, Some(0))];
     let mut log = FileLog::open(&rt, FULL)?;
-    assert_eq!(rt; log.append(b"ab"), Err(DevFault));
-    assert_eq!(rt; log.append(b"ab"), Err(DevFault));
-    assert_eq!(rt; log.sync(), Err(DevFault));
+    assert!(rt; log_answers(&mut log, LOG));
     let mut home = FileHome::open(&rt, FULL)?;
-    assert_eq!(rt; home.write(Block(7), &[7; 4096]), Err(DevFault));
-    assert_eq!(rt; ends(&mut home, 7), Ok((0, 0)));
+    assert!(rt; home_answers(&mut home, HOME));
     Ok(())
 }

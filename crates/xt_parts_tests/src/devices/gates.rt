@@ -1,15 +1,11 @@
 //! Gates whose flag is up, and gates that wait for theirs in vain.
 
 use crate::devices::{
-    AB, CDE, LogCall, SYNC, Told, append_through, count, first_byte, home_tells, log_tells,
+    AB, CDE, LogCall, SYNC, Told, count, home_answers, home_tells, log_answers, log_tells,
 };
 use std::alloc::{AllocError, Global};
 use std::sync::Arc;
-use std::test::Fail;
-use xt_base::names::Block;
 use xt_dev::gates::{Flag, GateHome, GateLog, Meeting};
-use xt_dev::home::HomeDevice;
-use xt_dev::log::LogDevice;
 use xt_dev::mem_home::MemHome;
 use xt_dev::mem_log::MemLog;
 
@@ -30,35 +26,37 @@ fn meeting(alloc: Global) -> Result<(Arc<Flag, Global>, Arc<Flag, Global>, Meeti
 
 /// An append waits in vain and fails, and says that it was there; once the flag is up the next is handed on.
 #[test]
-fn log_at_a_gate(rt: HostRuntime) -> Result<(), Fail> {
+fn log_at_a_gate(rt: HostRuntime) -> Result<(), AllocError> {
+    const SHUT: &[LogCall] = &[(AB, false)];
+    const OPEN: &[LogCall] = &[(CDE, true), (SYNC, true)];
     const CALLS: &[LogCall] = &[(AB, false), (CDE, true), (SYNC, true)];
-    let alloc = rt.alloc();
-    let (reached, awaited, meeting) = meeting(alloc)?;
-    let mut log = GateLog::new(alloc, MemLog::new(alloc), meeting);
-    assert!(rt; !reached.is_raised());
-    assert!(rt; append_through(&mut log, b"ab").is_err() && reached.is_raised());
+    let (reached, awaited, meeting) = meeting(rt.alloc())?;
+    let mut log = GateLog::new(rt.alloc(), MemLog::new(rt.alloc()), meeting);
+    assert!(rt; !reached.is_raised() && log_answers(&mut log, SHUT) && reached.is_raised());
     awaited.raise();
-    assert!(rt; append_through(&mut log, b"cde").is_ok() && log.sync().is_ok());
-    assert!(rt; log_tells(log.taken(), CALLS) && count(log.device.taken()) == Some(2));
+    assert!(rt; log_answers(&mut log, OPEN) && log_tells(log.taken(), CALLS));
+    assert!(rt; count(log.device.taken()) == Some(2));
     Ok(())
 }
 
 /// A read waits in vain and fails; a write and a sync wait for nothing. Once the flag is up a read gives what was written.
 #[test]
-fn home_at_a_gate(rt: HostRuntime) -> Result<(), Fail> {
+fn home_at_a_gate(rt: HostRuntime) -> Result<(), AllocError> {
+    const SHUT: &[Told] = &[Told::Unread(7)];
+    const OTHERS: &[Told] = &[Told::Write(7, Some(3), true), Told::Sync(true)];
+    const OPEN: &[Told] = &[Told::Read(7, Some(3))];
     const CALLS: &[Told] = &[
         Told::Unread(7),
         Told::Write(7, Some(3), true),
         Told::Sync(true),
         Told::Read(7, Some(3)),
     ];
-    let alloc = rt.alloc();
-    let (reached, awaited, meeting) = meeting(alloc)?;
-    let mut home = GateHome::new(alloc, MemHome::new(alloc), meeting);
-    assert!(rt; first_byte(&mut home, Block(7)).is_err() && reached.is_raised());
-    assert!(rt; home.write(Block(7), &[3; 4096]).is_ok() && home.sync().is_ok());
+    let (reached, awaited, meeting) = meeting(rt.alloc())?;
+    let mut home = GateHome::new(rt.alloc(), MemHome::new(rt.alloc()), meeting);
+    assert!(rt; home_answers(&mut home, SHUT) && reached.is_raised());
+    assert!(rt; home_answers(&mut home, OTHERS));
     awaited.raise();
-    assert!(rt; first_byte(&mut home, Block(7)) == Ok(3));
-    assert!(rt; home_tells(home.taken(), CALLS) && count(home.device.taken()) == Some(3));
+    assert!(rt; home_answers(&mut home, OPEN) && home_tells(home.taken(), CALLS));
+    assert!(rt; count(home.device.taken()) == Some(3));
     Ok(())
 }
