@@ -10,7 +10,7 @@ use xt_base::sizes::{BLOCK_BYTES, OPEN_TRANSACTIONS};
 use xt_base::steps::{Errno, Reply, Request, Step};
 
 /// How many blocks a home device has, so few that transactions meet.
-pub const BLOCKS: u32 = 90;
+pub const BLOCKS: u8 = 90;
 
 /// The units of log space that are asked, from too few to more than a small log has.
 const UNITS: [u32; 6] = [100, 700, 5_000, 9_000, 20_000, 70_000];
@@ -29,6 +29,7 @@ struct Lock {
 #[derive(Drop)]
 pub struct Guess {
     slot: Slot,
+    blocks: u8,
     life: Life,
     open: Vec<TransNo>,
     /// Blocks that open transactions have.
@@ -44,10 +45,11 @@ pub struct Guess {
 }
 
 impl Guess {
-    /// Of a slot that was never mounted.
-    pub fn new(alloc: Global, slot: Slot) -> Result<Self, AllocError> {
+    /// Of a slot that was never mounted, over a home device of so many blocks.
+    pub fn new(alloc: Global, slot: Slot, blocks: u8) -> Result<Self, AllocError> {
         Ok(Guess {
             slot,
+            blocks,
             life: Life(0),
             open: Vec::with_capacity(alloc, OPEN_TRANSACTIONS)?,
             locked: Vec::with_capacity(alloc, REMEMBERED)?,
@@ -126,10 +128,15 @@ impl Guess {
         }
     }
 
+    /// A block, now and then one behind the last.
+    fn any_block(&self, dice: &mut Dice) -> Block {
+        Block(u64::from(dice.below(u32::from(self.blocks) + 1)))
+    }
+
     /// A request that locks a block.
     fn lock(&self, dice: &mut Dice) -> Request {
         let trans = self.trans(dice);
-        let block = any_block(dice);
+        let block = self.any_block(dice);
         match dice.below(8) {
             0..=3 => Request::Get { trans, block },
             4..=6 => Request::Read { trans, block },
@@ -150,7 +157,7 @@ impl Guess {
         }
         Lock {
             trans: self.trans(dice),
-            block: any_block(dice),
+            block: self.any_block(dice),
         }
     }
 
@@ -162,7 +169,7 @@ impl Guess {
                 return *block;
             }
         }
-        any_block(dice)
+        self.any_block(dice)
     }
 
     /// A request that looks at a block or changes it.
@@ -180,39 +187,7 @@ impl Guess {
                 block: self.held_block(dice),
             },
             21..=23 => Request::Inval { trans, block },
-            _ => self.log(alloc, dice, trans, block)?,
-        })
-    }
-
-    /// A change of some bytes of a block.
-    fn log(
-        &self,
-        alloc: Global,
-        dice: &mut Dice,
-        trans: TransNo,
-        block: Block,
-    ) -> Result<Request, AllocError> {
-        let first = dice.below(BLOCK_BYTES as u32);
-        let most = if dice.is_one_in(8) { 4_096 } else { 300 };
-        let room = BLOCK_BYTES as u32 - first;
-        let count = (dice.below(most) + 1).min(room + dice.below(2)) as usize;
-        let data = if dice.is_one_in(2) {
-            Data::of_repeated(alloc, dice.byte(), count)?
-        } else {
-            let mut bytes = Vec::with_capacity(alloc, count)?;
-            for _ in 0..count {
-                bytes.push(dice.byte())?;
-            }
-            Data::of_vec(alloc, bytes)?
-        };
-        Ok(match data {
-            Some(bytes) => Request::Log {
-                first,
-                trans,
-                block,
-                bytes,
-            },
-            None => Request::Force,
+            _ => log_request(alloc, dice, trans, block)?,
         })
     }
 
@@ -350,11 +325,6 @@ impl Guess {
     }
 }
 
-/// A block, now and then one behind the last.
-fn any_block(dice: &mut Dice) -> Block {
-    Block(u64::from(dice.below(BLOCKS + 1)))
-}
-
 /// A request for a transaction: mostly one that may be granted.
 fn alloc_request(dice: &mut Dice) -> Request {
     let perm = dice.is_one_in(2);
@@ -375,4 +345,35 @@ fn unit(dice: &mut Dice) -> u32 {
         Some(unit) => *unit,
         None => 0,
     }
+}
+
+/// A change of some bytes of a block.
+pub fn log_request(
+    alloc: Global,
+    dice: &mut Dice,
+    trans: TransNo,
+    block: Block,
+) -> Result<Request, AllocError> {
+    let first = dice.below(BLOCK_BYTES as u32);
+    let most = if dice.is_one_in(8) { 4_096 } else { 300 };
+    let room = BLOCK_BYTES as u32 - first;
+    let count = (dice.below(most) + 1).min(room + dice.below(2)) as usize;
+    let data = if dice.is_one_in(2) {
+        Data::of_repeated(alloc, dice.byte(), count)?
+    } else {
+        let mut bytes = Vec::with_capacity(alloc, count)?;
+        for _ in 0..count {
+            bytes.push(dice.byte())?;
+        }
+        Data::of_vec(alloc, bytes)?
+    };
+    Ok(match data {
+        Some(bytes) => Request::Log {
+            first,
+            trans,
+            block,
+            bytes,
+        },
+        None => Request::Force,
+    })
 }

@@ -53,7 +53,7 @@ impl Mind {
         let mut guesses = Vec::with_capacity(alloc, SLOTS)?;
         for index in 0..SLOTS as u8 {
             if let Some(slot) = Slot::new(index) {
-                guesses.push(Guess::new(alloc, slot)?)?;
+                guesses.push(Guess::new(alloc, slot, BLOCKS)?)?;
             }
         }
         Ok(Mind {

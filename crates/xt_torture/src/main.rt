@@ -5,6 +5,9 @@
 //!
 //! `xt_torture bytes VALUES` reads texts of checkpoints cut at each length, and with each byte changed to so many other values, 1 to 255.
 //!
+//! `xt_torture crash SEED CRASHES` runs random steps of one mount over devices that crash: after each of so many crashes the log's texts are laid
+//! over the home device, which must then have what one checkpoint committed, all of it.
+//!
 //! `xt_torture threads SEED HOSTS TURNS` has four threads call the sixteen slots of each host at random, over devices that fail, and runs
 //! the books of all slots again.
 //!
@@ -14,12 +17,18 @@
 #![tactic(auto)]
 
 mod bytes;
+mod crash;
+mod crash_home;
+mod crash_life;
+mod crash_log;
 mod crew;
 mod dice;
 mod guess;
 mod guest;
 mod hunger;
+mod image;
 mod judge;
+mod plain;
 mod refusals;
 mod replay;
 mod round;
@@ -27,8 +36,10 @@ mod row;
 mod served;
 mod simulation;
 mod working;
+mod wreck;
 
 use crate::bytes::try_bytes;
+use crate::crash::try_crashes;
 use crate::crew::{Ended, Plan, try_host};
 use crate::refusals::{Seen, try_row};
 use crate::row::RowFault;
@@ -44,7 +55,7 @@ use std::thread::Threads;
 use xt_cell::reserve::Blanks;
 
 /// The trials.
-const TRIALS: &str = "simulation, bytes, threads, refusals or served";
+const TRIALS: &str = "simulation, bytes, crash, threads, refusals or served";
 
 /// How much each thread of a host does at most, so that no book is folded.
 const MOST_TURNS: u64 = 100_000;
@@ -85,6 +96,25 @@ fn print_bytes<R: Print>(rt: &R, alloc: Global, values: u8) -> Result<ExitCode> 
         tried.texts, tried.whole, tried.cut, tried.fault, tried.different
     )?;
     Ok(status(tried.different))
+}
+
+/// Crashes a mount, and prints what was recovered: the status.
+fn print_crashes<R: Print>(rt: &R, alloc: Global, seed: u64, crashes: u64) -> Result<ExitCode> {
+    let counts = try_crashes(alloc, seed, crashes)?;
+    println!(rt;
+        "crash, seed {seed}: {} crashes of a mount in {} lives, {} steps, {} checkpoints landed, {} blocks written home; {} crashes left a part of a text, {} a whole one that was not safe, {} torn home writes; {} recoveries broken off: {} wrong",
+        counts.crashes,
+        counts.lives,
+        counts.steps,
+        counts.landed,
+        counts.flushed,
+        counts.parts,
+        counts.wholes,
+        counts.torn,
+        counts.again,
+        counts.wrong
+    )?;
+    Ok(status(counts.wrong))
 }
 
 /// Tries hosts with four threads each, and prints what their books tell: the status.
@@ -160,6 +190,11 @@ fn main(rt: HostRuntime) -> Result<ExitCode> {
         "bytes" => {
             let values = number(&words, 2, "VALUES")?.clamp(1, 255) as u8;
             print_bytes(&rt, alloc, values)
+        }
+        "crash" => {
+            let seed = number(&words, 2, "SEED")?;
+            let crashes = number(&words, 3, "CRASHES")?;
+            print_crashes(&rt, alloc, seed, crashes)
         }
         "threads" => {
             let seed = number(&words, 2, "SEED")?;

@@ -52,7 +52,7 @@ impl Round {
         let mut guesses = Vec::with_capacity(alloc, SLOTS)?;
         for index in 0..SLOTS as u8 {
             if let Some(slot) = Slot::new(index) {
-                guesses.push(Guess::new(alloc, slot)?)?;
+                guesses.push(Guess::new(alloc, slot, BLOCKS)?)?;
             }
         }
         Ok(Round {
@@ -263,7 +263,7 @@ impl Round {
         for count in 0..=FLUSH_BLOCKS as u8 {
             let answers = HomeAnswers {
                 count,
-                writes: first(&writes, count),
+                writes: first_answers(&writes, count),
                 sync: sync && count > 0,
             };
             let step = Step::Flush {
@@ -322,7 +322,7 @@ impl Round {
 }
 
 /// The first answers; those behind them stand for no write, and say no.
-fn first(writes: &[bool; FLUSH_BLOCKS], count: u8) -> [bool; FLUSH_BLOCKS] {
+pub fn first_answers(writes: &[bool; FLUSH_BLOCKS], count: u8) -> [bool; FLUSH_BLOCKS] {
     let mut answers = [false; FLUSH_BLOCKS];
     for (place, (answer, write)) in answers.iter_mut().zip(writes).enumerate() {
         *answer = *write && place < usize::from(count);

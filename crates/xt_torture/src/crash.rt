@@ -1,0 +1,27 @@
+//! Crashes of a mount: one life after another, each over what recovery made of the one before.
+
+use crate::crash_life::{CrashCounts, CrashLife};
+use crate::dice::Dice;
+use crate::image::Image;
+use std::alloc::{AllocError, Global};
+
+/// Lives until there were so many crashes: what was counted.
+pub fn try_crashes(alloc: Global, seed: u64, crashes: u64) -> Result<CrashCounts, AllocError> {
+    let mut dice = Dice::new(seed);
+    let mut counts = CrashCounts::default();
+    let mut home = Image::zeros(alloc)?;
+    for _ in 0..crashes {
+        if counts.crashes >= crashes {
+            break;
+        }
+        let mut life = CrashLife::new(alloc, home, counts, &mut dice)?;
+        for _ in 0..u64::MAX {
+            if life.counts.crashes >= crashes || !life.turn(&mut dice)? {
+                break;
+            }
+        }
+        home = life.end_by_crash(&mut dice)?;
+        counts = life.counts;
+    }
+    Ok(counts)
+}
