@@ -1,7 +1,7 @@
 -- The log may lose the texts below the least number on the active list, and where that list is empty all of them.
-use Rattle.std.proofs.Common.{◌≡◌, ◌∙◌, ◌≤◌, ◌∷◌, List, [], ap, arith, false, inl, inr, refl, sym, ℕ}
-use Rattle.std.proofs.lemmas.Bool.{cases_Bool, false_from_ne_true, false≢true, leb-true}
-use Rattle.std.specs.Prelude.{is_some, nat_le}
+use Rattle.std.proofs.Common.{◌≡◌, ◌∙◌, ◌≤◌, ◌∷◌, List, Some, [], ap, arith, false, inl, inr, refl, sym, true, ℕ, ◌+◌}
+use Rattle.std.proofs.lemmas.Bool.{cases_Bool, false_from_ne_true, false≢true, leb-true, lt-leb}
+use Rattle.std.specs.Prelude.{is_none, is_some, nat_le}
 use Rattle.xt_base.proofs.MapLemmas.{some_none}
 use Rattle.xt_base.specs.Maps.{at}
 use Rattle.xt_base.proofs.RisingLemmas.{each_map}
@@ -12,7 +12,8 @@ use Rattle.xt_recovery.proofs.LogLemmas.{from_all, from_first, second_if}
 use Rattle.xt_recovery.proofs.Invariant.{KeepsInvariant}
 use Rattle.xt_recovery.proofs.Matching.{IsIdleLanded, MatchesDisks}
 use Rattle.xt_recovery.proofs.Recoverable.{IsRecoverable}
-use Rattle.xt_recovery.specs.DiskSteps.{Agree, IsTail}
+use Rattle.xt_recovery.specs.Crash.{LogMayGo}
+use Rattle.xt_recovery.specs.DiskSteps.{Agree, IsLogCut, IsTail}
 use Rattle.xt_recovery.specs.Disks.{Disks}
 use Rattle.xt_recovery.specs.Log.{CheckpointText, Image, is_cancel, logged_chunk, texts_from}
 
@@ -73,3 +74,22 @@ home_is_landed d l bare r b k small =
       | inl same ↦ same
       | inr logged ↦ some_none logged.0 (d.home b k ≡ d.landed b k) (sym logged.1 ∙ ap (at b) bare)
     ]
+
+-- ---- a log of no use
+-- a number that no text of a log has reached
+past : List CheckpointText → ℕ
+past [] = 0
+past (w ∷ ws) = w.number + 1
+
+none_past : (log : List CheckpointText) → texts_from (past log) log ≡ []
+unfolding past
+none_past [] = refl
+none_past (w ∷ ws) = from_less (w.number + 1) w ws (lt-leb (w.number + 1) w.number (omega (arith)))
+
+-- of an empty active list any number is a tail
+any_tail : (n : ℕ) (l : Items) → l.ail ≡ [] → IsTail n l
+any_tail n l empty b m there = some_none m (n ≤ m) (sym there ∙ ap (at b) empty)
+
+-- where no block waits to be written home, all texts may go
+pub log_may_go : LogMayGo
+log_may_go m d live empty = inr (past d.log, live, any_tail (past d.log) m.items empty, ap (λ ws. record d { log = ws }) (sym (none_past d.log)))

@@ -1,12 +1,12 @@
 -- What a crash may leave of the disks of a slot, and what recovery is to make of it.
-use Rattle.std.specs.Prelude.{List, None, Option, Some, [], length, true, ℕ, ◌≡◌, ◌⊎◌}
+use Rattle.std.specs.Prelude.{List, None, Option, Some, [], is_none, length, true, ℕ, ◌≡◌, ◌⊎◌}
 use Rattle.xt_base.specs.Alone.{after}
 use Rattle.xt_base.specs.Jobs.{flush_plan}
 use Rattle.xt_base.specs.Maps.{has}
 use Rattle.xt_base.specs.State.{Flight, Lone, State, empty}
 use Rattle.xt_base.specs.Text.{chunk}
 use Rattle.xt_base.specs.declared.steps.Step.{Step}
-use Rattle.xt_recovery.specs.DiskSteps.{Agree, AllSuit, AreDiskSteps, IsLogAfterCrash}
+use Rattle.xt_recovery.specs.DiskSteps.{Agree, AllSuit, AreDiskSteps, IsLogAfterCrash, IsLogCut}
 use Rattle.xt_recovery.specs.Disks.{Disks, content_of, flight_of, flight_text, landed_image, new_disks}
 use Rattle.xt_recovery.specs.Log.{CheckpointText, Image, recovered_image}
 
@@ -36,6 +36,10 @@ Recovers = (steps : List Step) → AllSuit steps empty → (start : Image) (d : 
 abbrev pub HomeHasLanded : Type 0
 HomeHasLanded = (steps : List Step) → AllSuit steps empty → (start : Image) (d : Disks) → AreDiskSteps steps empty (new_disks start) d
     → (m : State) → (after steps empty).mounted ≡ Some m → m.items.ail ≡ [] → Agree d.home d.landed
+
+-- between two steps the log of a live mount of which no block waits to be written home may lose all its texts
+abbrev pub LogMayGo : Type 0
+LogMayGo = (m : State) (d : Disks) → is_none m.shut ≡ true → m.items.ail ≡ [] → IsLogCut (Some m) d (record d { log = [] })
 
 -- over any home image there are steps, which suit, after which one checkpoint has landed
 abbrev pub Lands : Type 0

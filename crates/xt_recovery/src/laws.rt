@@ -1,6 +1,6 @@
 //! Laws of recovery. Each function does nothing: its clause is the law.
 
-ghost use Rattle.xt_recovery.specs.Crash.{HomeHasLanded, Lands, Recovers};
+ghost use Rattle.xt_recovery.specs.Crash.{HomeHasLanded, Lands, LogMayGo, Recovers};
 
 /// After any steps of a mount, at every crash, the texts of its log laid over its home image give what was committed at the begin of the last
 /// landed checkpoint, or of the one in flight, or of one whose end failed: all of it or none.
@@ -11,6 +11,11 @@ pub fn recovers()
 /// Where no block waits to be written home, the home device has all that landed, and the log is not needed.
 pub fn home_has_landed()
     ensures { HomeHasLanded }
+{}
+
+/// Where no block waits to be written home, the log of a live mount may be emptied between two steps: `recovers` covers that.
+pub fn log_may_go()
+    ensures { LogMayGo }
 {}
 
 /// The premises can be met: there are steps after which a checkpoint has landed.
