@@ -17,9 +17,9 @@ ghost use Rattle.xt_cell.specs.Events.{IsBooked};
 ghost use Rattle.xt_cell.specs.Facts.{has_log, is_flown_by_job, is_last_post};
 ghost use Rattle.xt_cell.specs.HostSeats.{IsSameSeat, receipt};
 ghost use Rattle.xt_cell.specs.declared.running.EndFault.TheVariants.{Memory as NoRoom, Stranger as OfNoFlight};
-ghost use Rattle.xt_dev.specs.Devices.{Tells};
+ghost use Rattle.xt_dev.specs.Devices.{IsCut, Tells};
 ghost use Rattle.xt_dev.specs.Flushes.{failed_answers};
-ghost use Rattle.xt_mount.specs.Slots.{pieces_in, plan_in};
+ghost use Rattle.xt_mount.specs.Slots.{pieces_in, plan_in, spent_in};
 ghost use Rattle.xt_queue.specs.Names.{last_of, unposted};
 ghost use Rattle.xt_queue.specs.Boards.{Rises};
 
@@ -38,6 +38,7 @@ use std::sync::Wait;
 use xt_base::names::{JobName, Worker};
 use xt_base::steps::{Errno, HomeAnswers, LogAnswers, Reply};
 use xt_dev::home::HomeDevice;
+use xt_dev::log::LogDevice;
 use xt_mount::mount::Stage;
 use xt_queue::board::Board;
 
@@ -152,7 +153,8 @@ impl<H: House, const S: u8> SlotCell<H, S> {
         Ok(reply)
     }
 
-    /// Runs an outstanding flush: offers the home device what its plan names, and books what it answered. ENOMEM where memory is
+    /// Runs an outstanding flush: offers the home device what its plan names, and books what it answered. Where all that landed is
+    /// home then, the log device is told that it may be cut; nothing else happens to it. ENOMEM where memory is
     /// refused: then no device was asked and nothing was booked, and the job waits.
     pub fn flush<R: Wait>(
         &mut self,
@@ -168,11 +170,13 @@ impl<H: House, const S: u8> SlotCell<H, S> {
         requires board { seat.old.board.board ≡ board.now }
         requires kind { is_ckpt name.now.kind ≡ false }
         requires waiting { mount_is (is_waiting name.now) self.old.book.state.mounted ≡ true }
-        ensures refused { is_no_memory result ≡ true → IsSameBook self.old.book self.new.book × IsSameSeat seat.old seat.new × (self.new.home ≡ self.old.home) }
+        ensures refused { is_no_memory result ≡ true → IsSameBook self.old.book self.new.book × IsSameSeat seat.old seat.new × (self.new.home ≡ self.old.home) × (self.new.log ≡ self.old.log) }
         ensures booked { is_no_memory result ≡ false → (answers : AnAnswer) × IsEvent S (AStep.Flush worker name.now answers) result self.old.book self.new.book seat.old seat.new self.old.poster self.new.poster × IfSome self.old.home (λ h. IfSome self.new.home (λ k. Tells (home_tells h) (home_taken h) (flush_calls answers self.old.book.state.mounted) (home_tells k) (home_taken k))) }
         ensures failures { is_no_memory result ≡ false → (answers : AnAnswer) × (number : ℕ) × (seat.new.receipts ≡ seat.old.receipts ++ receipt S number (AStep.Flush worker name.now answers) result ∷ []) × IfSome self.old.home (λ h. IfSome self.new.home (λ k. home_failures k ≡ home_failures h + failed_answers answers)) }
         ensures counted { is_no_memory result ≡ false → ⟦<Shares<H> as Counts<H, S>>⟧.counts seat.new.counts ≡ counted S (⟦<Shares<H> as Counts<H, S>>⟧.counts seat.old.counts) }
-        ensures log { self.new.log ≡ self.old.log }
+        ensures log_needed { spent_in self.new.book.state.mounted ≡ None → self.new.log ≡ self.old.log }
+        ensures log_kept { IfSome self.old.log (λ d. IfSome self.new.log (λ e. (log_tells e ≡ log_tells d) × (log_taken e ≡ log_taken d) × (log_failures e ≡ log_failures d))) }
+        ensures log_cut { IfSome (spent_in self.new.book.state.mounted) (λ size. IfSome self.old.log (λ d. IfSome self.new.log (λ e. IsCut size (log_taken d) (log_cuts d) (log_cuts e)))) }
         ensures shown { is_no_memory result ≡ false → IsShown S (word_shown false (reason_of self.old.book.state.mounted) self.new.book.state.mounted) seat.old.board seat.new.board }
         ensures board { seat.new.board.board ≡ seat.old.board.board }
         ensures rises { Rises seat.old.board.seen seat.new.board.seen }
@@ -183,6 +187,7 @@ impl<H: House, const S: u8> SlotCell<H, S> {
             book,
             poster,
             home,
+            log,
             ..
         } = self;
         let Ok(()) = make_room(book, seat) else {
@@ -191,6 +196,7 @@ impl<H: House, const S: u8> SlotCell<H, S> {
         let before = book.slot().shut();
         let answers = offered(book, home);
         let reply = serve_flush(rt, book, poster, seat, worker, name, &answers);
+        cut_spent(book, log);
         show_shut(book, seat, board, false, before);
         reply
     }
@@ -380,4 +386,19 @@ where
     let reply = book.flush(seat, worker, name, answers);
     post_both(rt, book, poster, seat.caller());
     reply
+}
+
+/// Tells a log that it may be cut, where nothing on it is of use any more.
+fn cut_spent<H: House, const S: u8>(
+    book: &SlotBook<H, S>,
+    log: &mut Option<Box<dyn LogDevice + Send>>,
+)
+    ensures needed { spent_in book.now.state.mounted ≡ None → log.new ≡ log.old }
+    ensures hand { is_some log.new ≡ is_some log.old }
+    ensures offered { IfSome log.old (λ d. IfSome log.new (λ e. (log_tells e ≡ log_tells d) × (log_taken e ≡ log_taken d) × (log_failures e ≡ log_failures d))) }
+    ensures cut { IfSome (spent_in book.now.state.mounted) (λ size. IfSome log.old (λ d. IfSome log.new (λ e. IsCut size (log_taken d) (log_cuts d) (log_cuts e)))) }
+{
+    if let (Some(size), Some(log)) = (book.slot().spent_log(), log) {
+        log.cut(size);
+    }
 }

@@ -3,7 +3,7 @@
 ghost use Rattle.std.specs.Prelude.{◌≡◌, ◌≢◌, ◌≤◌, ◌<◌, ◌-◌, ◌+◌, ◌==◌, ◌∷◌, [], true, length, IfSome, IsSomeAnd, IsErr, is_ok, if◌then◌else◌};
 ghost use Rattle.xt_base.specs.declared.steps.HomeOffer.{HomeOffer};
 ghost use Rattle.xt_base.specs.declared.steps.LogOffer.{LogOffer};
-ghost use Rattle.xt_dev.specs.Devices.{Tells, failures_after};
+ghost use Rattle.xt_dev.specs.Devices.{IsCut, Tells, failures_after};
 ghost use Rattle.xt_dev.specs.declared.call.HomeCall.{HomeCall};
 
 use crate::call::HomeCall;
@@ -143,6 +143,18 @@ impl<D: LogDevice> LogDevice for FailAt<D, LogOffer> {
         let ok = answer.is_ok();
         self.kept.note(Some(LogOffer::Sync { ok }));
         answer
+    }
+
+    /// It is handed on, and counts as no call.
+    fn cut(&mut self, size: u32)
+        ensures tells { ⟦<FailAt<D, LogOffer> as LogDevice>⟧.log_tells self.new ≡ ⟦<FailAt<D, LogOffer> as LogDevice>⟧.log_tells self.old }
+        ensures taken { ⟦<FailAt<D, LogOffer> as LogDevice>⟧.log_taken self.new ≡ ⟦<FailAt<D, LogOffer> as LogDevice>⟧.log_taken self.old }
+        ensures failures { ⟦<FailAt<D, LogOffer> as LogDevice>⟧.log_failures self.new ≡ ⟦<FailAt<D, LogOffer> as LogDevice>⟧.log_failures self.old }
+        ensures cuts { IsCut size (⟦<FailAt<D, LogOffer> as LogDevice>⟧.log_taken self.old) (⟦<FailAt<D, LogOffer> as LogDevice>⟧.log_cuts self.old) (⟦<FailAt<D, LogOffer> as LogDevice>⟧.log_cuts self.new) }
+        ensures left { self.new.left ≡ self.old.left }
+        ensures handed_on { IsCut size (D.log_taken self.old.device) (D.log_cuts self.old.device) (D.log_cuts self.new.device) }
+    {
+        self.device.cut(size);
     }
 }
 

@@ -138,6 +138,10 @@ impl<D: LogDevice> LogDevice for GateLog<D> {
         self.kept.note(Some(LogOffer::Sync { ok }));
         answer
     }
+
+    fn cut(&mut self, size: u32) {
+        self.device.cut(size);
+    }
 }
 
 /// A home device over another one, whose reads wait at a gate. A read for which the gate waits in vain fails and is not handed

@@ -3,6 +3,7 @@
 
 pub mod call;
 mod copies;
+pub mod cut;
 pub mod fail_at;
 mod failures;
 pub mod fault;
@@ -17,6 +18,7 @@ pub mod offer_home;
 mod record;
 
 pub use call::HomeCall;
+pub use cut::LogCut;
 pub use fail_at::FailAt;
 pub use fault::{DevFault, FileFault};
 pub use files::{FileHome, FileLog};

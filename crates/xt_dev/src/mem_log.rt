@@ -3,6 +3,7 @@
 ghost use Rattle.std.specs.Prelude.{◌≡◌, [], true, IfSome, IsSomeAnd};
 
 use crate::copies::piece_offer;
+use crate::cut::LogCut;
 use crate::fault::DevFault;
 use crate::log::LogDevice;
 use crate::record::Record;
@@ -10,11 +11,13 @@ use std::alloc::Global;
 use xt_base::steps::LogOffer;
 
 /// A log in memory. It never fails, and tells what it was offered until a record finds no
-/// memory; then it tells no more, and answers as before.
+/// memory; then it tells no more, and answers as before. A cut leaves what it has, and is told too; one for which there is no
+/// memory is left undone.
 #[derive(Drop)]
 pub struct MemLog {
     alloc: Global,
     kept: Record<LogOffer>,
+    cuts: Vec<LogCut>,
 }
 
 impl MemLog {
@@ -23,10 +26,12 @@ impl MemLog {
         ensures tells { ⟦<MemLog as LogDevice>⟧.log_tells result ≡ true }
         ensures taken { ⟦<MemLog as LogDevice>⟧.log_taken result ≡ [] }
         ensures failures { ⟦<MemLog as LogDevice>⟧.log_failures result ≡ 0 }
+        ensures cuts { ⟦<MemLog as LogDevice>⟧.log_cuts result ≡ [] }
     {
         MemLog {
             alloc,
             kept: Record::new(alloc),
+            cuts: Vec::new(alloc),
         }
     }
 
@@ -37,6 +42,13 @@ impl MemLog {
     {
         self.kept.told()
     }
+
+    /// The cuts that it made, in order.
+    pub fn cuts(&self) -> &[LogCut]
+        ensures { result.now ≡ ⟦<MemLog as LogDevice>⟧.log_cuts self.now }
+    {
+        &self.cuts
+    }
 }
 
 impl LogDevice for MemLog {
@@ -45,6 +57,8 @@ impl LogDevice for MemLog {
     ghost log_taken = { λ d. d.kept.calls.items };
 
     ghost log_failures = { λ _. 0 };
+
+    ghost log_cuts = { λ d. d.cuts.items };
 
     fn append(&mut self, piece: &[u8]) -> Result<(), DevFault> {
         let call = piece_offer(self.alloc, piece, true);
@@ -55,5 +69,10 @@ impl LogDevice for MemLog {
     fn sync(&mut self) -> Result<(), DevFault> {
         self.kept.note(Some(LogOffer::Sync { ok: true }));
         Ok(())
+    }
+
+    fn cut(&mut self, size: u32) {
+        let behind = self.kept.calls.len();
+        let _told = self.cuts.push(LogCut { size, behind });
     }
 }

@@ -1,5 +1,5 @@
 -- What a mount owes, and what is asked of its requests.
-use Rattle.std.specs.Prelude.{ℕ, ◌+◌, ◌==◌, ◌||◌, List, [], ◌∷◌, Option, None, Some, Bool, true, false, nat_lt, if◌then◌else◌}
+use Rattle.std.specs.Prelude.{ℕ, ◌+◌, ◌==◌, ◌||◌, ◌&&◌, List, [], ◌∷◌, Option, None, Some, Bool, true, false, is_none, length, nat_lt, if◌then◌else◌}
 use Rattle.xt_base.specs.Jobs.{is_owed}
 use Rattle.xt_base.specs.State.{State}
 use Rattle.xt_base.specs.declared.names.JobKind.{JobKind}
@@ -35,3 +35,7 @@ owed_name kind s = if is_owed kind s then Some (record { slot = s.slot; life = s
 abbrev pub read_block : Request → Option ℕ
 read_block (Request.Read trans block) = Some block
 read_block other = None
+
+-- the size of a log whose texts are of no use any more: that of a live mount with no checkpoint in flight, and with no block that waits to be written home
+abbrev pub spent_log : State → Option ℕ
+spent_log s = if is_none s.shut && is_none s.items.flight && (length s.items.ail == 0) then Some s.log_bytes else None

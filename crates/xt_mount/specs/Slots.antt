@@ -18,7 +18,7 @@ use Rattle.xt_base.specs.declared.steps.Step.{Step}
 use Rattle.xt_frames.specs.Shares.{no_contents}
 use Rattle.xt_frames.specs.declared.share.FrameShare.{FrameShare}
 use Rattle.xt_mount.specs.Accounts.{IsUnchanged}
-use Rattle.xt_mount.specs.Come.{owed_name}
+use Rattle.xt_mount.specs.Come.{owed_name, spent_log}
 use Rattle.xt_mount.specs.declared.mount.Stage.{Stage}
 use Rattle.xt_mount.specs.declared.mount.Stage.TheVariants.{Begun, Waiting}
 
@@ -97,6 +97,11 @@ plan_in (Some m) = flush_plan m
 abbrev pub contents_in : Option State → List (ℕ × List ℕ)
 contents_in None = []
 contents_in (Some m) = m.frames.committed
+
+-- the size of its log, where the texts on it are of no use any more
+abbrev pub spent_in : Option State → Option ℕ
+spent_in None = None
+spent_in (Some m) = spent_log m
 
 -- no open transaction of its mount has changed a block
 abbrev pub IsUnchangedIn : ℕ → Option State → Type 0

@@ -4,6 +4,7 @@ ghost use Rattle.std.specs.Prelude.{◌≡◌, [], true};
 ghost use Rattle.xt_base.specs.Calls.{gives, push as push_step};
 ghost use Rattle.xt_base.specs.Jobs.{fits_plan, flush as flush_step, flush_plan, flushed as flushed_step, renewed, unflushed};
 ghost use Rattle.xt_base.specs.Sound.{IsSound};
+ghost use Rattle.xt_mount.specs.Come.{spent_log};
 ghost use Rattle.xt_mount.specs.Machines.{state_of};
 
 use crate::machine::Machine;
@@ -78,5 +79,17 @@ impl Machine {
             return Reply::Nothing;
         }
         self.flushed(&plan, answers)
+    }
+
+    /// How many bytes the log has, where the texts on it are of no use any more.
+    pub fn spent_log(&self) -> Option<u32>
+        ensures { result ≡ spent_log (state_of self.now) }
+    {
+        let accounts = &self.accounts;
+        if !self.is_shut() && !accounts.is_flying() && accounts.ail().is_empty() {
+            Some(accounts.log_bytes())
+        } else {
+            None
+        }
     }
 }

@@ -11,7 +11,7 @@ ghost use Rattle.xt_base.specs.State.{mount_of};
 ghost use Rattle.xt_base.specs.declared.steps.Errno.TheVariants.{NoMemory};
 ghost use Rattle.xt_frames.specs.Shares.{no_contents};
 ghost use Rattle.xt_mount.specs.Accounts.{IsUnchanged};
-ghost use Rattle.xt_mount.specs.Come.{new_refusals, owed_name, read_block};
+ghost use Rattle.xt_mount.specs.Come.{new_refusals, owed_name, read_block, spent_log as spent_log_of};
 ghost use Rattle.xt_mount.specs.Machines.{IsSameMount};
 ghost use Rattle.xt_mount.specs.Stages.{stage_of};
 
@@ -198,6 +198,14 @@ impl Mount {
         ensures { result ≡ owed_name kind self.now }
     {
         self.machine.owed(kind)
+    }
+
+    /// How many bytes the log has, where the texts on it are of no use any more: the mount is live, no checkpoint is in flight, and the
+    /// active list is empty, so all that landed is home. None where they may be needed.
+    pub fn spent_log(&self) -> Option<u32>
+        ensures { result ≡ spent_log_of self.now }
+    {
+        self.machine.spent_log()
     }
 
     /// A job that is owed was posted: it is outstanding until its end, its flush, or a begin that finds nothing to do.

@@ -13,7 +13,7 @@ ghost use Rattle.xt_base.specs.declared.steps.Reply.{Reply as AReply};
 ghost use Rattle.xt_base.specs.declared.steps.Step.{Step as AStep};
 ghost use Rattle.xt_frames.specs.Shares.{no_contents};
 ghost use Rattle.xt_mount.specs.Come.{new_refusals, read_block};
-ghost use Rattle.xt_mount.specs.Slots.{contents_in, form_in, life_in, owed_in, pieces_in, plan_in, stage_in, share_left, unused, IsAnsweredUnlessMemory, IsServed, IsServedUnlessMemory, IsUnchangedIn};
+ghost use Rattle.xt_mount.specs.Slots.{contents_in, form_in, life_in, owed_in, pieces_in, plan_in, spent_in, stage_in, share_left, unused, IsAnsweredUnlessMemory, IsServed, IsServedUnlessMemory, IsUnchangedIn};
 
 use crate::mount::{Mount, Stage};
 use crate::state::SlotState;
@@ -143,6 +143,16 @@ impl MountSlot {
     {
         match &self.mount {
             Some(mount) => mount.owed(kind),
+            None => None,
+        }
+    }
+
+    /// How many bytes the log has, where the texts on it are of no use any more; None where they may be needed, or the slot is empty.
+    pub fn spent_log(&self) -> Option<u32>
+        ensures { result ≡ spent_in self.now.mounted }
+    {
+        match &self.mount {
+            Some(mount) => mount.spent_log(),
             None => None,
         }
     }

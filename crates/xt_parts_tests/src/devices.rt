@@ -13,6 +13,7 @@ use bytes::Bytes;
 use std::alloc::Global;
 use xt_base::names::Block;
 use xt_base::steps::{HomeAnswers, HomeOffer, LogAnswers, LogOffer};
+use xt_dev::LogCut;
 use xt_dev::call::HomeCall;
 use xt_dev::fail_at::FailAt;
 use xt_dev::fault::DevFault;
@@ -213,6 +214,20 @@ fn log_in_memory(rt: HostRuntime) {
     const CALLS: &[LogCall] = &[(AB, true), (SYNC, true), (EMPTY, true)];
     let mut log = MemLog::new(rt.alloc());
     assert!(rt; log_answers(&mut log, CALLS) && log_tells(log.taken(), CALLS));
+}
+
+#[test]
+fn cut_is_told_and_handed_on(rt: HostRuntime) {
+    const CALLS: &[LogCall] = &[(AB, true), (SYNC, true)];
+    const BEHIND: &[LogCall] = &[(CDE, true)];
+    const CUTS: &[LogCut] = &[LogCut { size: 7, behind: 2 }, LogCut { size: 9, behind: 3 }];
+    let alloc = rt.alloc();
+    let mut log = FailAt::over_log(alloc, MemLog::new(alloc), 9);
+    assert!(rt; log_answers(&mut log, CALLS));
+    log.cut(7);
+    assert!(rt; log_answers(&mut log, BEHIND));
+    log.cut(9);
+    assert!(rt; log.device.cuts() == CUTS && log.left == 6 && count(log.taken()) == Some(3));
 }
 
 #[test]
