@@ -159,7 +159,7 @@ fn make_ready(rt: &HostRuntime, options: Options) -> Result<Next, ServeFault> {
     if options.recovers {
         recover_volumes(rt, alloc, &options.volumes)?;
     }
-    let opened = open(rt, alloc, &options.volumes)?;
+    let opened = open(rt, alloc, &options.volumes, options.logs)?;
     let orders = Orders {
         listener,
         port,
@@ -169,7 +169,7 @@ fn make_ready(rt: &HostRuntime, options: Options) -> Result<Next, ServeFault> {
     Ok(Next::Serve(Ready {
         orders,
         opened,
-        cuts_logs: options.cuts_logs,
+        cuts_logs: options.logs.are_cut,
         volumes: options.volumes,
         held,
     }))

@@ -3,6 +3,7 @@
 pub mod ending;
 pub mod fault;
 pub mod files;
+pub mod growth;
 pub mod holding;
 pub mod options;
 pub mod running;

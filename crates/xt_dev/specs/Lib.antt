@@ -1,2 +1,4 @@
 pub mod Devices
 pub mod Flushes
+pub mod Tails
+pub mod Doubting

@@ -9,8 +9,7 @@ use crate::terminal;
 use std::alloc::Global;
 use std::fs::File;
 use std::io::{self, BufWriter};
-use xt_dev::fault::FileFault;
-use xt_dev::files::FileHome;
+use xt_dev::{FileFault, FileHome};
 use xt_offline::progress::Watched;
 use xt_recover::command::run;
 
@@ -35,7 +34,7 @@ fn open_log(rt: &HostRuntime, name: &str, is_cut: bool) -> io::Result<(File, Log
 /// Opens what a crash left of a volume. Its home device must be there: a log is laid over the one that it was written with.
 pub fn open_left(rt: &HostRuntime, alloc: Global, asked: Asked) -> Result<Left, ServeFault> {
     look_for(rt, alloc, asked.home)?;
-    let home = match FileHome::open(rt, asked.home) {
+    let home = match FileHome::open(rt, alloc, asked.home) {
         Ok(home) => home,
         Err(found) => return Err(fault(alloc, asked.home, found)),
     };

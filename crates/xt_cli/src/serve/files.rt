@@ -1,13 +1,13 @@
 //! The files of volumes, looked at before any is made, and opened as devices.
 
 use crate::serve::fault::ServeFault;
+use crate::serve::growth::GrowingLog;
 use std::alloc::Global;
 use std::fs;
 use std::io::{self, ErrorKind};
 use std::path::{Path, PathBuf};
 use xt_base::names::Slot;
-use xt_dev::fault::FileFault;
-use xt_dev::files::{FileHome, FileLog};
+use xt_dev::{FileFault, FileHome, FileLog};
 use xt_volumes::Volume;
 
 /// A volume whose files are open.
@@ -17,7 +17,16 @@ pub struct Opened {
     pub log_bytes: u32,
     pub blocks: u64,
     pub home: FileHome,
-    pub log: FileLog,
+    pub log: GrowingLog,
+}
+
+/// How the logs of volumes are kept.
+#[derive(Clone, Copy, Debug)]
+pub struct LogRules {
+    /// Whether they are emptied where they are of no use any more.
+    pub are_cut: bool,
+    /// Whether the end of each text waits until what is before it is safe.
+    pub have_barrier: bool,
 }
 
 /// A fault of a file, with its name.
@@ -118,13 +127,30 @@ pub fn look_for(rt: &HostRuntime, alloc: Global, name: &str) -> Result<(), Serve
     }
 }
 
+/// Opens the log of a volume.
+fn open_log(rt: &HostRuntime, volume: &Volume, rules: LogRules) -> Result<GrowingLog, FileFault> {
+    let mut log = FileLog::open(rt, volume.log.as_str())?;
+    if rules.are_cut {
+        log = log.emptied_by_cuts();
+    }
+    if rules.have_barrier {
+        log = log.with_barrier();
+    }
+    Ok(GrowingLog::new(log, volume.slot, rt.stderr()))
+}
+
 /// Opens the files of a volume.
-fn open_one(rt: &HostRuntime, alloc: Global, volume: &Volume) -> Result<Opened, ServeFault> {
-    let home = match FileHome::open(rt, volume.home.as_str()) {
+fn open_one(
+    rt: &HostRuntime,
+    alloc: Global,
+    volume: &Volume,
+    rules: LogRules,
+) -> Result<Opened, ServeFault> {
+    let home = match FileHome::open(rt, alloc, volume.home.as_str()) {
         Ok(home) => home,
         Err(found) => return Err(fault(alloc, volume.home.as_str(), found)),
     };
-    let log = match FileLog::open(rt, volume.log.as_str()) {
+    let log = match open_log(rt, volume, rules) {
         Ok(log) => log,
         Err(found) => return Err(fault(alloc, volume.log.as_str(), found)),
     };
@@ -142,10 +168,11 @@ pub fn open(
     rt: &HostRuntime,
     alloc: Global,
     volumes: &[Volume],
+    rules: LogRules,
 ) -> Result<Vec<Opened>, ServeFault> {
     let mut opened = Vec::new(alloc);
     for volume in volumes {
-        opened.push(open_one(rt, alloc, volume)?)?;
+        opened.push(open_one(rt, alloc, volume, rules)?)?;
     }
     Ok(opened)
 }

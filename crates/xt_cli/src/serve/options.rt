@@ -1,6 +1,7 @@
 //! What the command line says of a service.
 
 use crate::serve::fault::ServeFault;
+use crate::serve::files::LogRules;
 use clap::builder::ValueParser;
 use clap::{Arg, ArgAction, ArgMatches, Command};
 use std::alloc::{AllocError, Global};
@@ -22,8 +23,8 @@ pub struct Options {
     pub sessions: u32,
     /// Whether volumes are recovered from logs that are not empty.
     pub recovers: bool,
-    /// Whether logs that are of no use any more are emptied at the end.
-    pub cuts_logs: bool,
+    /// How the logs are kept.
+    pub logs: LogRules,
     /// The volumes, ascending by slot.
     pub volumes: Vec<Volume>,
 }
@@ -88,7 +89,14 @@ pub fn serve_command<'a>(alloc: Global) -> Result<Command<'a>, AllocError> {
     let cut_logs = flag(
         alloc,
         "cut-logs",
-        "Empties at the end the log of each volume that is home: it was live, and is unmounted",
+        "Empties the log of a volume where all that it logs is home: while it is mounted once it has four times LOGBYTES, and at the end \
+if it was unmounted live",
+    );
+    let barrier = flag(
+        alloc,
+        "barrier",
+        "Writes the last 16 bytes of a checkpoint only once those before them are synced, for file systems that may leave other bytes \
+in what was not synced",
     );
     let volume = Arg::new(alloc, "VOL")
         .help(VOLUME)
@@ -100,6 +108,7 @@ pub fn serve_command<'a>(alloc: Global) -> Result<Command<'a>, AllocError> {
     with_numbers(alloc, serve)?
         .arg(recover)?
         .arg(cut_logs)?
+        .arg(barrier)?
         .arg(volume)
 }
 
@@ -115,7 +124,10 @@ impl Options {
             workers: usize::from(serve.get_one::<u8>("workers").unwrap_or(1)),
             sessions: serve.get_one("sessions").unwrap_or(1),
             recovers: serve.get_flag("recover"),
-            cuts_logs: serve.get_flag("cut-logs"),
+            logs: LogRules {
+                are_cut: serve.get_flag("cut-logs"),
+                have_barrier: serve.get_flag("barrier"),
+            },
             volumes: volumes(alloc, words)?,
         }))
     }

@@ -1,15 +1,13 @@
 //! Devices over files, of which no clause can say what they have.
 
-use crate::devices::{AB, ALL_TAKEN, EMPTY, LogCall, SYNC, Told, home_answers, log_answers};
+use crate::devices::{AB, ALL_TAKEN, CDE, EMPTY, LogCall, SYNC, Told, home_answers, log_answers};
 use bytes::Bytes;
 use std::path::{Path, PathBuf};
 use std::test::Fail;
 use std::{env, fs, process};
 use xt_base::names::Block;
-use xt_dev::fault::FileFault;
-use xt_dev::files::{FILE_BLOCKS, FileHome, FileLog};
-use xt_dev::home::HomeDevice;
 use xt_dev::offer::offer;
+use xt_dev::{FILE_BLOCKS, FileFault, FileHome, FileLog, HomeDevice, LogDevice};
 
 /// A path of this process where nothing is.
 fn fresh_path(rt: &HostRuntime, name: &str) -> Result<PathBuf, Fail> {
@@ -60,6 +58,71 @@ fn empty_log_is_opened_again(rt: HostRuntime) -> Result<(), Fail> {
     Ok(())
 }
 
+/// Whether a file has just these bytes.
+fn has(rt: &HostRuntime, path: Path<'_>, bytes: &[u8]) -> Result<bool, Fail> {
+    Ok(fs::read(rt, path)?.as_slice() == bytes)
+}
+
+#[test]
+fn cut_empties_a_log_of_more_than_four_sizes(rt: HostRuntime) -> Result<(), Fail> {
+    const BEFORE: &[LogCall] = &[(CDE, true), (CDE, true), (AB, true), (SYNC, true)];
+    const ONE_MORE: &[LogCall] = &[(Some(b"x"), true), (SYNC, true)];
+    const BEHIND: &[LogCall] = &[(AB, true), (SYNC, true)];
+    let path = fresh_path(&rt, "cut")?;
+    let mut log = FileLog::open(&rt, path.as_path())?.emptied_by_cuts();
+    assert!(rt; log_answers(&mut log, BEFORE));
+    log.cut(2);
+    assert!(rt; has(&rt, path.as_path(), b"cdecdeab")? && log_answers(&mut log, ONE_MORE));
+    log.cut(2);
+    assert!(rt; has(&rt, path.as_path(), b"")? && log_answers(&mut log, BEHIND));
+    assert!(rt; log.bytes() == 2 && had(&rt, path.as_path(), b"ab")?);
+    Ok(())
+}
+
+#[test]
+fn cut_is_left_undone_where_it_is_not_asked_for(rt: HostRuntime) -> Result<(), Fail> {
+    const CALLS: &[LogCall] = &[(CDE, true), (SYNC, true)];
+    let path = fresh_path(&rt, "uncut")?;
+    let mut log = FileLog::open(&rt, path.as_path())?;
+    assert!(rt; log_answers(&mut log, CALLS));
+    log.cut(0);
+    assert!(rt; had(&rt, path.as_path(), b"cde")?);
+    Ok(())
+}
+
+#[test]
+fn barrier_holds_back_sixteen_bytes(rt: HostRuntime) -> Result<(), Fail> {
+    const PIECES: &[LogCall] = &[
+        (Some(b"0123456789abcdef"), true),
+        (Some(b"gh"), true),
+        (Some(b"0123456789abcdefghi"), true),
+    ];
+    const SYNCED: &[LogCall] = &[(SYNC, true), (AB, true)];
+    const AGAIN: &[LogCall] = &[(SYNC, true), (SYNC, true)];
+    let path = fresh_path(&rt, "barrier")?;
+    let mut log = FileLog::open(&rt, path.as_path())?.with_barrier();
+    assert!(rt; log_answers(&mut log, PIECES));
+    assert!(rt;
+        has(&rt, path.as_path(), b"0123456789abcdefgh012")? && log_answers(&mut log, SYNCED)
+    );
+    assert!(rt;
+        has(
+            &rt,
+            path.as_path(),
+            b"0123456789abcdefgh0123456789abcdefghi"
+        )?
+    );
+    assert!(rt; log_answers(&mut log, AGAIN));
+    assert!(rt;
+        had(
+            &rt,
+            path.as_path(),
+            b"0123456789abcdefgh0123456789abcdefghiab"
+        )?
+    );
+    Ok(())
+}
+
 #[test]
 fn home_in_a_file(rt: HostRuntime) -> Result<(), Fail> {
     const CALLS: &[Told] = &[
@@ -72,10 +135,10 @@ fn home_in_a_file(rt: HostRuntime) -> Result<(), Fail> {
     ];
     const AGAIN: &[Told] = &[Told::Read(2, Some(7))];
     let path = fresh_path(&rt, "home")?;
-    let mut home = FileHome::open(&rt, path.as_path())?;
+    let mut home = FileHome::open(&rt, rt.alloc(), path.as_path())?;
     assert!(rt; home_answers(&mut home, CALLS));
     drop(home);
-    let mut again = FileHome::open(&rt, path.as_path())?;
+    let mut again = FileHome::open(&rt, rt.alloc(), path.as_path())?;
     assert!(rt; home_answers(&mut again, AGAIN) && was_long(&rt, path.as_path(), 12_288)?);
     Ok(())
 }
@@ -94,7 +157,7 @@ fn is_half(content: &[u8; 4096]) -> bool {
 fn half_a_block_is_read_with_zeros(rt: HostRuntime) -> Result<(), Fail> {
     let path = fresh_path(&rt, "half")?;
     fs::write(&rt, path.as_path(), [9u8; 6144].as_slice())?;
-    let mut home = FileHome::open(&rt, path.as_path())?;
+    let mut home = FileHome::open(&rt, rt.alloc(), path.as_path())?;
     let mut content = [0xff; 4096];
     assert!(rt; home.read(Block(1), &mut content).is_ok() && is_half(&content));
     fs::remove_file(&rt, path.as_path())?;
@@ -111,7 +174,7 @@ fn blocks_that_no_file_has(rt: HostRuntime) -> Result<(), Fail> {
         Told::Write(FILE_BLOCKS * 2, Some(7), false),
     ];
     let path = fresh_path(&rt, "great")?;
-    let mut home = FileHome::open(&rt, path.as_path())?;
+    let mut home = FileHome::open(&rt, rt.alloc(), path.as_path())?;
     assert!(rt; home_answers(&mut home, CALLS) && was_long(&rt, path.as_path(), 0)?);
     Ok(())
 }
@@ -119,7 +182,7 @@ fn blocks_that_no_file_has(rt: HostRuntime) -> Result<(), Fail> {
 /// Whether neither device is opened over this path.
 fn are_refused(rt: &HostRuntime, path: Path<'_>) -> bool {
     matches!(FileLog::open(rt, path), Err(FileFault::Io(_)))
-        && matches!(FileHome::open(rt, path), Err(FileFault::Io(_)))
+        && matches!(FileHome::open(rt, rt.alloc(), path), Err(FileFault::Io(_)))
 }
 
 #[test]
@@ -144,10 +207,16 @@ const FULL: &str = "/dev/full";
 #[test]
 fn full_file_fails(rt: HostRuntime) -> Result<(), Fail> {
     const LOG: &[LogCall] = &[(AB, false), (AB, false), (SYNC, false)];
-    const HOME: &[Told] = &[Told::Write(7, Some(7), false), Told::Read(7, Some(0))];
+    const HOME: &[Told] = &[
+        Told::Write(7, Some(7), false),
+        Told::Read(7, Some(0)),
+        Told::Sync(false),
+        Told::Unread(7),
+        Told::Read(8, Some(0)),
+    ];
     let mut log = FileLog::open(&rt, FULL)?;
     assert!(rt; log_answers(&mut log, LOG));
-    let mut home = FileHome::open(&rt, FULL)?;
+    let mut home = FileHome::open(&rt, rt.alloc(), FULL)?;
     assert!(rt; home_answers(&mut home, HOME));
     Ok(())
 }

@@ -1,14 +1,15 @@
-//! Devices over files. They tell nothing: no clause can say what a file has.
+//! A home device in a file. It tells nothing: no clause can say what a file has.
 
 ghost use Rattle.std.specs.Prelude.{◌≡◌, ◌*◌, ◌^◌, ◌<◌, [], None, Some, false, if◌then◌else◌, nat_lt, is_ok, IfOk};
 ghost use Rattle.xt_dev.specs.Devices.{failures_after};
 
+use crate::doubts::Doubts;
 use crate::failures::Failures;
 use crate::fault::{DevFault, FileFault};
 use crate::home::HomeDevice;
-use crate::log::LogDevice;
+use std::alloc::Global;
 use std::fs::File;
-use std::io::{self, ErrorKind, Write};
+use std::io::ErrorKind;
 use std::os::unix::fs::FileExt;
 use std::path::AsPath;
 use std::rt::Files;
@@ -18,60 +19,24 @@ use xt_base::sizes::BLOCK_BYTES;
 /// How many blocks a file can have, since the end of the last is below 2^63: 2^51 - 1.
 pub const FILE_BLOCKS: u64 = 0x7_ffff_ffff_ffff;
 
-/// A log in a file, which is appended to. A failed call may leave a part of its piece at the end.
-#[derive(Drop)]
-pub struct FileLog {
-    file: File,
-    failures: Failures,
-}
-
-impl FileLog {
-    /// Opens the file of a new log; it is made where it is missing. `NotEmpty` where it has a byte, since what a log has is
-    /// never read again; `Io` where it can't be opened or is no file to write to, as a folder.
-    pub fn open<R: Files<File = File>, P: AsPath>(files: &R, path: P) -> Result<Self, FileFault>
-        ensures { IfOk result (λ log. ⟦<FileLog as LogDevice>⟧.log_failures log ≡ 0) }
-    {
-        let file = File::options().create(true).append(true).open(files, path)?;
-        if file.metadata()?.len() > 0 {
-            return Err(FileFault::NotEmpty);
-        }
-        Ok(FileLog {
-            file,
-            failures: Failures::none(),
-        })
-    }
-}
-
-impl LogDevice for FileLog {
-    ghost log_tells = { λ _. false };
-
-    ghost log_taken = { λ _. [] };
-
-    ghost log_failures = { λ d. d.failures.count };
-
-    fn append(&mut self, piece: &[u8]) -> Result<(), DevFault> {
-        let written = self.file.write_all(piece);
-        self.failures.answer(written.is_ok())
-    }
-
-    fn sync(&mut self) -> Result<(), DevFault> {
-        let synced = self.file.sync_data();
-        self.failures.answer(synced.is_ok())
-    }
-}
-
 /// A home device in a file: block B begins at B * 4,096. What lies behind the file's end is read as zeros. A call for
-/// a block from `FILE_BLOCKS` on fails.
+/// a block from `FILE_BLOCKS` on fails. So does a read of a block that was written before a sync that failed, until it is written and
+/// synced again: what the file shows of it may not be what a crash leaves.
 #[derive(Drop)]
 pub struct FileHome {
     file: File,
+    doubts: Doubts,
     failures: Failures,
 }
 
 impl FileHome {
     /// Opens the file of a home device; it is made where it is missing, and keeps what it has. `Io` where it can't be
     /// opened or is no file to read and write, as a folder.
-    pub fn open<R: Files<File = File>, P: AsPath>(files: &R, path: P) -> Result<Self, FileFault>
+    pub fn open<R: Files<File = File>, P: AsPath>(
+        files: &R,
+        alloc: Global,
+        path: P,
+    ) -> Result<Self, FileFault>
         ensures { IfOk result (λ home. ⟦<FileHome as HomeDevice>⟧.home_failures home ≡ 0) }
     {
         let file = File::options()
@@ -81,6 +46,7 @@ impl FileHome {
             .open(files, path)?;
         Ok(FileHome {
             file,
+            doubts: Doubts::none(alloc),
             failures: Failures::none(),
         })
     }
@@ -94,18 +60,24 @@ impl HomeDevice for FileHome {
     ghost home_failures = { λ d. d.failures.count };
 
     fn read(&mut self, block: Block, into: &mut [u8]) -> Result<(), DevFault> {
-        let is_read = is_block_read(&self.file, block, into);
+        let is_read = !self.doubts.has(block.0) && is_block_read(&self.file, block, into);
         self.failures.answer(is_read)
     }
 
     fn write(&mut self, block: Block, content: &[u8]) -> Result<(), DevFault> {
-        let is_written = is_block_written(&self.file, block, content);
+        let is_noted = self.doubts.note(block.0).is_ok();
+        let is_written = is_noted && is_block_written(&self.file, block, content);
         self.failures.answer(is_written)
     }
 
     fn sync(&mut self) -> Result<(), DevFault> {
-        let synced = self.file.sync_data();
-        self.failures.answer(synced.is_ok())
+        let is_synced = self.file.sync_data().is_ok();
+        if is_synced {
+            self.doubts.synced();
+        } else {
+            self.doubts.not_synced();
+        }
+        self.failures.answer(is_synced)
     }
 }
 
