@@ -98,7 +98,7 @@ fn script_on_streams(rt: &HostRuntime, only: Option<Slot>) -> Result<u8, ScriptF
 /// Opens the file of a log, if it has at most 67,108,864 bytes.
 fn open_log(rt: &HostRuntime, path: &str) -> Result<File, LogFault> {
     let file = File::open(rt, path)?;
-    if file.metadata()?.len() > LOG_BYTES as u64 {
+    if file.metadata()?.len() > LOG_BYTES {
         return Err(LogFault::TooLong);
     }
     Ok(file)

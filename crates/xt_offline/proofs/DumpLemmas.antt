@@ -1,5 +1,5 @@
 -- Texts of a log: how long their items are, and what is printed of them.
-use Rattle.std.proofs.Common.{◌≡◌, ◌∙◌, ◌+◌, ◌≤◌, ◌∷◌, ◌++◌, ℕ, suc, List, [], Option, Some, None, inl, inr, ap, arith, drop, false, length, map, subst, sym, true≢false}
+use Rattle.std.proofs.Common.{◌≡◌, ◌∙◌, ◌+◌, ◌≤◌, ◌∷◌, ◌++◌, ℕ, suc, List, [], Option, Some, None, inl, inr, ap, arith, drop, false, length, map, subst, sym}
 use Rattle.std.proofs.lemmas.List.{drop-drop, length-drop}
 use Rattle.std.proofs.lemmas.List.Elements.{All-cons, All-nil}
 use Rattle.std.proofs.lemmas.List.Sums.{count_by-le-length, length-filter}
@@ -9,15 +9,16 @@ use Rattle.std.specs.Prelude.{All, IfSome, unwrap_or, ◌==◌}
 use Rattle.xt_base.proofs.MapLemmas.{some_none}
 use Rattle.xt_base.specs.Chunks.{below, chunks_where, places_of}
 use Rattle.xt_ckpt.specs.Grammar.{AreItems, Entry, IsItem, entry}
-use Rattle.xt_ckpt.specs.Reading.{Begins as BeginsText}
 use Rattle.xt_ckpt.specs.declared.item.Item.{Item}
 use Rattle.xt_ckpt.specs.declared.reading.Checkpoint.{Checkpoint}
 use Rattle.xt_offline.proofs.AppendLemmas.{appends_kept, appends_more, appends_none, begins_all, begins_same, begins_then, keeps_same}
-use Rattle.xt_offline.proofs.WindowLemmas.{why_any}
-use Rattle.xt_offline.specs.LogDump.{ahead, checkpoint_lines, fault_line, found_lines, is_too_long, rest_lines, status_after, HasShortItems, Held, IsAhead, IsDumped, IsLogBegun, IsLogPrinted, IsLogRun, IsLogStatus, IsTied, IsTold, IsWhy, Texts}
+use Rattle.xt_offline.specs.LogDump.{checkpoint_lines, fault_line, found_lines, rest_lines, status_after, AreShort, IsDumped, IsLogBegun, IsLogPrinted, IsLogRun, IsLogStatus, IsTold, Texts}
 use Rattle.xt_offline.specs.Printing.{Begins}
-use Rattle.xt_offline.specs.declared.window.Found.{Found}
-use Rattle.xt_offline.specs.declared.window.LogFault.{LogFault}
+use Rattle.xt_offline.specs.declared.logdump.TheConstants.{LOG_BYTES}
+use Rattle.xt_window.proofs.WindowLemmas.{why_any}
+use Rattle.xt_window.specs.Window.{ahead, is_too_long, unread, Held, IsAhead, IsOfGrammar, IsWhy}
+use Rattle.xt_window.specs.declared.fault.LogFault.{LogFault}
+use Rattle.xt_window.specs.declared.window.Found.{Found}
 
 -- a block has 32 chunks
 few_places : (bits : ℕ) → length (places_of bits) ≤ 32
@@ -34,9 +35,11 @@ items_short least bytes [] are = All-nil (λ (i : Item). length i.content.items 
 items_short least bytes (i ∷ is) are =
     All-cons (λ (i : Item). length i.content.items ≤ 4096) i is (item_short are.0 (entry i) are.4) (items_short (suc i.block) are.1 is are.5)
 
--- and so has each item of a text
-pub short_of : (input : List ℕ) (c : Checkpoint) (len : ℕ) → BeginsText input c len → HasShortItems c
-short_of input c len begins = items_short 0 begins.1.body c.items.items begins.1.each
+-- and so has each item of a text that was found
+pub short_found : (found : Found) → IsOfGrammar found → AreShort found
+short_found (Found.Text c) (text, is) = items_short 0 is.body c.items.items is.each
+short_found (Found.Rest count) is = tt
+short_found (Found.Fault place) is = tt
 
 -- ---- the dump of a log, as far as it has come
 -- the texts in front of what is held are printed
@@ -44,67 +47,66 @@ pub record Stands (log : List ℕ) (h : Held) (left old new : Option (List ℕ))
   pub out : List ℕ
   pub texts : Texts log h.offset out
   pub within : h.offset ≤ length log
+  pub limit : h.limit ≡ LOG_BYTES
   pub same : ahead h left ≡ Some (drop h.offset log)
   pub written : Appends old new out
 
 -- nothing is printed
-pub stands_first : (had : Option (List ℕ)) (h : Held) (old : Option (List ℕ)) → h ≡ record { bytes = []; offset = 0; is_ended = false } → IfSome had (λ log. Stands log h had old old)
+pub stands_first : (had : Option (List ℕ)) (h : Held) (old : Option (List ℕ)) → h ≡ unread LOG_BYTES → IfSome had (λ log. Stands log h had old old)
 stands_first None h old is = tt
 stands_first (Some log) h old is = record {
   out = [];
   texts = subst (λ n. Texts log n []) (sym (ap (λ w. w.offset) is)) (Texts.none log);
   within = omega (arith, ap (λ w. w.offset) is);
+  limit = ap (λ w. w.limit) is;
   same = ap (λ w. Some (w.bytes ++ log)) is ∙ ap (λ n. Some (drop n log)) (sym (ap (λ w. w.offset) is));
   written = appends_none old;
 }
-
--- and the log goes on
-pub tied_first : (h : Held) (left : Option (List ℕ)) → h ≡ record { bytes = []; offset = 0; is_ended = false } → IsTied h left
-tied_first h left is over = absurd (true≢false (sym over ∙ ap (λ w. w.is_ended) is))
 
 -- what is ahead is the rest of the log
 rest_of : (log : List ℕ) (h : Held) (left old new : Option (List ℕ)) (P : List ℕ → Type 0) → Stands log h left old new → IfSome (ahead h left) P → P (drop h.offset log)
 rest_of log h left old new P s is = subst (λ o. IfSome o P) s.same is
 
 -- one more text is printed
-more_of : (log : List ℕ) (h now : Held) (left has old mid new : Option (List ℕ)) (c : Checkpoint) → Stands log h left old mid → IsAhead h.offset (drop h.offset log) (Found.Text c) now has → Appends mid new (checkpoint_lines c) → Stands log now has old new
-more_of log h now left has old mid new c s (size, (begins, (place, same))) printed = record {
+more_of : (log : List ℕ) (h now : Held) (left has old mid new : Option (List ℕ)) (c : Checkpoint) → Stands log h left old mid → IsAhead h (drop h.offset log) (Found.Text c) now has → Appends mid new (checkpoint_lines c) → now.limit ≡ h.limit → Stands log now has old new
+more_of log h now left has old mid new c s (size, (begins, (place, same))) printed kept = record {
   out = s.out ++ checkpoint_lines c;
   texts = subst (λ n. Texts log n (s.out ++ checkpoint_lines c)) (sym place) (Texts.more log s.out h.offset size c s.texts begins);
   within = omega (arith, begins.0, length-drop h.offset log, s.within, place);
+  limit = kept ∙ s.limit;
   same = same ∙ ap Some (drop-drop size h.offset log ∙ ap (λ n. drop n log) (sym place));
   written = appends_more old mid new s.out (checkpoint_lines c) s.written printed;
 }
 
-pub stands_more : (had : Option (List ℕ)) (h now : Held) (left has old mid new : Option (List ℕ)) (found : Found) → IfSome had (λ log. Stands log h left old mid) → IfSome (ahead h left) (λ log. IsAhead h.offset log found now has) → Appends mid new (found_lines found) → status_after found ≡ None → IfSome had (λ log. Stands log now has old new)
-stands_more None h now left has old mid new found s is printed on = tt
-stands_more (Some log) h now left has old mid new (Found.Text c) s is printed on = more_of log h now left has old mid new c s (rest_of log h left old mid (λ t. IsAhead h.offset t (Found.Text c) now has) s is) printed
-stands_more (Some log) h now left has old mid new (Found.Rest count) s is printed on = some_none 0 _ on
-stands_more (Some log) h now left has old mid new (Found.Fault place) s is printed on = some_none 3 _ on
+pub stands_more : (had : Option (List ℕ)) (h now : Held) (left has old mid new : Option (List ℕ)) (found : Found) → IfSome had (λ log. Stands log h left old mid) → IfSome (ahead h left) (λ log. IsAhead h log found now has) → Appends mid new (found_lines found) → status_after found ≡ None → now.limit ≡ h.limit → IfSome had (λ log. Stands log now has old new)
+stands_more None h now left has old mid new found s is printed on kept = tt
+stands_more (Some log) h now left has old mid new (Found.Text c) s is printed on kept = more_of log h now left has old mid new c s (rest_of log h left old mid (λ t. IsAhead h t (Found.Text c) now has) s is) printed kept
+stands_more (Some log) h now left has old mid new (Found.Rest count) s is printed on kept = some_none 0 _ on
+stands_more (Some log) h now left has old mid new (Found.Fault place) s is printed on kept = some_none 3 _ on
 
 -- ---- the end of a log
 -- what is printed of a log whose end is no text yet
-whole_rest : (log : List ℕ) (h now : Held) (left has old mid : Option (List ℕ)) (count : ℕ) (s : Stands log h left old mid) → IsAhead h.offset (drop h.offset log) (Found.Rest count) now has → IsDumped log (s.out ++ rest_lines count) 0
+whole_rest : (log : List ℕ) (h now : Held) (left has old mid : Option (List ℕ)) (count : ℕ) (s : Stands log h left old mid) → IsAhead h (drop h.offset log) (Found.Rest count) now has → IsDumped log (s.out ++ rest_lines count) 0
 whole_rest log h now left has old mid count s (unfinished, (counted, short)) =
-    subst (λ n. IsDumped log (s.out ++ rest_lines n) 0) (sym counted) (IsDumped.rest log s.out h.offset s.texts unfinished (omega (arith, short, length-drop h.offset log)))
+    subst (λ n. IsDumped log (s.out ++ rest_lines n) 0) (sym counted) (IsDumped.rest log s.out h.offset s.texts unfinished (omega (arith, short, s.limit, length-drop h.offset log)))
 
 -- what is printed of a log in which a field breaks its rule
-whole_fault : (log : List ℕ) (h now : Held) (left has old mid : Option (List ℕ)) (place : ℕ) (s : Stands log h left old mid) → IsAhead h.offset (drop h.offset log) (Found.Fault place) now has → IsDumped log (s.out ++ fault_line place) 3
+whole_fault : (log : List ℕ) (h now : Held) (left has old mid : Option (List ℕ)) (place : ℕ) (s : Stands log h left old mid) → IsAhead h (drop h.offset log) (Found.Fault place) now has → IsDumped log (s.out ++ fault_line place) 3
 whole_fault log h now left has old mid place s (at, (is, (told, within))) =
-    subst (λ n. IsDumped log (s.out ++ fault_line n) 3) (sym told) (IsDumped.fault log s.out h.offset at s.texts is (omega (arith, told, within)))
+    subst (λ n. IsDumped log (s.out ++ fault_line n) 3) (sym told) (IsDumped.fault log s.out h.offset at s.texts is (omega (arith, told, within, s.limit)))
 
 -- what is printed of a log, by what was found at its end
-whole_found : (log : List ℕ) (h now : Held) (left has old mid : Option (List ℕ)) (found : Found) (status : ℕ) (s : Stands log h left old mid) → IsAhead h.offset (drop h.offset log) found now has → status_after found ≡ Some status → IsDumped log (s.out ++ found_lines found) status
+whole_found : (log : List ℕ) (h now : Held) (left has old mid : Option (List ℕ)) (found : Found) (status : ℕ) (s : Stands log h left old mid) → IsAhead h (drop h.offset log) found now has → status_after found ≡ Some status → IsDumped log (s.out ++ found_lines found) status
 whole_found log h now left has old mid (Found.Text c) status s is over = some_none status _ (sym over)
 whole_found log h now left has old mid (Found.Rest count) status s is over =
     subst (λ n. IsDumped log (s.out ++ rest_lines count) n) (ap (λ o. unwrap_or o 0) over) (whole_rest log h now left has old mid count s is)
 whole_found log h now left has old mid (Found.Fault place) status s is over =
     subst (λ n. IsDumped log (s.out ++ fault_line place) n) (ap (λ o. unwrap_or o 0) over) (whole_fault log h now left has old mid place s is)
 
-pub printed_found : (had : Option (List ℕ)) (h now : Held) (left has old mid new : Option (List ℕ)) (found : Found) (status : ℕ) → IfSome had (λ log. Stands log h left old mid) → IfSome (ahead h left) (λ log. IsAhead h.offset log found now has) → Appends mid new (found_lines found) → status_after found ≡ Some status → IfSome had (λ log. IsLogPrinted log old new status)
+pub printed_found : (had : Option (List ℕ)) (h now : Held) (left has old mid new : Option (List ℕ)) (found : Found) (status : ℕ) → IfSome had (λ log. Stands log h left old mid) → IfSome (ahead h left) (λ log. IsAhead h log found now has) → Appends mid new (found_lines found) → status_after found ≡ Some status → IfSome had (λ log. IsLogPrinted log old new status)
 printed_found None h now left has old mid new found status s is printed over = tt
 printed_found (Some log) h now left has old mid new found status s is printed over =
-    (s.out ++ found_lines found, (whole_found log h now left has old mid found status s (rest_of log h left old mid (λ t. IsAhead h.offset t found now has) s is) over, appends_more old mid new s.out (found_lines found) s.written printed))
+    (s.out ++ found_lines found, (whole_found log h now left has old mid found status s (rest_of log h left old mid (λ t. IsAhead h t found now has) s is) over, appends_more old mid new s.out (found_lines found) s.written printed))
 
 -- its status is one of those that a dump has
 pub status_found : (found : Found) (status : ℕ) → status_after found ≡ Some status → IsLogStatus status
@@ -124,7 +126,7 @@ begun_here None h left old new s = tt
 begun_here (Some log) h left old new s = (s.out, (inl (h.offset, s.texts), begins_all old new s.out s.written))
 
 -- in what was found there
-begun_in : (log : List ℕ) (h now : Held) (left has old mid new : Option (List ℕ)) (found : Found) (s : Stands log h left old mid) → IsAhead h.offset (drop h.offset log) found now has → Begins mid new (found_lines found) → IsLogBegun log old new
+begun_in : (log : List ℕ) (h now : Held) (left has old mid new : Option (List ℕ)) (found : Found) (s : Stands log h left old mid) → IsAhead h (drop h.offset log) found now has → Begins mid new (found_lines found) → IsLogBegun log old new
 begun_in log h now left has old mid new (Found.Text c) s is begun =
     (s.out ++ checkpoint_lines c, (inl (h.offset + is.0, Texts.more log s.out h.offset is.0 c s.texts is.1.0), begins_then old mid new s.out (checkpoint_lines c) s.written begun))
 begun_in log h now left has old mid new (Found.Rest count) s is begun =
@@ -132,20 +134,20 @@ begun_in log h now left has old mid new (Found.Rest count) s is begun =
 begun_in log h now left has old mid new (Found.Fault place) s is begun =
     (s.out ++ fault_line place, (inr (3, whole_fault log h now left has old mid place s is), begins_then old mid new s.out (fault_line place) s.written begun))
 
-pub begun_found : (had : Option (List ℕ)) (h now : Held) (left has old mid new : Option (List ℕ)) (found : Found) → IfSome had (λ log. Stands log h left old mid) → IfSome (ahead h left) (λ log. IsAhead h.offset log found now has) → Begins mid new (found_lines found) → IfSome had (λ log. IsLogBegun log old new)
+pub begun_found : (had : Option (List ℕ)) (h now : Held) (left has old mid new : Option (List ℕ)) (found : Found) → IfSome had (λ log. Stands log h left old mid) → IfSome (ahead h left) (λ log. IsAhead h log found now has) → Begins mid new (found_lines found) → IfSome had (λ log. IsLogBegun log old new)
 begun_found None h now left has old mid new found s is begun = tt
-begun_found (Some log) h now left has old mid new found s is begun = begun_in log h now left has old mid new found s (rest_of log h left old mid (λ t. IsAhead h.offset t found now has) s is) begun
+begun_found (Some log) h now left has old mid new found s is begun = begun_in log h now left has old mid new found s (rest_of log h left old mid (λ t. IsAhead h t found now has) s is) begun
 
 -- why a log was given up
-pub why_whole : (had : Option (List ℕ)) (h : Held) (left old new : Option (List ℕ)) (fault : LogFault) → IfSome had (λ log. Stands log h left old new) → IfSome (ahead h left) (λ log. IsWhy (h.offset + length log) fault) → IfSome had (λ log. IsWhy (length log) fault)
+pub why_whole : (had : Option (List ℕ)) (h : Held) (left old new : Option (List ℕ)) (fault : LogFault) → IfSome had (λ log. Stands log h left old new) → IfSome (ahead h left) (λ log. IsWhy h.limit (h.offset + length log) fault) → IfSome had (λ log. IsWhy LOG_BYTES (length log) fault)
 why_whole None h left old new fault s why = tt
 why_whole (Some log) h left old new fault s why =
     let joined : h.offset + length (drop h.offset log) ≡ length log = omega (arith, length-drop h.offset log, s.within) in
-    subst (λ n. IsWhy n fault) joined (rest_of log h left old new (λ t. IsWhy (h.offset + length t) fault) s why)
+    subst (λ n. IsWhy LOG_BYTES n fault) joined (subst (λ m. IsWhy m (h.offset + length (drop h.offset log)) fault) s.limit (rest_of log h left old new (λ t. IsWhy h.limit (h.offset + length t) fault) s why))
 
-pub why_known : (had : Option (List ℕ)) (fault : LogFault) → is_too_long fault ≡ false → IfSome had (λ log. IsWhy (length log) fault)
+pub why_known : (had : Option (List ℕ)) (fault : LogFault) → is_too_long fault ≡ false → IfSome had (λ log. IsWhy LOG_BYTES (length log) fault)
 why_known None fault other = tt
-why_known (Some log) fault other = why_any (length log) fault other
+why_known (Some log) fault other = why_any LOG_BYTES (length log) fault other
 
 -- ---- all that was held back is written too
 pub log_printed_kept : (had : Option (List ℕ)) (old mid new : Option (List ℕ)) (status : ℕ) → IfSome had (λ log. IsLogPrinted log old mid status) → Keeps mid new → IfSome had (λ log. IsLogPrinted log old new status)
@@ -163,6 +165,6 @@ dump_whole None old new err status is = tt
 dump_whole (Some log) old new err status is = inl (is, keeps_same err)
 
 -- a log was given up
-pub dump_stopped : (had : Option (List ℕ)) (old new err_old err_new : Option (List ℕ)) (status : ℕ) (fault : LogFault) → IfSome had (λ log. IsLogBegun log old new) → IfSome had (λ log. IsWhy (length log) fault) → IsTold fault err_old err_new → status ≡ 1 → IfSome had (λ log. IsLogRun log old new err_old err_new status)
+pub dump_stopped : (had : Option (List ℕ)) (old new err_old err_new : Option (List ℕ)) (status : ℕ) (fault : LogFault) → IfSome had (λ log. IsLogBegun log old new) → IfSome had (λ log. IsWhy LOG_BYTES (length log) fault) → IsTold fault err_old err_new → status ≡ 1 → IfSome had (λ log. IsLogRun log old new err_old err_new status)
 dump_stopped None old new err_old err_new status fault begun why told ended = tt
 dump_stopped (Some log) old new err_old err_new status fault begun why told ended = inr (fault, record { written = begun; why = why; told = told; ended = ended })

@@ -3,4 +3,3 @@ pub mod ScriptLemmas
 pub mod PlayLemmas
 pub mod LineLemmas
 pub mod DumpLemmas
-pub mod WindowLemmas

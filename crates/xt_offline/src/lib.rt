@@ -7,10 +7,9 @@ pub mod logdump;
 mod printing;
 pub mod progress;
 pub mod script;
-mod window;
 mod writing;
 
 pub use fault::ScriptFault;
-pub use logdump::{dump, tell};
+pub use logdump::{LOG_BYTES, dump, tell};
 pub use script::run_script;
-pub use window::{LOG_BYTES, LogFault};
+pub use xt_window::fault::LogFault;

@@ -3,12 +3,12 @@
 ghost use Rattle.std.specs.Prelude.{◌++◌, ◌<◌, ◌≡◌, ◌≤◌, All, IfErr, IfOk, IfSome, OnErr, OnOk, length};
 ghost use Rattle.std.specs.Io.KnownBytes.{Appends};
 ghost use Rattle.xt_ckpt.specs.declared.item.Item.{Item as AnItem};
-ghost use Rattle.xt_offline.specs.LogDump.{checkpoint_lines, fault_line, found_lines, item_lines, rest_lines, status_after, AreShort, IsLogBegun, IsLogPrinted, IsLogRun, IsLogStatus, IsTold, IsWhy};
+ghost use Rattle.xt_offline.specs.LogDump.{checkpoint_lines, fault_line, found_lines, item_lines, rest_lines, status_after, AreShort, IsLogBegun, IsLogPrinted, IsLogRun, IsLogStatus, IsTold};
 ghost use Rattle.xt_offline.specs.Printing.{ended, Begins};
 ghost use Rattle.xt_text.specs.Items.{head_text, item_text};
+ghost use Rattle.xt_window.specs.Window.{IsWhy};
 
 use crate::printing::print_line;
-use crate::window::{Found, LogFault, PIECE_BYTES, Window};
 use crate::writing::{write_bytes, write_numbered};
 use std::alloc::Global;
 use std::io::{self, ErrorKind, Read, Write};
@@ -16,6 +16,11 @@ use xt_base::sizes::DATA_BYTES;
 use xt_ckpt::{Checkpoint, Item, Rooms};
 use xt_text::buffer::Text;
 use xt_text::print_ckpt::{print_head, print_item};
+use xt_window::fault::LogFault;
+use xt_window::window::{Found, PIECE_BYTES, Window};
+
+/// The most bytes of a log that is printed.
+pub const LOG_BYTES: u64 = 67_108_864;
 
 /// Prints the checkpoints of a log, and answers the exit status: 0, after `rest N` where N bytes behind the last whole text are
 /// no text yet; 3 after the texts before the first fault and `fault OFFSET`; 1 after a fault of the reader, of the writer or of memory, or of a
@@ -65,7 +70,7 @@ fn dump_to_the_end<R: Read, W: Write>(
 ) -> Result<u8, LogFault>
     ensures printed { IfOk result (λ status. IfSome (R.remaining reader.old) (λ log. IsLogPrinted log (W.contents writer.old) (W.contents writer.new) status)) }
     ensures begun { OnErr result (IfSome (R.remaining reader.old) (λ log. IsLogBegun log (W.contents writer.old) (W.contents writer.new))) }
-    ensures why { IfErr result (λ fault. IfSome (R.remaining reader.old) (λ log. IsWhy (length log) fault)) }
+    ensures why { IfErr result (λ fault. IfSome (R.remaining reader.old) (λ log. IsWhy LOG_BYTES (length log) fault)) }
     ensures status { IfOk result IsLogStatus }
 {
     let status = dump_texts(alloc, reader, writer)?;
@@ -82,7 +87,7 @@ fn dump_texts<R: Read, W: Write>(
 ) -> Result<u8, LogFault>
     ensures printed { IfOk result (λ status. IfSome (R.remaining reader.old) (λ log. IsLogPrinted log (W.contents writer.old) (W.contents writer.new) status)) }
     ensures begun { OnErr result (IfSome (R.remaining reader.old) (λ log. IsLogBegun log (W.contents writer.old) (W.contents writer.new))) }
-    ensures why { IfErr result (λ fault. IfSome (R.remaining reader.old) (λ log. IsWhy (length log) fault)) }
+    ensures why { IfErr result (λ fault. IfSome (R.remaining reader.old) (λ log. IsWhy LOG_BYTES (length log) fault)) }
     ensures status { IfOk result IsLogStatus }
 {
     let mut piece = vec![in alloc; 0u8; PIECE_BYTES].map_err(LogFault::Memory)?;
@@ -102,10 +107,10 @@ fn dump_by_pieces<R: Read, W: Write>(
     requires room { 0 < length piece.old }
     ensures printed { IfOk result (λ status. IfSome (R.remaining reader.old) (λ log. IsLogPrinted log (W.contents writer.old) (W.contents writer.new) status)) }
     ensures begun { OnErr result (IfSome (R.remaining reader.old) (λ log. IsLogBegun log (W.contents writer.old) (W.contents writer.new))) }
-    ensures why { IfErr result (λ fault. IfSome (R.remaining reader.old) (λ log. IsWhy (length log) fault)) }
+    ensures why { IfErr result (λ fault. IfSome (R.remaining reader.old) (λ log. IsWhy LOG_BYTES (length log) fault)) }
     ensures status { IfOk result IsLogStatus }
 {
-    let mut window = Window::new(alloc);
+    let mut window = Window::new(alloc, LOG_BYTES);
     let mut rooms = Rooms::new(alloc);
     for _ in 0..u64::MAX {
         let found = window.next(reader, piece, &mut rooms)?;
@@ -202,7 +207,7 @@ fn print_item_line<W: Write>(writer: &mut W, text: &mut Text, item: &Item) -> io
 
 /// Prints how many bytes stand behind the last whole text, if there are any.
 #[tactic(auto, using(crate::proofs::AppendLemmas::appends_none, crate::proofs::AppendLemmas::begins_same))]
-fn print_rest<W: Write>(writer: &mut W, count: usize) -> io::Result<()>
+fn print_rest<W: Write>(writer: &mut W, count: u64) -> io::Result<()>
     ensures all { OnOk result (Appends (W.contents writer.old) (W.contents writer.new) (rest_lines count)) }
     ensures part { Begins (W.contents writer.old) (W.contents writer.new) (rest_lines count) }
 {
@@ -213,7 +218,7 @@ fn print_rest<W: Write>(writer: &mut W, count: usize) -> io::Result<()>
 }
 
 /// Prints where a text breaks a rule, counted in the log from 0.
-fn print_fault<W: Write>(writer: &mut W, offset: usize) -> io::Result<()>
+fn print_fault<W: Write>(writer: &mut W, offset: u64) -> io::Result<()>
     ensures all { OnOk result (Appends (W.contents writer.old) (W.contents writer.new) (fault_line offset)) }
     ensures part { Begins (W.contents writer.old) (W.contents writer.new) (fault_line offset) }
 {

@@ -105,5 +105,5 @@ pub fn print_broken<W: Write>(writer: &mut W, lines: &[u8], at: usize) -> io::Re
     ensures part { Begins (W.contents writer.old) (W.contents writer.new) (lines.now ++ disorder_text at) }
 {
     write_bytes(writer, lines)?;
-    write_numbered(writer, b"disorder ", at + 1)
+    write_numbered(writer, b"disorder ", at as u64 + 1)
 }

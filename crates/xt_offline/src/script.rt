@@ -144,7 +144,7 @@ fn report<E: Write>(err: &mut E, fault: &ScriptFault) -> io::Result<()>
     ensures { IsReported fault.now (E.contents err.old) (E.contents err.new) }
 {
     match fault {
-        ScriptFault::BadLine(number) => write_numbered(err, b"bad line ", *number),
+        ScriptFault::BadLine(number) => write_numbered(err, b"bad line ", *number as u64),
         ScriptFault::TooLong => write_bytes(err, b"fault: script too long\n"),
         ScriptFault::Io(_) | ScriptFault::Memory(_) => writeln!(err, "{fault}"),
     }

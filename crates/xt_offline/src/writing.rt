@@ -36,7 +36,7 @@ fn write_some<'a, W: Write>(writer: &mut W, bytes: &'a [u8]) -> io::Result<&'a [
 }
 
 /// Writes words, a number and a newline.
-pub fn write_numbered<W: Write>(writer: &mut W, words: &[u8], number: usize) -> io::Result<()>
+pub fn write_numbered<W: Write>(writer: &mut W, words: &[u8], number: u64) -> io::Result<()>
     ensures all { OnOk result (Appends (W.contents writer.old) (W.contents writer.new) (numbered words.now number)) }
     ensures part { Begins (W.contents writer.old) (W.contents writer.new) (numbered words.now number) }
 {

@@ -13,10 +13,10 @@ use Rattle.xt_recover.specs.Reading.{AreTexts, ReadsAs}
 use Rattle.xt_recover.specs.Gathering.{IsGathered, IsTextLaid, IsWhyLog, is_broken}
 use Rattle.xt_recover.specs.declared.gather.LogCounts.{LogCounts}
 use Rattle.xt_recover.specs.declared.gather.LogFault.{LogFault}
-use Rattle.xt_recover.specs.Window.{ahead, Held, IsAhead, IsTied}
-use Rattle.xt_recover.specs.declared.window.Found.{Found}
 use Rattle.xt_ckpt.specs.declared.reading.Checkpoint.{Checkpoint}
 use Rattle.xt_recover.specs.Overlaid.{Overlaid, with_items, with_texts}
+use Rattle.xt_window.specs.Window.{ahead, unread, Held, IsAhead, IsOfGrammar}
+use Rattle.xt_window.specs.declared.window.Found.{Found}
 
 -- what was gathered so far, up to an offset
 pub record IsSoFar (log : List ℕ) (at count : ℕ) (old now : Overlaid) : Type 0 where
@@ -79,8 +79,14 @@ forms_of least bytes [] h = tt
 forms_of least bytes (i ∷ is) h = (form_item h.0 i h.4, forms_of (suc i.block) h.1 is h.5)
 
 -- the items of a text have their form
-pub items_form : (text : List ℕ) (number : ℕ) (items : List Item) → IsText text number (entries items) → All HasForm items
+items_form : (text : List ℕ) (number : ℕ) (items : List Item) → IsText text number (entries items) → All HasForm items
 items_form text number items is = All-from_recursion HasForm items (forms_of 0 is.body items is.each)
+
+-- and so have those of a text that was found
+pub formed_found : (found : Found) (c : Checkpoint) → found ≡ Found.Text c → IsOfGrammar found → All HasForm c.items.items
+formed_found found c is read =
+    let one : IsOfGrammar (Found.Text c) = subst IsOfGrammar is read in
+    items_form one.0 c.no c.items.items one.1
 
 -- ---- a log that is read piece by piece
 -- the texts in front of what is held were gathered
@@ -89,23 +95,19 @@ pub record Stands (log : List ℕ) (h : Held) (left : Option (List ℕ)) (count 
   pub same : ahead h left ≡ Some (drop h.offset log)
 
 -- nothing is read
-pub stands_first : (had : Option (List ℕ)) (h : Held) (l : Overlaid) → h ≡ record { bytes = []; offset = 0; is_ended = false } → IfSome had (λ log. Stands log h had 0 l l)
-stands_first None h l is = tt
-stands_first (Some log) h l is = record {
+pub stands_first : (limit : ℕ) (had : Option (List ℕ)) (h : Held) (l : Overlaid) → h ≡ unread limit → IfSome had (λ log. Stands log h had 0 l l)
+stands_first limit None h l is = tt
+stands_first limit (Some log) h l is = record {
   so = subst (λ n. IsSoFar log n 0 l l) (sym (ap (λ w. w.offset) is)) (so_far_none log l);
   same = ap (λ w. Some (w.bytes ++ log)) is ∙ ap (λ n. Some (drop n log)) (sym (ap (λ w. w.offset) is));
 }
-
--- and the log goes on
-pub tied_first : (h : Held) (left : Option (List ℕ)) → h ≡ record { bytes = []; offset = 0; is_ended = false } → IsTied h left
-tied_first h left is over = absurd (true≢false (sym over ∙ ap (λ w. w.is_ended) is))
 
 -- what is ahead is the rest of the log
 rest_of : (log : List ℕ) (h : Held) (left : Option (List ℕ)) (count : ℕ) (old now : Overlaid) (P : List ℕ → Type 0) → Stands log h left count old now → IfSome (ahead h left) P → P (drop h.offset log)
 rest_of log h left count old now P s is = subst (λ o. IfSome o P) s.same is
 
 -- one more text is laid
-more_of : (log : List ℕ) (h past : Held) (left has : Option (List ℕ)) (count : ℕ) (old now new : Overlaid) (c : Checkpoint) → Stands log h left count old now → IsAhead h.offset (drop h.offset log) (Found.Text c) past has → new ≡ with_items (entries c.items.items) now → Stands log past has (count + 1) old new
+more_of : (log : List ℕ) (h past : Held) (left has : Option (List ℕ)) (count : ℕ) (old now new : Overlaid) (c : Checkpoint) → Stands log h left count old now → IsAhead h (drop h.offset log) (Found.Text c) past has → new ≡ with_items (entries c.items.items) now → Stands log past has (count + 1) old new
 more_of log h past left has count old now new c s (size, (begins, (place, same))) laid =
     let one : IsTextLaid size (drop h.offset log) now new = record { within = begins.0; number = c.no; items = entries c.items.items; text = begins.1; laid = laid } in
     record {
@@ -113,26 +115,26 @@ more_of log h past left has count old now new c s (size, (begins, (place, same))
       same = same ∙ ap Some (drop-drop size h.offset log ∙ ap (λ n. drop n log) (sym place));
     }
 
-pub stands_more : (had : Option (List ℕ)) (h past : Held) (left has : Option (List ℕ)) (count : ℕ) (old now new : Overlaid) (found : Found) (c : Checkpoint) → found ≡ Found.Text c → IfSome had (λ log. Stands log h left count old now) → IfSome (ahead h left) (λ log. IsAhead h.offset log found past has)
+pub stands_more : (had : Option (List ℕ)) (h past : Held) (left has : Option (List ℕ)) (count : ℕ) (old now new : Overlaid) (found : Found) (c : Checkpoint) → found ≡ Found.Text c → IfSome had (λ log. Stands log h left count old now) → IfSome (ahead h left) (λ log. IsAhead h log found past has)
     → new ≡ with_items (entries c.items.items) now → IfSome had (λ log. Stands log past has (count + 1) old new)
 stands_more None h past left has count old now new found c is s next laid = tt
 stands_more (Some log) h past left has count old now new found c is s next laid =
-    more_of log h past left has count old now new c s (subst (λ f. IsAhead h.offset (drop h.offset log) f past has) is (rest_of log h left count old now (λ t. IsAhead h.offset t found past has) s next)) laid
+    more_of log h past left has count old now new c s (subst (λ f. IsAhead h (drop h.offset log) f past has) is (rest_of log h left count old now (λ t. IsAhead h t found past has) s next)) laid
 
 -- the log ends behind its texts
-pub gathered_rest : (had : Option (List ℕ)) (h past : Held) (left has : Option (List ℕ)) (count : ℕ) (old now : Overlaid) (found : Found) (rest : ℕ) → found ≡ Found.Rest rest → IfSome had (λ log. Stands log h left count old now) → IfSome (ahead h left) (λ log. IsAhead h.offset log found past has)
+pub gathered_rest : (had : Option (List ℕ)) (h past : Held) (left has : Option (List ℕ)) (count : ℕ) (old now : Overlaid) (found : Found) (rest : ℕ) → found ≡ Found.Rest rest → IfSome had (λ log. Stands log h left count old now) → IfSome (ahead h left) (λ log. IsAhead h log found past has)
     → IfSome had (λ log. IsGathered log (record { texts = count; rest = rest }) old now)
 gathered_rest None h past left has count old now found rest is s next = tt
 gathered_rest (Some log) h past left has count old now found rest is s next =
-    let ends : IsAhead h.offset (drop h.offset log) (Found.Rest rest) past has = subst (λ f. IsAhead h.offset (drop h.offset log) f past has) is (rest_of log h left count old now (λ t. IsAhead h.offset t found past has) s next) in
-    so_far_end log h.offset (record { texts = count; rest = rest }) old now now s.so ends.1 ends.0 refl
+    let ends : IsAhead h (drop h.offset log) (Found.Rest rest) past has = subst (λ f. IsAhead h (drop h.offset log) f past has) is (rest_of log h left count old now (λ t. IsAhead h t found past has) s next) in
+    so_far_end log h.offset (record { texts = count; rest = rest }) old now now s.so ends.1.0 ends.0 refl
 
 -- a field breaks its rule
-pub why_broken : (had : Option (List ℕ)) (h past : Held) (left has : Option (List ℕ)) (count : ℕ) (old now : Overlaid) (found : Found) (offset : ℕ) → found ≡ Found.Fault offset → IfSome had (λ log. Stands log h left count old now) → IfSome (ahead h left) (λ log. IsAhead h.offset log found past has)
+pub why_broken : (had : Option (List ℕ)) (h past : Held) (left has : Option (List ℕ)) (count : ℕ) (old now : Overlaid) (found : Found) (offset : ℕ) → found ≡ Found.Fault offset → IfSome had (λ log. Stands log h left count old now) → IfSome (ahead h left) (λ log. IsAhead h log found past has)
     → IfSome had (λ log. IsWhyLog log (LogFault.Broken offset))
 why_broken None h past left has count old now found offset is s next = tt
 why_broken (Some log) h past left has count old now found offset is s next =
-    let ends : IsAhead h.offset (drop h.offset log) (Found.Fault offset) past has = subst (λ f. IsAhead h.offset (drop h.offset log) f past has) is (rest_of log h left count old now (λ t. IsAhead h.offset t found past has) s next) in
+    let ends : IsAhead h (drop h.offset log) (Found.Fault offset) past has = subst (λ f. IsAhead h (drop h.offset log) f past has) is (rest_of log h left count old now (λ t. IsAhead h t found past has) s next) in
     record {
       texts = s.so.done;
       front = s.so.front;
@@ -141,7 +143,7 @@ why_broken (Some log) h past left has count old now found offset is s next =
       whole = s.so.whole;
       inside = ends.0;
       broken = ends.1.0;
-      place = ends.1.1 ∙ ap (λ n. n + ends.0) (sym s.so.size);
+      place = ends.1.1.0 ∙ ap (λ n. n + ends.0) (sym s.so.size);
     }
 
 -- another fault

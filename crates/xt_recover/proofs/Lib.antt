@@ -5,7 +5,6 @@ pub mod BytesTheorem
 pub mod AgainLemmas
 pub mod PlaceLemmas
 pub mod LaidLemmas
-pub mod WindowLemmas
 pub mod GatherLemmas
 pub mod WriteLemmas
 pub mod ImageLemmas

@@ -4,7 +4,6 @@ pub mod Promise
 pub mod Chunks
 pub mod Overlaid
 pub mod Gathering
-pub mod Window
 pub mod Writing
 pub mod Recovering
 pub mod Command

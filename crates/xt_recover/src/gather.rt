@@ -1,18 +1,19 @@
 //! The texts of a log, gathered.
 
-ghost use Rattle.std.specs.Prelude.{◌≡◌, ◌<◌, All, IfErr, IfOk, IfSome, OnOk, length};
+ghost use Rattle.std.specs.Prelude.{◌≡◌, ◌<◌, All, IfErr, IfOk, IfSome, OnOk, false, length};
 ghost use Rattle.xt_ckpt.specs.Grammar.{entries};
 ghost use Rattle.xt_ckpt.specs.Items.{HasForm};
-ghost use Rattle.xt_recover.specs.Gathering.{IsGathered, IsWhyLog};
+ghost use Rattle.xt_recover.specs.Gathering.{is_broken, IsGathered, IsWhyLog};
 ghost use Rattle.xt_recover.specs.Overlaid.{overlaid, with_items};
 ghost use Rattle.xt_recover.specs.declared.gather.LogFault.TheVariants.{Memory};
 
 use crate::overlay::Overlay;
-use crate::window::{Found, PIECE_BYTES, Window};
 use std::alloc::{AllocError, Global};
 use std::io::Read;
 use thiserror::Error;
 use xt_ckpt::{Checkpoint, Rooms};
+use xt_window::fault::LogFault as WindowFault;
+use xt_window::window::{Found, PIECE_BYTES, Window};
 
 /// Why a log was not gathered.
 #[derive(Clone, Copy, Debug, PartialEq, Eq, Error)]
@@ -51,7 +52,7 @@ pub(crate) fn gather<L: Read>(
 }
 
 /// The same, by way of room for a piece.
-#[tactic(auto, using(crate::proofs::GatherLemmas::tied_first, crate::proofs::GatherLemmas::why_other))]
+#[tactic(auto, using(crate::proofs::GatherLemmas::why_other))]
 fn gather_by_pieces<L: Read>(
     alloc: Global,
     log: &mut L,
@@ -62,7 +63,7 @@ fn gather_by_pieces<L: Read>(
     ensures gathered { IfOk result (λ counts. IfSome (L.remaining log.old) (λ bytes. IsGathered bytes counts (overlaid overlay.old) (overlaid overlay.new))) }
     ensures why { IfErr result (λ fault. IfSome (L.remaining log.old) (λ bytes. IsWhyLog bytes fault)) }
 {
-    let mut window = Window::new(alloc);
+    let mut window = Window::new(alloc, u64::MAX);
     let mut rooms = Rooms::new(alloc);
     for texts in 0..u64::MAX {
         match window.next(log, piece, &mut rooms) {
@@ -72,10 +73,20 @@ fn gather_by_pieces<L: Read>(
             }
             Ok(Found::Rest(rest)) => return Ok(LogCounts { texts, rest }),
             Ok(Found::Fault(offset)) => return Err(LogFault::Broken(offset)),
-            Err(fault) => return Err(fault),
+            Err(fault) => return Err(why_unread(&fault)),
         }
     }
     Err(LogFault::Read)
+}
+
+/// Why a window read no further. A log of 2^64 bytes, which nothing has, counts as one that cannot be read.
+fn why_unread(fault: &WindowFault) -> LogFault
+    ensures { is_broken result ≡ false }
+{
+    match fault {
+        WindowFault::TooLong | WindowFault::Io(_) => LogFault::Read,
+        WindowFault::Memory(_) => LogFault::Memory,
+    }
 }
 
 /// Lays the items of a checkpoint. The one fault is want of memory.

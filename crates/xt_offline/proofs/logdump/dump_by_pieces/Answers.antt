@@ -1,15 +1,18 @@
 use Rattle.std.proofs.Common.{Some, None, length, rules, ◌≡◌}
 use Rattle.std.specs.Io.KnownBytes.{Appends}
 use Rattle.std.specs.Prelude.{IfSome}
-use Rattle.xt_offline.proofs.DumpLemmas.{begun_found, begun_here, printed_found, stands_first, stands_more, tied_first, why_whole}
+use Rattle.xt_offline.proofs.DumpLemmas.{begun_found, begun_here, printed_found, short_found, stands_first, stands_more, why_whole}
 use Rattle.xt_offline.proofs.PlayLemmas.{on_err}
-use Rattle.xt_offline.specs.LogDump.{found_lines, status_after, IsWhy}
+use Rattle.xt_offline.specs.LogDump.{found_lines, status_after}
+use Rattle.xt_offline.specs.declared.logdump.TheConstants.{LOG_BYTES}
+use Rattle.xt_window.proofs.WindowLemmas.{tied_first}
+use Rattle.xt_window.specs.Window.{IsWhy}
 use Rattle.xt_offline.proofs.logdump.dump_by_pieces.Goals as goal
 
 pub loop-init : goal.loop-init
 loop-init g c = record {
   stands = stands_first (g.R.Read.remaining c.args.reader.now) c.new-window.result (g.W.Write.contents c.args.writer.now) c.new-window.ensures;
-  tied = tied_first c.new-window.result (g.R.Read.remaining c.args.reader.now) c.new-window.ensures;
+  tied = tied_first LOG_BYTES c.new-window.result (g.R.Read.remaining c.args.reader.now) c.new-window.ensures;
 }
 
 pub returns-in_err-found-clause-begun : goal.returns-in_err-found-clause-begun
@@ -17,7 +20,7 @@ returns-in_err-found-clause-begun g c = on_err _ _ (begun_here (g.R.Read.remaini
 
 pub returns-in_err-found-clause-why : goal.returns-in_err-found-clause-why
 returns-in_err-found-clause-why g c =
-    let why : IfSome (g.R.Read.remaining c.args.reader.now) (λ log. IsWhy (length log) c.in_err-found.field-0.0) =
+    let why : IfSome (g.R.Read.remaining c.args.reader.now) (λ log. IsWhy LOG_BYTES (length log) c.in_err-found.field-0.0) =
     why_whole (g.R.Read.remaining c.args.reader.now) c.loop.window (g.R.Read.remaining c.loop.reader) _ _ c.in_err-found.field-0.0 c.loop.invariant.stands c.in_err-found.ensures.fault in
     search rules
 
@@ -39,9 +42,12 @@ loop-preserved g c =
     let on : status_after c.in_ok-found.found ≡ None = search rules in
     record {
       stands = stands_more (g.R.Read.remaining c.args.reader.now) c.loop.window c.next.new.self (g.R.Read.remaining c.loop.reader) (g.R.Read.remaining c.next.new.reader) _ _ _ c.in_ok-found.found
-          c.loop.invariant.stands c.in_ok-found.ensures.found all on;
+          c.loop.invariant.stands c.in_ok-found.ensures.found all on c.in_ok-found.ensures.limit;
       tied = c.in_ok-found.ensures.tied;
     }
 
 pub returns-clause-begun : goal.returns-clause-begun
 returns-clause-begun g c = begun_here (g.R.Read.remaining c.args.reader.now) c.loop.window (g.R.Read.remaining c.loop.reader) _ _ c.loop.invariant.stands
+
+pub print_found-requires : goal.print_found-requires
+print_found-requires g c = record { short = short_found c.in_ok-found.found c.in_ok-found.ensures.grammar }

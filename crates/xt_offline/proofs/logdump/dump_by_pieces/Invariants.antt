@@ -1,6 +1,6 @@
 use Rattle.std.specs.Prelude.{IfSome}
 use Rattle.xt_offline.proofs.DumpLemmas.{Stands}
-use Rattle.xt_offline.specs.LogDump.{IsTied}
+use Rattle.xt_window.specs.Window.{IsTied}
 use Rattle.xt_offline.proofs.logdump.dump_by_pieces.Given as goal
 
 abbrev pub invariant-loop : goal.invariant-loop

@@ -1,16 +1,16 @@
-use Rattle.xt_recover.proofs.GatherLemmas.{gathered_rest, stands_first, stands_more, tied_first}
-use Rattle.xt_recover.proofs.WindowLemmas.{formed_found}
+use Rattle.xt_recover.proofs.GatherLemmas.{formed_found, gathered_rest, stands_first, stands_more}
 use Rattle.xt_recover.specs.Overlaid.{overlaid}
+use Rattle.xt_window.proofs.WindowLemmas.{tied_first}
 use Rattle.xt_recover.proofs.gather.gather_by_pieces.Goals as goal
 
 pub loop-texts-init : goal.loop-texts-init
 loop-texts-init g c = record {
-  stands = stands_first (g.L.Read.remaining c.args.log.now) c.new-window.result (overlaid c.args.overlay.now) c.new-window.ensures;
-  tied = tied_first c.new-window.result (g.L.Read.remaining c.args.log.now) c.new-window.ensures;
+  stands = stands_first 18446744073709551615 (g.L.Read.remaining c.args.log.now) c.new-window.result (overlaid c.args.overlay.now) c.new-window.ensures;
+  tied = tied_first 18446744073709551615 c.new-window.result (g.L.Read.remaining c.args.log.now) c.new-window.ensures;
 }
 
 pub lay_text-requires : goal.lay_text-requires
-lay_text-requires g c = record { form = formed_found c.in-Ok-Text.field-0 c.in-Ok-Text.checkpoint c.in-Ok-Text.field-0-is c.in-Ok-Text.ensures.form }
+lay_text-requires g c = record { form = formed_found c.in-Ok-Text.field-0 c.in-Ok-Text.checkpoint c.in-Ok-Text.field-0-is c.in-Ok-Text.ensures.grammar }
 
 pub returns-in-Ok-Rest-clause-gathered : goal.returns-in-Ok-Rest-clause-gathered
 returns-in-Ok-Rest-clause-gathered g c =

@@ -1,7 +1,7 @@
 use Rattle.std.specs.Prelude.{IfSome}
 use Rattle.xt_recover.proofs.GatherLemmas.{Stands}
 use Rattle.xt_recover.specs.Overlaid.{overlaid}
-use Rattle.xt_recover.specs.Window.{IsTied}
+use Rattle.xt_window.specs.Window.{IsTied}
 use Rattle.xt_recover.proofs.gather.gather_by_pieces.Given as goal
 
 abbrev pub invariant-loop-texts : goal.invariant-loop-texts

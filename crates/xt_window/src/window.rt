@@ -1,16 +1,13 @@
 //! A log read piece by piece, of which only what is not yet taken as texts is held.
 
-ghost use Rattle.std.specs.Prelude.{◌+◌, ◌<◌, ◌≤◌, ◌≡◌, IfErr, IfOk, IfSome, OnOk, [], false, length};
-ghost use Rattle.xt_offline.specs.LogDump.{ahead, is_too_long, taken, with_more, AreShort, IsAhead, IsNext, IsRefilled, IsTied, IsWhy};
+ghost use Rattle.std.specs.Prelude.{◌+◌, ◌<◌, ◌≤◌, ◌≡◌, IfErr, IfOk, IfSome, OnOk, false, length, ◌^◌};
+ghost use Rattle.xt_window.specs.Window.{ahead, is_too_long, taken, unread, with_more, IsAhead, IsNext, IsOfGrammar, IsRefilled, IsTied, IsWhy};
 
+use crate::fault::LogFault;
 use std::alloc::{AllocError, Global};
 use std::io::{self, ErrorKind, Read};
 use std::marker::Model;
-use thiserror::Error;
 use xt_ckpt::{Checkpoint, ReadFault, Rooms, read_checkpoint_into};
-
-/// The most bytes of a log.
-pub const LOG_BYTES: usize = 67_108_864;
 
 /// How many bytes are read at once.
 pub const PIECE_BYTES: usize = 65_536;
@@ -18,64 +15,53 @@ pub const PIECE_BYTES: usize = 65_536;
 /// The most bytes of a text: of 64 whole blocks.
 const TEXT_BYTES: usize = 263_200;
 
-/// Why a log was not read to its end.
-#[derive(Debug, Drop, Error)]
-pub enum LogFault {
-    /// A log of more than 67,108,864 bytes.
-    #[error("fault: log too long")]
-    TooLong,
-    /// The reader or the writer failed.
-    #[error("fault: {0}")]
-    Io(#[from] io::Error),
-    /// Memory was refused.
-    #[error("fault: {0}")]
-    Memory(#[from(alloc)] AllocError),
-}
-
 /// What comes next in a log.
 #[derive(Debug, Drop)]
 pub enum Found {
     /// A whole text.
     Text(Checkpoint),
     /// So many bytes up to the end, which are no text yet.
-    Rest(usize),
+    Rest(u64),
     /// A field that breaks its rule, by its offset in the log.
-    Fault(usize),
+    Fault(u64),
 }
 
-/// What is held of a log that is read. Clauses see the bytes that are not taken yet, their offset in the log, and whether the
-/// log ends with them.
+/// What is held of a log that is read. Clauses see the bytes that are not taken yet, their offset in the log, whether the log ends
+/// with them, and how many bytes it may have.
 #[derive(Debug, Drop)]
 pub struct Window {
     bytes: Vec<u8>,
     /// How many of the bytes are taken.
     taken: usize,
     /// Where the bytes begin in the log.
-    start: usize,
+    start: u64,
     is_ended: bool,
+    /// The most bytes that the log may have.
+    limit: u64,
 }
 
 impl Model for Window {
-    ghost use Rattle.std.specs.Prelude.{drop, length, ◌+◌, ◌≤◌};
-    ghost use Rattle.xt_offline.specs.LogDump.{Held};
+    ghost use Rattle.std.specs.Prelude.{drop, length, ◌+◌, ◌<◌, ◌≤◌, ◌^◌};
+    ghost use Rattle.xt_window.specs.Window.{Held};
 
     ghost Value = { Held };
 
-    ghost view = { λ w. record { bytes = drop w.taken w.bytes.items; offset = w.start + w.taken; is_ended = w.is_ended } };
+    ghost view = { λ w. record { bytes = drop w.taken w.bytes.items; offset = w.start + w.taken; is_ended = w.is_ended; limit = w.limit } };
 
-    ghost invariant = { λ w. (w.taken ≤ length w.bytes.items) × (w.start + length w.bytes.items ≤ 67108864) };
+    ghost invariant = { λ w. (w.taken ≤ length w.bytes.items) × (w.start + length w.bytes.items ≤ w.limit) × (w.limit < 2 ^ 64) };
 }
 
 impl Window {
-    /// The beginning of a log, of which nothing is read.
-    pub fn new(alloc: Global) -> Self
-        ensures { result ≡ record { bytes = []; offset = 0; is_ended = false } }
+    /// The beginning of a log that may have so many bytes, of which nothing is read.
+    pub fn new(alloc: Global, limit: u64) -> Self
+        ensures { result ≡ unread limit }
     {
         Window {
             bytes: Vec::new(alloc),
             taken: 0,
             start: 0,
             is_ended: false,
+            limit,
         }
     }
 
@@ -87,11 +73,11 @@ impl Window {
     }
 
     /// Their offset in the log.
-    fn offset(&self) -> usize
+    fn offset(&self) -> u64
         ensures value { result ≡ self.now.offset }
-        ensures bound { result + length self.now.bytes ≤ LOG_BYTES }
+        ensures bound { result + length self.now.bytes < 2 ^ 64 }
     {
-        self.start + self.taken
+        self.start + self.taken as u64
     }
 
     /// Whether the log ends with them.
@@ -111,7 +97,7 @@ impl Window {
 
     /// Takes the text that begins what is held, or says how the log ends; where more bytes are wanted they are read, by way of `piece`.
     /// A reader that is interrupted is asked again. The items of a text stand in `rooms`, as far as there are some.
-    #[tactic(auto, using(crate::proofs::WindowLemmas::is_ahead, crate::proofs::WindowLemmas::is_tied, crate::proofs::WindowLemmas::refilled_more, crate::proofs::WindowLemmas::refilled_none, crate::proofs::WindowLemmas::why_ahead, crate::proofs::WindowLemmas::why_other))]
+    #[tactic(auto, using(crate::proofs::WindowLemmas::is_tied, crate::proofs::WindowLemmas::refilled_more, crate::proofs::WindowLemmas::refilled_none, crate::proofs::WindowLemmas::why_ahead, crate::proofs::WindowLemmas::why_other))]
     pub fn next<R: Read>(
         &mut self,
         reader: &mut R,
@@ -120,10 +106,11 @@ impl Window {
     ) -> Result<Found, LogFault>
         requires room { 0 < length piece.old }
         requires ended { IsTied self.old (R.remaining reader.old) }
-        ensures short { IfOk result AreShort }
-        ensures found { IfOk result (λ found. IfSome (ahead self.old (R.remaining reader.old)) (λ log. IsAhead self.old.offset log found self.new (R.remaining reader.new))) }
+        ensures grammar { IfOk result IsOfGrammar }
+        ensures found { IfOk result (λ found. IfSome (ahead self.old (R.remaining reader.old)) (λ log. IsAhead self.old log found self.new (R.remaining reader.new))) }
         ensures tied { OnOk result (IsTied self.new (R.remaining reader.new)) }
-        ensures fault { IfErr result (λ fault. IfSome (ahead self.old (R.remaining reader.old)) (λ log. IsWhy (self.old.offset + length log) fault)) }
+        ensures limit { OnOk result (self.new.limit ≡ self.old.limit) }
+        ensures fault { IfErr result (λ fault. IfSome (ahead self.old (R.remaining reader.old)) (λ log. IsWhy self.old.limit (self.old.offset + length log) fault)) }
     {
         for _ in 0..u64::MAX {
             if let Some(found) = self.judge(rooms)? {
@@ -137,7 +124,7 @@ impl Window {
     /// Judges what is held, once no text has more bytes or the log ends with them; None where more is to be read. So a text is read once.
     fn judge(&mut self, rooms: &mut Rooms) -> Result<Option<Found>, LogFault>
         ensures judged { IfOk result (λ found. IsNext self.old found self.new) }
-        ensures bound { self.old.offset + length self.old.bytes ≤ LOG_BYTES }
+        ensures bound { self.old.offset + length self.old.bytes ≤ self.old.limit }
         ensures fault { IfErr result (λ fault. is_too_long fault ≡ false) }
     {
         if self.bytes.len() - self.taken < TEXT_BYTES && !self.is_ended {
@@ -156,9 +143,9 @@ impl Window {
                 self.take(len);
                 Ok(Some(Found::Text(checkpoint)))
             }
-            Ok(None) if self.is_ended() => Ok(Some(Found::Rest(self.held().len()))),
+            Ok(None) if self.is_ended() => Ok(Some(Found::Rest(self.held().len() as u64))),
             Ok(None) => Ok(None),
-            Err(ReadFault::Ckpt(fault)) => Ok(Some(Found::Fault(self.offset() + fault.at))),
+            Err(ReadFault::Ckpt(fault)) => Ok(Some(Found::Fault(self.offset() + fault.at as u64))),
             Err(ReadFault::Memory) => Err(LogFault::Memory(AllocError)),
         }
     }
@@ -168,7 +155,7 @@ impl Window {
         requires room { 0 < length piece.old }
         requires going { self.old.is_ended ≡ false }
         ensures more { OnOk result (IsRefilled self.old self.new (R.remaining reader.old) (R.remaining reader.new)) }
-        ensures fault { IfErr result (λ fault. IfSome (ahead self.old (R.remaining reader.old)) (λ log. IsWhy (self.old.offset + length log) fault)) }
+        ensures fault { IfErr result (λ fault. IfSome (ahead self.old (R.remaining reader.old)) (λ log. IsWhy self.old.limit (self.old.offset + length log) fault)) }
     {
         match reader.read(piece) {
             Ok(0) => {
@@ -184,12 +171,12 @@ impl Window {
         }
     }
 
-    /// Puts bytes behind what is held. `TooLong` where the log has more than 67,108,864 bytes.
+    /// Puts bytes behind what is held. `TooLong` where the log has more bytes than it may have.
     fn keep(&mut self, more: &[u8]) -> Result<(), LogFault>
         ensures kept { OnOk result (self.new ≡ with_more more.now self.old) }
-        ensures fault { IfErr result (IsWhy (self.old.offset + length self.old.bytes + length more.now)) }
+        ensures fault { IfErr result (IsWhy self.old.limit (self.old.offset + length self.old.bytes + length more.now)) }
     {
-        if more.len() > LOG_BYTES - self.start - self.bytes.len() {
+        if more.len() as u64 > self.limit - self.start - self.bytes.len() as u64 {
             return Err(LogFault::TooLong);
         }
         self.bytes.extend_from_slice(more).map_err(LogFault::Memory)
@@ -204,7 +191,7 @@ impl Window {
         if held < self.taken {
             self.bytes.copy_within(self.taken..len, 0);
             self.bytes.truncate(held);
-            self.start += self.taken;
+            self.start += self.taken as u64;
             self.taken = 0;
         }
     }

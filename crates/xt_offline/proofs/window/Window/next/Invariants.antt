@@ -1,5 +1,0 @@
-use Rattle.xt_offline.specs.LogDump.{IsRefilled}
-use Rattle.xt_offline.proofs.window.Window.next.Given as goal
-
-abbrev pub invariant-loop : goal.invariant-loop
-invariant-loop g l = IsRefilled l.fn.self l.self (g.R.Read.remaining l.fn.reader) (g.R.Read.remaining l.reader)

@@ -1,0 +1,133 @@
+-- A window over a reader: what is ahead of it in a log.
+use Rattle.std.proofs.Common.{◌≡◌, ◌∙◌, ◌+◌, ◌<◌, ◌≤◌, ◌++◌, ℕ, List, Option, Some, None, append-nil, append_assoc, ap, arith, drop, false, length, refl, subst, sym, take, true≢false}
+use Rattle.std.proofs.lemmas.List.{drop-append-le, length-append, take-append-le}
+use Rattle.std.specs.Io.KnownBytes.{Keeps}
+use Rattle.std.specs.Prelude.{IfSome}
+use Rattle.xt_ckpt.specs.Fields.{IsFaultAt, IsUnfinished}
+use Rattle.xt_ckpt.specs.Grammar.{IsText, entries}
+use Rattle.xt_ckpt.specs.Reading.{Begins}
+use Rattle.xt_ckpt.specs.declared.reading.Checkpoint.{Checkpoint}
+use Rattle.xt_window.specs.Window.{ahead, is_too_long, unread, Held, IsAhead, IsNext, IsOfGrammar, IsRefilled, IsTied, IsWhy}
+use Rattle.xt_window.specs.declared.fault.LogFault.{LogFault}
+use Rattle.xt_window.specs.declared.fault.LogFault.TheVariants.{Io, Memory, TooLong}
+use Rattle.xt_window.specs.declared.window.Found.{Found}
+
+-- ---- a front of a log, and the log
+-- a text that begins a front begins the whole
+text_of_front : (front more : List ℕ) (c : Checkpoint) (size : ℕ) → Begins front c size → Begins (front ++ more) c size
+text_of_front front more c size begins =
+    (omega (arith, begins.0, length-append front more), subst (λ t. IsText t c.no (entries c.items.items)) (sym (take-append-le size front more begins.0)) begins.1)
+
+-- a field that breaks its rule in a front breaks it in the whole
+fault_of_front : (front more : List ℕ) (at : ℕ) → IsFaultAt at front → IsFaultAt at (front ++ more)
+fault_of_front front more at is = record {
+  draft = is.draft;
+  front = is.front;
+  bytes = is.bytes;
+  rest = is.rest ++ more;
+  parts = ap (λ t. t ++ more) is.parts ∙ append_assoc (is.front ++ is.bytes) is.rest more;
+  place = is.place;
+  reads = is.reads;
+  more = is.more;
+  whole = is.whole;
+  broken = is.broken;
+}
+
+-- it begins within the front
+fault_within : (front : List ℕ) (at : ℕ) → IsFaultAt at front → at < length front
+fault_within front at is = omega (arith, is.place, ap (λ t. length t) is.parts, length-append (is.front ++ is.bytes) is.rest, length-append is.front is.bytes, is.more, is.whole)
+
+-- ---- reading on
+keeps_same : (known : Option (List ℕ)) → Keeps known known
+keeps_same None = tt
+keeps_same (Some x) = refl
+
+keeps_then : (a b c : Option (List ℕ)) → Keeps a b → Keeps b c → Keeps a c
+keeps_then None b c first second = tt
+keeps_then (Some x) None c first second = absurd first
+keeps_then (Some x) (Some y) None first second = absurd second
+keeps_then (Some x) (Some y) (Some z) first second = second ∙ first
+
+-- at the beginning the log goes on
+pub tied_first : (limit : ℕ) (h : Held) (left : Option (List ℕ)) → h ≡ unread limit → IsTied h left
+tied_first limit h left is over = absurd (true≢false (sym over ∙ ap (λ w. w.is_ended) is))
+
+-- nothing is read
+pub refilled_none : (h : Held) (left : Option (List ℕ)) → IsTied h left → IsRefilled h h left left
+refilled_none h left tied = record { place = refl; limit = refl; same = keeps_same (ahead h left); tied = tied }
+
+-- some more is read
+pub refilled_more : (old mid new : Held) (had left has : Option (List ℕ)) → IsRefilled old mid had left → IsRefilled mid new left has → IsRefilled old new had has
+refilled_more old mid new had left has first second = record {
+  place = second.place ∙ first.place;
+  limit = second.limit ∙ first.limit;
+  same = keeps_then (ahead old had) (ahead mid left) (ahead new has) first.same second.same;
+  tied = second.tied;
+}
+
+-- ---- what is found
+-- what comes next of a known log, by what is found in the front that is held
+found_known : (old : Held) (log left : List ℕ) (mid new : Held) (found : Found) → mid.offset ≡ old.offset → mid.limit ≡ old.limit → mid.bytes ++ left ≡ log → IsTied mid (Some left) → mid.offset + length mid.bytes ≤ mid.limit → IsNext mid (Some found) new → IsAhead old log found new (Some left)
+found_known old log left mid new (Found.Text c) place same joined tied bound (size, (begins, is)) = (
+  size,
+  (
+    subst (λ t. Begins t c size) joined (text_of_front mid.bytes left c size begins),
+    (
+      ap (λ h. h.offset) is ∙ ap (λ n. n + size) place,
+      ap (λ h. Some (h.bytes ++ left)) is ∙ ap Some (sym (drop-append-le size mid.bytes left begins.0) ∙ ap (drop size) joined),
+    ),
+  ),
+)
+found_known old log left mid new (Found.Rest count) place same joined tied bound (over, (unfinished, (counted, is))) =
+    let whole : mid.bytes ≡ log = sym (append-nil mid.bytes) ∙ (ap (λ t. mid.bytes ++ t) (sym (tied over)) ∙ joined) in
+    (subst (λ t. IsUnfinished t) whole unfinished, (counted ∙ ap (λ t. length t) whole, omega (arith, bound, place, same, ap (λ t. length t) whole)))
+found_known old log left mid new (Found.Fault at) place same joined tied bound (inside, (is, (told, kept))) = (
+  inside,
+  (
+    subst (λ t. IsFaultAt inside t) joined (fault_of_front mid.bytes left inside is),
+    (told ∙ ap (λ n. n + inside) place, omega (arith, told, bound, same, fault_within mid.bytes inside is)),
+  ),
+)
+
+-- what comes next of a log, where it is known
+pub is_ahead : (old mid new : Held) (had left : Option (List ℕ)) (found : Found) → IsRefilled old mid had left → mid.offset + length mid.bytes ≤ mid.limit → IsNext mid (Some found) new → IfSome (ahead old had) (λ log. IsAhead old log found new left)
+is_ahead old mid new None left found read bound next = tt
+is_ahead old mid new (Some xs) None found read bound next = absurd read.same
+is_ahead old mid new (Some xs) (Some ys) found read bound next = found_known old (old.bytes ++ xs) ys mid new found read.place read.limit read.same read.tied bound next
+
+-- what was found leaves the reader as it is
+pub is_tied : (mid new : Held) (left : Option (List ℕ)) (found : Found) → IsTied mid left → IsNext mid (Some found) new → IsTied new left
+is_tied mid new left (Found.Text c) tied next over = tied (sym (ap (λ h. h.is_ended) next.1.1) ∙ over)
+is_tied mid new left (Found.Rest count) tied next over = tied (sym (ap (λ h. h.is_ended) next.1.1.1) ∙ over)
+is_tied mid new left (Found.Fault at) tied next over = tied (sym (ap (λ h. h.is_ended) next.1.1.1) ∙ over)
+
+-- and how many bytes the log may have
+pub same_limit : (mid new : Held) (found : Found) → IsNext mid (Some found) new → new.limit ≡ mid.limit
+same_limit mid new (Found.Text c) next = ap (λ h. h.limit) next.1.1
+same_limit mid new (Found.Rest count) next = ap (λ h. h.limit) next.1.1.1
+same_limit mid new (Found.Fault at) next = ap (λ h. h.limit) next.1.1.1
+
+-- a text that is found is one of the grammar
+pub is_of_grammar : (mid new : Held) (found : Found) → IsNext mid (Some found) new → IsOfGrammar found
+is_of_grammar mid new (Found.Text c) (len, (begins, is)) = (take len mid.bytes, begins.1)
+is_of_grammar mid new (Found.Rest count) next = tt
+is_of_grammar mid new (Found.Fault at) next = tt
+
+-- ---- faults
+-- of a fault other than of length nothing is said
+pub why_any : (limit size : ℕ) (fault : LogFault) → is_too_long fault ≡ false → IsWhy limit size fault
+why_any limit size TooLong other = absurd (true≢false other)
+why_any limit size (Io error) other = tt
+why_any limit size (Memory error) other = tt
+
+pub why_other : (known : Option (List ℕ)) (limit offset : ℕ) (fault : LogFault) → is_too_long fault ≡ false → IfSome known (λ log. IsWhy limit (offset + length log) fault)
+why_other None limit offset fault other = tt
+why_other (Some log) limit offset fault other = why_any limit (offset + length log) fault other
+
+-- why a log was not read further
+pub why_ahead : (old mid : Held) (had left : Option (List ℕ)) (fault : LogFault) → IsRefilled old mid had left → IfSome (ahead mid left) (λ log. IsWhy mid.limit (mid.offset + length log) fault) → IfSome (ahead old had) (λ log. IsWhy old.limit (old.offset + length log) fault)
+why_ahead old mid None left fault read why = tt
+why_ahead old mid (Some xs) None fault read why = absurd read.same
+why_ahead old mid (Some xs) (Some ys) fault read why =
+    subst (λ m. IsWhy m (old.offset + length (old.bytes ++ xs)) fault) read.limit
+    (subst (λ n. IsWhy mid.limit n fault) (ap (λ n. n + length (mid.bytes ++ ys)) read.place ∙ ap (λ t. old.offset + length t) read.same) why)

@@ -1,0 +1,72 @@
+-- A log that is read piece by piece: what is held of it, what is ahead, and why it was not read further.
+use Rattle.std.specs.Io.KnownBytes.{IsAtEnd, Keeps, prepend_known}
+use Rattle.std.specs.Prelude.{Bool, List, None, Option, Some, [], drop, false, length, true, ℕ, ◌+◌, ◌++◌, ◌<◌, ◌≡◌, ◌≤◌}
+use Rattle.xt_ckpt.specs.Fields.{IsFaultAt, IsUnfinished}
+use Rattle.xt_ckpt.specs.Grammar.{IsText, entries}
+use Rattle.xt_ckpt.specs.Reading.{Begins}
+use Rattle.xt_window.specs.declared.fault.LogFault.{LogFault}
+use Rattle.xt_window.specs.declared.fault.LogFault.TheVariants.{TooLong}
+use Rattle.xt_window.specs.declared.window.Found.{Found}
+
+-- what is held of a log: bytes that are not taken yet, their offset, whether the log ends with them, and the most bytes that it may have
+pub record Held : Type 0 where
+  pub bytes : List ℕ
+  pub offset : ℕ
+  pub is_ended : Bool
+  pub limit : ℕ
+
+-- nothing is read of a log that may have so many bytes
+abbrev pub unread : ℕ → Held
+unread limit = record { bytes = []; offset = 0; is_ended = false; limit = limit }
+
+-- the first bytes are taken
+abbrev pub taken : ℕ → Held → Held
+taken len h = record h { bytes = drop len h.bytes; offset = h.offset + len }
+
+-- more bytes stand behind what is held
+abbrev pub with_more : List ℕ → Held → Held
+with_more more h = record h { bytes = h.bytes ++ more }
+
+-- a text that was found is one of the grammar
+abbrev pub IsOfGrammar : Found → Type 0
+IsOfGrammar (Found.Text c) = (text : List ℕ) × IsText text c.no (entries c.items.items)
+IsOfGrammar other = Unit {0}
+
+-- what is held begins with a text, which is taken; or it is the unfinished end of the log; or a field breaks its rule; or more is to be read
+abbrev pub IsNext : Held → Option Found → Held → Type 0
+IsNext old (Some (Found.Text c)) new = (len : ℕ) × (Begins old.bytes c len × (new ≡ taken len old))
+IsNext old (Some (Found.Rest count)) new = (old.is_ended ≡ true) × (IsUnfinished old.bytes × ((count ≡ length old.bytes) × (new ≡ old)))
+IsNext old (Some (Found.Fault offset)) new = (at : ℕ) × (IsFaultAt at old.bytes × ((offset ≡ old.offset + at) × (new ≡ old)))
+IsNext old None new = (old.is_ended ≡ false) × (new ≡ old)
+
+-- what a log has from the offset on, where that is known: what is held, and then what the reader has left
+abbrev pub ahead : Held → Option (List ℕ) → Option (List ℕ)
+ahead h left = prepend_known h.bytes left
+
+-- where the log ends with what is held, the reader has nothing left
+abbrev pub IsTied : Held → Option (List ℕ) → Type 0
+IsTied h left = h.is_ended ≡ true → IsAtEnd left
+
+-- more of the same log is held, or no more
+pub record IsRefilled (old new : Held) (had has : Option (List ℕ)) : Type 0 where
+  pub place : new.offset ≡ old.offset
+  pub limit : new.limit ≡ old.limit
+  pub same : Keeps (ahead old had) (ahead new has)
+  pub tied : IsTied new has
+
+-- what comes next of a log that has these bytes from the offset on: a text, behind which the others are ahead; no text yet, up to the end of a log
+-- that is not too long; or a field that breaks its rule, as far as a log may have bytes
+abbrev pub IsAhead : Held → List ℕ → Found → Held → Option (List ℕ) → Type 0
+IsAhead old log (Found.Text c) new has = (size : ℕ) × (Begins log c size × ((new.offset ≡ old.offset + size) × (ahead new has ≡ Some (drop size log))))
+IsAhead old log (Found.Rest count) new has = IsUnfinished log × ((count ≡ length log) × (old.offset + length log ≤ old.limit))
+IsAhead old log (Found.Fault place) new has = (at : ℕ) × (IsFaultAt at log × ((place ≡ old.offset + at) × (place < old.limit)))
+
+-- why a log of so many bytes was not read to its end: it has more than it may have; of another fault nothing is said
+abbrev pub IsWhy : ℕ → ℕ → LogFault → Type 0
+IsWhy limit size TooLong = limit < size
+IsWhy limit size other = Unit {0}
+
+-- whether a fault says that a log has too many bytes
+abbrev pub is_too_long : LogFault → Bool
+is_too_long TooLong = true
+is_too_long other = false

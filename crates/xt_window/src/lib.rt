@@ -1,0 +1,5 @@
+//! A window over a log: the log is read piece by piece, and its texts are taken one after another.
+#![tactic(auto)]
+
+pub mod fault;
+pub mod window;
