@@ -1,9 +1,9 @@
 //! Crashes of a mount: one life after another, each over what recovery made of the one before.
 
 use crate::crash_life::{CrashCounts, CrashLife};
-use crate::dice::Dice;
 use crate::image::Image;
 use std::alloc::{AllocError, Global};
+use xt_trials::dice::Dice;
 
 /// Lives until there were so many crashes: what was counted.
 pub fn try_crashes(alloc: Global, seed: u64, crashes: u64) -> Result<CrashCounts, AllocError> {

@@ -3,7 +3,6 @@
 ghost use Rattle.std.specs.Prelude.{◌<◌, [], false};
 ghost use Rattle.xt_base.specs.declared.sizes.TheConstants.{CHUNKS};
 
-use crate::dice::Dice;
 use crate::image::Image;
 use std::alloc::{AllocError, Global};
 use xt_base::content::Content;
@@ -12,6 +11,7 @@ use xt_base::sizes::{CHUNK_BYTES, CHUNKS};
 use xt_base::steps::HomeOffer;
 use xt_dev::fault::DevFault;
 use xt_dev::home::HomeDevice;
+use xt_trials::dice::Dice;
 
 /// A write that no sync has made safe yet.
 #[derive(Drop)]

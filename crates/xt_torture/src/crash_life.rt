@@ -5,8 +5,6 @@ ghost use Rattle.xt_base.specs.declared.sizes.TheConstants.{WORKERS};
 
 use crate::crash_home::CrashHome;
 use crate::crash_log::{CrashLog, Left};
-use crate::dice::Dice;
-use crate::guess::{Guess, log_request};
 use crate::image::{BLOCKS, Image};
 use crate::plain::Plain;
 use crate::round::first_answers;
@@ -20,6 +18,8 @@ use xt_base::steps::{Answer, Errno, HomeAnswers, LogAnswers, Reply, Request, Ste
 use xt_core::HostCore;
 use xt_core::host::TurnFault;
 use xt_dev::home::HomeDevice;
+use xt_trials::dice::Dice;
+use xt_trials::guess::{Guess, log_request};
 
 /// The bytes of a log, and of a leg.
 const LOG_BYTES: u32 = 65_536;

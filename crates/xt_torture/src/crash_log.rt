@@ -1,10 +1,10 @@
 //! A log device that crashes.
 
-use crate::dice::Dice;
 use std::alloc::{AllocError, Global};
 use xt_base::content::Data;
 use xt_base::sizes::DATA_BYTES;
 use xt_base::steps::LogOffer;
+use xt_trials::dice::Dice;
 
 /// More bytes than a text has.
 const MOST_END: usize = 1 << 20;

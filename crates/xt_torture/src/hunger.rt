@@ -1,7 +1,7 @@
 //! Memory that is taken away for the time of one step.
 
-use crate::dice::Dice;
 use std::alloc::{AllocError, Global};
+use xt_trials::dice::Dice;
 
 /// The sizes in which memory is taken, the greatest first.
 const SIZES: [usize; 8] = [1 << 24, 1 << 20, 1 << 16, 1 << 13, 1 << 10, 256, 96, 24];

@@ -1,4 +1,4 @@
-//! Tries to break what is promised of a host and of the texts of its checkpoints.
+//! Tries to break what is promised of a host core, of the texts of its checkpoints, and of what a crash leaves.
 //!
 //! `xt_torture simulation SEED STEPS [hungry]` runs random steps of sixteen tenants, with failing devices, and compares what each is told
 //! and offered with what it is alone. Where the program's memory has a limit and it is `hungry`, memory is taken away now and then.
@@ -8,12 +8,9 @@
 //! `xt_torture crash SEED CRASHES` runs random steps of one mount over devices that crash: after each of so many crashes the log's texts are laid
 //! over the home device, which must then have what one checkpoint committed, all of it.
 //!
-//! `xt_torture threads SEED HOSTS TURNS` has four threads call the sixteen slots of each host at random, over devices that fail, and runs
-//! the books of all slots again.
-//!
 //! `xt_torture refusals` takes a script and its output, with an empty line between them, from standard input, and tries it through the host
-//! core; `xt_torture served` through a running host of one worker. Who starts them refuses memory: the status is 3 where a step was refused
-//! memory and all else was as it must be, 2 where something was not, and 1 where the trial itself was refused memory.
+//! core. Who starts it refuses memory: the status is 3 where a step was refused memory and all else was as it must be, 2 where something was
+//! not, and 1 where the trial itself was refused memory.
 #![tactic(auto)]
 
 mod bytes;
@@ -21,44 +18,30 @@ mod crash;
 mod crash_home;
 mod crash_life;
 mod crash_log;
-mod crew;
-mod dice;
-mod guess;
-mod guest;
 mod hunger;
 mod image;
 mod judge;
 mod plain;
 mod refusals;
-mod replay;
 mod round;
-mod row;
-mod served;
 mod simulation;
-mod working;
 mod wreck;
 
 use crate::bytes::try_bytes;
 use crate::crash::try_crashes;
-use crate::crew::{Ended, Plan, try_host};
-use crate::refusals::{Seen, try_row};
-use crate::row::RowFault;
-use crate::served::try_served;
+use crate::refusals::try_row;
 use crate::simulation::simulate;
 use anyhow::{Context, Result, bail};
 use std::alloc::Global;
 use std::env;
 use std::io::{Input, Read};
 use std::process::ExitCode;
-use std::sync::Wait;
-use std::thread::Threads;
-use xt_cell::reserve::Blanks;
+use xt_trials::row::RowFault;
+use xt_trials::seen::Seen;
+use xt_trials::words::number;
 
 /// The trials.
-const TRIALS: &str = "simulation, bytes, crash, threads, refusals or served";
-
-/// How much each thread of a host does at most, so that no book is folded.
-const MOST_TURNS: u64 = 100_000;
+const TRIALS: &str = "simulation, bytes, crash or refusals";
 
 /// The status of a trial that found so many differences.
 fn status(different: u64) -> ExitCode {
@@ -117,36 +100,6 @@ fn print_crashes<R: Print>(rt: &R, alloc: Global, seed: u64, crashes: u64) -> Re
     Ok(status(counts.wrong))
 }
 
-/// Tries hosts with four threads each, and prints what their books tell: the status.
-fn print_threads<R: Print + Threads + Wait + Sync>(
-    rt: &R,
-    alloc: Global,
-    first: Plan,
-    hosts: u64,
-) -> Result<ExitCode> {
-    let mut ended = Ended::default();
-    for number in 0..hosts {
-        let seed = first.seed.wrapping_add(number);
-        try_host(rt, alloc, Blanks::new(), Plan { seed, ..first }, &mut ended)?;
-    }
-    let tally = ended.tally;
-    println!(rt;
-        "threads, seed {}: {} events on {} hosts of sixteen slots by four threads, {} mounts, {} unmounts, {} checkpoints landed, {} blocks written home, {} calls told to try again, {} device calls failed: {} hosts unclean, {} books different",
-        first.seed,
-        tally.events,
-        ended.hosts,
-        tally.mounts,
-        tally.unmounts,
-        tally.landed,
-        tally.flushed,
-        tally.again,
-        tally.failed,
-        ended.unclean,
-        ended.different
-    )?;
-    Ok(status(ended.unclean.saturating_add(ended.different)))
-}
-
 /// The status of a row, which is printed.
 fn print_seen<R: Print>(rt: &R, seen: Result<Seen, RowFault>) -> Result<ExitCode> {
     let Ok(seen) = seen else {
@@ -156,26 +109,7 @@ fn print_seen<R: Print>(rt: &R, seen: Result<Seen, RowFault>) -> Result<ExitCode
         "{} steps, {} refused: {} wrong",
         seen.steps, seen.refused, seen.wrong
     )?;
-    Ok(ExitCode::from(match seen {
-        Seen {
-            wrong: 0,
-            refused: 0,
-            ..
-        } => 0,
-        Seen { wrong: 0, .. } => 3,
-        _ => 2,
-    }))
-}
-
-/// A number among the words of the command line.
-fn number(words: &[String], place: usize, name: &'static str) -> Result<u64> {
-    Ok(
-        words
-            .get(place)
-            .context(name)?
-            .parse::<u64>()
-            .context(name)?,
-    )
+    Ok(ExitCode::from(seen.status()))
 }
 
 fn main(rt: HostRuntime) -> Result<ExitCode> {
@@ -196,21 +130,10 @@ fn main(rt: HostRuntime) -> Result<ExitCode> {
             let crashes = number(&words, 3, "CRASHES")?;
             print_crashes(&rt, alloc, seed, crashes)
         }
-        "threads" => {
-            let seed = number(&words, 2, "SEED")?;
-            let hosts = number(&words, 3, "HOSTS")?;
-            let turns = number(&words, 4, "TURNS")?.min(MOST_TURNS) as u32;
-            print_threads(&rt, alloc, Plan { seed, turns }, hosts)
-        }
         "refusals" => {
             let mut text = Vec::new(alloc);
             rt.reader().read_to_end(&mut text)?;
             print_seen(&rt, try_row(alloc, &text))
-        }
-        "served" => {
-            let mut text = Vec::new(alloc);
-            rt.reader().read_to_end(&mut text)?;
-            print_seen(&rt, try_served(&rt, alloc, Blanks::new(), &text))
         }
         _ => bail!(TRIALS),
     }

@@ -1,6 +1,5 @@
 //! Rows while one request for memory is refused, which one is for others to say: who starts this program refuses it.
 
-use crate::row::{Row, RowFault, is_printed};
 use std::alloc::{AllocError, Global};
 use xt_base::names::Slot;
 use xt_base::outcomes::{Outcomes, RunFault, Turn};
@@ -9,36 +8,8 @@ use xt_base::steps::Step;
 use xt_core::HostCore;
 use xt_text::buffer::Text;
 use xt_text::print_reply::{print_home_offer, print_log_offer, print_slot_reply};
-
-/// What was seen of a row.
-#[derive(Clone, Copy, Default)]
-pub struct Seen {
-    /// Steps that were given to a host, those that were tried again counted once.
-    pub steps: u64,
-    /// Steps that were answered ENOMEM, and runs that had no memory to tell what they were told.
-    pub refused: u64,
-    /// Replies that are neither the row's nor ENOMEM, and whatever else is not as it must be.
-    pub wrong: u64,
-}
-
-impl Seen {
-    /// One more step.
-    pub fn count(&mut self) {
-        self.steps = self.steps.saturating_add(1);
-    }
-
-    /// One more refusal.
-    pub fn refuse(&mut self) {
-        self.refused = self.refused.saturating_add(1);
-    }
-
-    /// Whether it is as it must be.
-    pub fn judge(&mut self, is_right: bool) {
-        if !is_right {
-            self.wrong = self.wrong.saturating_add(1);
-        }
-    }
-}
+use xt_trials::row::{Row, RowFault, is_printed};
+use xt_trials::seen::Seen;
 
 /// Gives a host each step of a row, and gives a step that is refused memory again: at the second try at least it has the row's reply.
 fn try_again(alloc: Global, row: &Row, seen: &mut Seen) -> Result<(), AllocError> {

@@ -1,7 +1,5 @@
 //! A list of random steps, taken one by one by a host of sixteen tenants.
 
-use crate::dice::Dice;
-use crate::guess::{BLOCKS, Guess};
 use crate::hunger::Hunger;
 use std::alloc::{AllocError, Global};
 use std::collections::VecDeque;
@@ -10,6 +8,8 @@ use xt_base::names::{JobKind, JobName, Slot, Worker};
 use xt_base::sizes::{FLUSH_BLOCKS, SLOTS, WORKERS};
 use xt_base::steps::{Answer, HomeAnswers, LogAnswers, Reply, Request, Step};
 use xt_core::HostCore;
+use xt_trials::dice::Dice;
+use xt_trials::guess::{BLOCKS, Guess};
 
 /// What a worker has in hand.
 #[derive(Clone, Copy)]

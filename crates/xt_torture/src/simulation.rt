@@ -1,6 +1,5 @@
 //! Sixteen tenants of one host, and each of them alone.
 
-use crate::dice::Dice;
 use crate::round::{Counts, Round};
 use std::alloc::{AllocError, Global};
 use xt_base::names::Slot;
@@ -8,6 +7,7 @@ use xt_base::outcomes::{Outcomes, Turn};
 use xt_base::sizes::SLOTS;
 use xt_base::steps::{HomeOffer, LogOffer, Reply, Step};
 use xt_core::HostCore;
+use xt_trials::dice::Dice;
 
 /// How many turns a host is given.
 const TURNS: u32 = 20_000;

@@ -1,12 +1,12 @@
 //! What a crash leaves, and what recovery makes of it.
 
 use crate::crash_home::CrashHome;
-use crate::dice::Dice;
 use crate::image::Image;
 use crate::plain::Committed;
 use std::alloc::{AllocError, Global};
 use xt_dev::fail_at::FailAt;
 use xt_recover::recovering::recover;
+use xt_trials::dice::Dice;
 
 /// In which of its calls a recovery that is broken off fails at the latest.
 const LATEST_CALL: u32 = 60;

@@ -4,7 +4,6 @@ ghost use Rattle.std.specs.Prelude.{◌≡◌, ◌<◌, ◌-◌, ◌^◌, All, I
 ghost use Rattle.std.specs.Arc.{arc_value};
 ghost use Rattle.xt_cell.specs.Ledgers.{AreCut, AreNamed};
 
-use crate::dice::Dice;
 use crate::guest::{Guest, Lived, live, size_in};
 use crate::replay::{Tally, gives_replies};
 use crate::working::Workplace;
@@ -27,6 +26,7 @@ use xt_dev::mem_log::MemLog;
 use xt_host::comparing::compare_all;
 use xt_host::host::{BOOK_ENTRIES, Host};
 use xt_queue::jobs::WorkPass;
+use xt_trials::dice::Dice;
 
 /// How many threads, each of them a caller and a worker.
 const CREW: usize = 4;

@@ -3,8 +3,6 @@
 ghost use Rattle.std.specs.Prelude.{◌≡◌};
 ghost use Rattle.std.specs.Arc.{arc_value};
 
-use crate::dice::Dice;
-use crate::guess::{BLOCKS, Guess};
 use crate::working::{Size, Workplace};
 use std::alloc::{AllocError, Global};
 use std::sync::Wait;
@@ -17,6 +15,8 @@ use xt_cell::records::Receipt;
 use xt_cell::seat::HostSeat;
 use xt_host::host::Host;
 use xt_queue::jobs::WorkPass;
+use xt_trials::dice::Dice;
+use xt_trials::guess::{BLOCKS, Guess};
 
 /// The bytes of a log.
 const LOG_BYTES: u32 = 65_536;

@@ -5,9 +5,9 @@ use Rattle.std.proofs.Crossing.{crosses}
 use Rattle.xt_cell.proofs.seat.HostSeat.TheSendSync as seats
 use Rattle.xt_host.proofs.CrossLemmas.{host_sync}
 use Rattle.xt_host.specs.contracts.host.Host as Host
-use Rattle.xt_torture.proofs.crew.by_two.Goals as goal
-use Rattle.xt_torture.specs.contracts.crew.by_two.dyn-1 as one
-use Rattle.xt_torture.specs.contracts.crew.by_two.dyn-2 as two
+use Rattle.xt_host_torture.proofs.crew.by_four.Goals as goal
+use Rattle.xt_host_torture.specs.contracts.crew.by_four.dyn-1 as one
+use Rattle.xt_host_torture.specs.contracts.crew.by_four.dyn-2 as two
 use Rattle.xt_queue.proofs.jobs.WorkPass.TheSendSync as passes
 use Rattle.xt_slots.specs.contracts.desk.Slots as Slots
 

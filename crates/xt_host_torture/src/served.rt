@@ -4,8 +4,6 @@ ghost use Rattle.std.specs.Prelude.{◌≡◌, ◌-◌, ◌^◌};
 ghost use Rattle.std.specs.Arc.{arc_value};
 ghost use Rattle.xt_cell.specs.Ledgers.{AreCut, AreNamed};
 
-use crate::refusals::Seen;
-use crate::row::{Row, RowFault, is_printed};
 use crate::working::{Size, Workplace};
 use std::alloc::{AllocError, Global};
 use std::marker::Brand;
@@ -21,6 +19,8 @@ use xt_dev::mem_log::MemLog;
 use xt_host::host::{BOOK_ENTRIES, Host};
 use xt_queue::jobs::WorkPass;
 use xt_text::buffer::Text;
+use xt_trials::row::{Row, RowFault, is_printed};
+use xt_trials::seen::Seen;
 
 /// The mount that a row begins with.
 fn size_of(row: &Row) -> Result<Size, RowFault> {

@@ -1,6 +1,6 @@
 use Rattle.std.specs.Prelude.{◌-◌, ◌^◌}
 use Rattle.xt_cell.specs.Ledgers.{name_in}
-use Rattle.xt_torture.proofs.served.try_served.Given as goal
+use Rattle.xt_host_torture.proofs.crew.try_host.Given as goal
 
 -- the house of sixteen new ledgers
 abbrev pub ghosts-run : goal.ghosts-run

@@ -1,6 +1,6 @@
 use Rattle.std.proofs.Common.{◌≡◌}
 use Rattle.std.specs.Arc.{arc_value}
-use Rattle.xt_torture.proofs.guest.live.Given as goal
+use Rattle.xt_host_torture.proofs.guest.live.Given as goal
 
 -- seat and pass are of the host's board and queue
 abbrev pub invariant-loop : goal.invariant-loop

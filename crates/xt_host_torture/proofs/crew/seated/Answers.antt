@@ -1,7 +1,7 @@
 use Rattle.std.proofs.Common.{◌≡◌}
 use Rattle.std.proofs.lemmas.List.Elements.{All-pop}
 use Rattle.std.specs.Arc.{arc_value}
-use Rattle.xt_torture.proofs.crew.seated.Goals as goal
+use Rattle.xt_host_torture.proofs.crew.seated.Goals as goal
 
 -- what is left is of the host's queue as all was
 pub returns-clause-queues : goal.returns-clause-queues
