@@ -26,6 +26,12 @@ const LOG_BYTES: u32 = 65_536;
 
 const UNIT: u32 = 12_000;
 
+/// In how many steps the free bytes of a log are found, each half of the one before: from the whole log to what an item costs.
+const HALVINGS: u32 = 13;
+
+/// How many flushes write all blocks home, and some more where one fails.
+const FLUSHES: u32 = BLOCKS as u32 / FLUSH_BLOCKS as u32 + 2;
+
 /// How many turns a life has at most, and how many once it is shut.
 const TURNS: u32 = 400;
 
@@ -60,6 +66,9 @@ pub struct CrashCounts {
     pub torn: u64,
     /// Recoveries that were broken off, and run again.
     pub again: u64,
+    /// How often the log lost old texts, and how often all.
+    pub cuts: u64,
+    pub emptied: u64,
     /// Crashes after which something was not recovered as it must be, and reads that were not answered so.
     pub wrong: u64,
 }
@@ -81,6 +90,8 @@ pub struct CrashLife {
     jobs: Jobs,
     /// What crashes left of the home device while the checkpoint was in flight, whose text was not known then.
     waiting: Vec<Image>,
+    /// It makes whole transactions alone, so that no locks and grants stay, and it lives long.
+    is_quiet: bool,
     turns: u32,
     pub counts: CrashCounts,
 }
@@ -191,6 +202,7 @@ impl CrashLife {
             plain,
             jobs: Jobs::default(),
             waiting: Vec::new(alloc),
+            is_quiet: dice.is_one_in(2),
             turns: TURNS,
             counts,
         };
@@ -226,26 +238,34 @@ impl CrashLife {
         }
         self.turns -= 1;
         match dice.below(100) {
-            0..=44 => self.transact(dice)?,
-            45..=59 => {
-                let request = self.guess.request(self.alloc, dice)?;
-                self.call(dice, request)?;
-            }
-            60..=67 => self.call(dice, Request::Force)?,
-            68..=73 => self.call(dice, Request::Push)?,
-            74..=89 => self.checkpoint(dice)?,
-            _ => self.flush(dice)?,
+            0..=41 => self.transact(dice)?,
+            42..=56 => self.ask(dice)?,
+            57..=64 => self.call(dice, Request::Force)?,
+            65..=70 => self.call(dice, Request::Push)?,
+            71..=85 => self.checkpoint(dice)?,
+            86..=94 => self.flush(dice)?,
+            95..=97 => self.cut()?,
+            _ => self.quiesce(dice)?,
         }
-        if dice.is_one_in(3) {
+        if dice.is_one_in(4) {
             self.crash_here(dice)?;
         }
         Ok(true)
     }
 
-    /// Opens a transaction.
-    fn open(&mut self) -> Result<Option<TransNo>, AllocError> {
+    /// Asks the mount anything, where it is not quiet.
+    fn ask(&mut self, dice: &mut Dice) -> Result<(), AllocError> {
+        if self.is_quiet {
+            return self.transact(dice);
+        }
+        let request = self.guess.request(self.alloc, dice)?;
+        self.call(dice, request)
+    }
+
+    /// Opens a transaction of so many bytes of log.
+    fn open(&mut self, unit: u32) -> Result<Option<TransNo>, AllocError> {
         let request = Request::Alloc {
-            unit: UNIT,
+            unit,
             count: 1,
             perm: false,
         };
@@ -260,7 +280,7 @@ impl CrashLife {
 
     /// A whole transaction, which changes some blocks.
     fn transact(&mut self, dice: &mut Dice) -> Result<(), AllocError> {
-        let Some(trans) = self.open()? else {
+        let Some(trans) = self.open(UNIT)? else {
             return Ok(());
         };
         for _ in 0..dice.below(4) + 1 {
@@ -296,7 +316,7 @@ impl CrashLife {
     /// What the home device answers to a read.
     fn answer(&mut self, dice: &mut Dice, block: Block) -> Result<Answer, AllocError> {
         let mut bytes = vec![in self.alloc; 0u8; BLOCK_BYTES]?;
-        if dice.is_one_in(100) || self.home.read(block, &mut bytes).is_err() {
+        if dice.is_one_in(400) || self.home.read(block, &mut bytes).is_err() {
             return Ok(Answer::Failed);
         }
         Ok(match Content::of_vec(self.alloc, bytes)? {
@@ -316,8 +336,66 @@ impl CrashLife {
         Ok(Some(name))
     }
 
-    /// Goes on with a checkpoint.
+    /// How many bytes of its log a mount grants to one more transaction.
+    fn free_log(&mut self) -> Result<u32, AllocError> {
+        let mut free = 0u32;
+        let mut more = LOG_BYTES;
+        for _ in 0..HALVINGS {
+            let unit = free.saturating_add(more);
+            if let Some(trans) = self.open(unit)? {
+                self.take(&call_of(Request::Cancel { trans }, Answer::None))?;
+                free = unit;
+            }
+            more /= 2;
+        }
+        Ok(free)
+    }
+
+    /// The log loses its oldest texts, as far as the mount has their bytes free: what it grants may be written over.
+    fn cut(&mut self) -> Result<(), AllocError> {
+        let free = self.free_log()?;
+        let used = LOG_BYTES.saturating_sub(free) as usize;
+        if free > 0 && self.log.cut(used) {
+            // what waits was left beside the texts that are gone
+            self.waiting.clear();
+            raise(&mut self.counts.cuts, 1);
+            if self.log.is_empty() {
+                raise(&mut self.counts.emptied, 1);
+            }
+        }
+        Ok(())
+    }
+
+    /// Writes to the log and then home all that can be, after which the log may be of no use.
+    fn quiesce(&mut self, dice: &mut Dice) -> Result<(), AllocError> {
+        self.call(dice, Request::Force)?;
+        self.whole_checkpoint(dice)?;
+        for _ in 0..FLUSHES {
+            self.call(dice, Request::Push)?;
+            self.flush(dice)?;
+            self.flush(dice)?;
+        }
+        self.cut()
+    }
+
+    /// Goes on with a checkpoint by a step, or to its end.
     fn checkpoint(&mut self, dice: &mut Dice) -> Result<(), AllocError> {
+        if dice.is_one_in(2) {
+            return self.whole_checkpoint(dice);
+        }
+        self.go_on(dice)
+    }
+
+    /// As many steps as a checkpoint has.
+    fn whole_checkpoint(&mut self, dice: &mut Dice) -> Result<(), AllocError> {
+        for _ in 0..3 {
+            self.go_on(dice)?;
+        }
+        Ok(())
+    }
+
+    /// Goes on with a checkpoint by a step.
+    fn go_on(&mut self, dice: &mut Dice) -> Result<(), AllocError> {
         match (self.jobs.ckpt, self.jobs.pieces) {
             (None, _) => {
                 self.jobs.ckpt = self.post(JobKind::Ckpt)?;
@@ -369,6 +447,9 @@ impl CrashLife {
         if let Reply::Landed(_) = turn.reply {
             raise(&mut self.counts.landed, 1);
             self.plain.land();
+            if dice.is_one_in(2) {
+                self.cut()?;
+            }
         }
         Ok(())
     }
@@ -382,9 +463,9 @@ impl CrashLife {
         let worker = worker(JobKind::Flush);
         let mut writes = [true; FLUSH_BLOCKS];
         for write in &mut writes {
-            *write = !dice.is_one_in(80);
+            *write = !dice.is_one_in(40);
         }
-        let sync = !dice.is_one_in(40);
+        let sync = !dice.is_one_in(10);
         for count in 0..=FLUSH_BLOCKS as u8 {
             let answers = HomeAnswers {
                 count,
@@ -414,6 +495,9 @@ impl CrashLife {
         }
         if let Reply::Flushed(blocks) = turn.reply {
             raise(&mut self.counts.flushed, u64::from(blocks));
+            if dice.is_one_in(2) {
+                self.cut()?;
+            }
         }
         Ok(())
     }

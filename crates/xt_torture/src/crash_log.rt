@@ -1,6 +1,8 @@
 //! A log device that crashes.
 
 use std::alloc::{AllocError, Global};
+use std::collections::VecDeque;
+use std::mem;
 use xt_base::content::Data;
 use xt_base::sizes::DATA_BYTES;
 use xt_base::steps::LogOffer;
@@ -9,11 +11,12 @@ use xt_trials::dice::Dice;
 /// More bytes than a text has.
 const MOST_END: usize = 1 << 20;
 
-/// A log in memory. It keeps what was made safe, and what was appended since, of which a crash leaves a beginning.
+/// A log in memory. It keeps the texts that were made safe, but for old ones that it lost, and what was appended since, of which a
+/// crash leaves a beginning.
 #[derive(Drop)]
 pub struct CrashLog {
     alloc: Global,
-    safe: Vec<u8>,
+    safe: VecDeque<Vec<u8>>,
     end: Vec<u8>,
     /// How many pieces of the text in flight there are, and how many of them were offered.
     pieces: u32,
@@ -41,7 +44,7 @@ impl CrashLog {
     pub fn new(alloc: Global) -> Self {
         CrashLog {
             alloc,
-            safe: Vec::new(alloc),
+            safe: VecDeque::new(alloc),
             end: Vec::new(alloc),
             pieces: 0,
             offered: 0,
@@ -77,10 +80,36 @@ impl CrashLog {
     /// Makes all safe, where a sync among these offers was answered Ok.
     pub fn sync_all(&mut self, offers: &[LogOffer]) -> Result<(), AllocError> {
         if let Some(LogOffer::Sync { ok: true }) = offers.last() {
-            self.safe.extend_from_slice(&self.end)?;
-            self.end.clear();
+            let text = mem::replace(&mut self.end, Vec::new(self.alloc));
+            self.safe.push_back(text)?;
         }
         Ok(())
+    }
+
+    /// How many bytes the safe texts have.
+    fn safe_bytes(&self) -> usize {
+        let mut bytes = 0usize;
+        for text in &self.safe {
+            bytes = bytes.saturating_add(text.len());
+        }
+        bytes
+    }
+
+    /// Whether no safe text is left.
+    pub fn is_empty(&self) -> bool {
+        self.safe.is_empty()
+    }
+
+    /// Loses its oldest texts, until the others have no more than so many bytes. Whether it lost one.
+    pub fn cut(&mut self, most: usize) -> bool {
+        let before = self.safe.len();
+        for _ in 0..before {
+            if self.safe_bytes() <= most {
+                break;
+            }
+            let _lost = self.safe.pop_front();
+        }
+        self.safe.len() < before
     }
 
     /// How much of the end a crash leaves: often all, or all but some bytes.
@@ -99,7 +128,10 @@ impl CrashLog {
 
     /// The bytes that a crash leaves.
     pub fn crashed(&self, left: Left) -> Result<Vec<u8>, AllocError> {
-        let mut bytes = self.safe.to_vec(self.alloc)?;
+        let mut bytes = Vec::new(self.alloc);
+        for text in &self.safe {
+            bytes.extend_from_slice(text)?;
+        }
         if let Some(end) = self.end.get(..left.bytes) {
             bytes.extend_from_slice(end)?;
         }

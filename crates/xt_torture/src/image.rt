@@ -9,7 +9,7 @@ use xt_base::form::Form;
 use xt_base::names::Block;
 
 /// How many blocks a home device has that crashes: fewer than others, since each crash looks at all.
-pub const BLOCKS: u8 = 40;
+pub const BLOCKS: u8 = 24;
 
 /// The contents of all blocks of a home device, the first block's first.
 #[derive(Drop)]

@@ -85,7 +85,7 @@ fn print_bytes<R: Print>(rt: &R, alloc: Global, values: u8) -> Result<ExitCode> 
 fn print_crashes<R: Print>(rt: &R, alloc: Global, seed: u64, crashes: u64) -> Result<ExitCode> {
     let counts = try_crashes(alloc, seed, crashes)?;
     println!(rt;
-        "crash, seed {seed}: {} crashes of a mount in {} lives, {} steps, {} checkpoints landed, {} blocks written home; {} crashes left a part of a text, {} a whole one that was not safe, {} torn home writes; {} recoveries broken off: {} wrong",
+        "crash, seed {seed}: {} crashes of a mount in {} lives, {} steps, {} checkpoints landed, {} blocks written home; {} crashes left a part of a text, {} a whole one that was not safe, {} torn home writes; {} recoveries broken off; the log was cut {} times, {} times to nothing: {} wrong",
         counts.crashes,
         counts.lives,
         counts.steps,
@@ -95,6 +95,8 @@ fn print_crashes<R: Print>(rt: &R, alloc: Global, seed: u64, crashes: u64) -> Re
         counts.wholes,
         counts.torn,
         counts.again,
+        counts.cuts,
+        counts.emptied,
         counts.wrong
     )?;
     Ok(status(counts.wrong))
