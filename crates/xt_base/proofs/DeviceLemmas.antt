@@ -22,7 +22,7 @@ module _ {A : Type 0} where
   each_if P true xs ys hx hy = hx
   each_if P false xs ys hx hy = hy
 
-  each_take : (P : A → Type 0) (n : ℕ) (xs : List A) → Each P xs → Each P (take n xs)
+  pub each_take : (P : A → Type 0) (n : ℕ) (xs : List A) → Each P xs → Each P (take n xs)
   each_take P zero xs all = tt
   each_take P (suc n) [] all = tt
   each_take P (suc n) (x ∷ xs) all = (all.0, each_take P n xs all.1)

@@ -30,3 +30,5 @@ pub mod EqualityLemmas
 pub mod CarryLemmas
 pub mod ReplyLemmas
 pub mod PartLemmas
+pub mod SizedLemmas
+pub mod SizedSteps

@@ -25,3 +25,4 @@ pub mod Kept
 pub mod Laws
 pub mod Lending
 pub mod Replies
+pub mod Sized

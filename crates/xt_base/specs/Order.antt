@@ -137,6 +137,11 @@ abbrev pub mount_is : (State → Bool) → Option State → Bool
 mount_is test None = false
 mount_is test (Some m) = test m
 
+-- whether an answered content has the size of the mount's blocks
+abbrev pub has_size : Answer → Option State → Bool
+has_size (Answer.Content content) (Some m) = length content == m.form.size
+has_size answer other = true
+
 -- what the slot's own state asks: a post names a job that is owed, a begin and a flush come before any other step on their job,
 -- an end after its begin, answers have their shape, and a read is answered exactly where the device is asked
 abbrev pub suits : Step → Lone → Bool

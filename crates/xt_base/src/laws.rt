@@ -1,12 +1,14 @@
 //! Laws of the definitions. Each function does nothing: its clause is the law.
 
-ghost use Rattle.std.specs.Prelude.{◌≡◌, ◌≤◌, ◌==◌, ◌+◌, [], ℕ, Bool, List, true, false, is_none, length, sum_by};
+ghost use Rattle.std.specs.Prelude.{◌≡◌, ◌≤◌, ◌==◌, ◌+◌, [], ℕ, Bool, List, Some, true, false, is_none, length, sum_by};
 ghost use Rattle.xt_base.specs.Calls.{alloc, alone_with, is_own};
 ghost use Rattle.xt_base.specs.Form.{Form as AnyForm, IsForm};
 ghost use Rattle.xt_base.specs.Jobs.{begin as begin_job, end as end_job, flush as flush_job, flush_plan, is_ckpt, is_owed, is_waiting, posted};
 ghost use Rattle.xt_base.specs.Laws.{LooksAlike, after_calls, is_look, landed_since, names, uses};
 ghost use Rattle.xt_base.specs.Maps.{is_in};
+ghost use Rattle.xt_base.specs.Order.{has_size};
 ghost use Rattle.xt_base.specs.Settle.{Dropped};
+ghost use Rattle.xt_base.specs.Sized.{IsSized};
 ghost use Rattle.xt_base.specs.Sound.{Each, IsSound};
 ghost use Rattle.xt_base.specs.Space.{cost, flight_items, granted, least_number, still_needed, used};
 ghost use Rattle.xt_base.specs.State.{IsWithoutTrace, State, mount_of};
@@ -52,6 +54,17 @@ pub fn stays_sound()
     ensures begins { (s : State) (name : AnyName) → IsSound s → is_waiting name s ≡ true → is_ckpt name.kind ≡ true → IsSound (begin_job s).state }
     ensures ends { (s : State) (answers : AnyPieces) (dropped : Dropped) → IsSound s → IsSound (end_job dropped answers s).state }
     ensures flushes { (s : State) (answers : AnyWrites) (dropped : Dropped) → IsSound s → IsSound (flush_job dropped answers s).state }
+{}
+
+/// The contents of a new mount have its size, and no mark lies behind them, and each step keeps a mount so: every call whose
+/// home device, where it answers a content, answers one of that size, and every job.
+pub fn stays_sized()
+    ensures first { (slot life log_bytes blocks : ℕ) (form : AnyForm) → IsSized (mount_of slot life log_bytes blocks form) }
+    ensures calls { (s : State) (request : AnyRequest) (answer : AnyAnswer) (dropped : Dropped) → IsForm s.form → has_size answer (Some s) ≡ true → IsSized s → IsSized (alone_with dropped request answer s).state }
+    ensures posts { (s : State) (kind : AnyKind) → IsSized s → IsSized (posted kind s) }
+    ensures begins { (s : State) → IsSized s → IsSized (begin_job s).state }
+    ensures ends { (s : State) (answers : AnyPieces) (dropped : Dropped) → IsSized s → IsSized (end_job dropped answers s).state }
+    ensures flushes { (s : State) (answers : AnyWrites) (dropped : Dropped) → IsSized s → IsSized (flush_job dropped answers s).state }
 {}
 
 /// What a mount hands to its devices was committed: each block that a flush writes home has a
