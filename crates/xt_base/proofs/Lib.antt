@@ -32,3 +32,4 @@ pub mod ReplyLemmas
 pub mod PartLemmas
 pub mod SizedLemmas
 pub mod SizedSteps
+pub mod TextLemmas

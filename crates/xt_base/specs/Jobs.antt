@@ -80,7 +80,7 @@ finished kind s = record s { jobs = with_job kind None s.jobs }
 -- ---- begin
 -- the pieces that a checkpoint would have now
 abbrev pub next_pieces : State → List (List ℕ)
-next_pieces s = pieces (text_of s.form.size s.items.open_number s.items.cil s.frames.committed)
+next_pieces s = pieces (text_of s.form s.items.open_number s.items.cil s.frames.committed)
 
 -- the committed item list becomes the flight, the next number opens, and the asking is met
 abbrev pub flown : List (List ℕ) → State → State

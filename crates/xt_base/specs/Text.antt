@@ -2,6 +2,7 @@
 use Rattle.std.specs.Int.{to_be_bytes, w32, w64}
 use Rattle.std.specs.Prelude.{Bool, List, None, Option, Some, [], codes, drop, false, flat_map, if◌then◌else◌, length, map, replicate, set, suc, take, true, unwrap_or, zero, ℕ, ◌*◌, ◌++◌, ◌+◌, ◌-◌, ◌/◌, ◌==◌, ◌∷◌}
 use Rattle.xt_base.specs.Chunks.{word_of}
+use Rattle.xt_base.specs.Form.{Form}
 use Rattle.xt_base.specs.Maps.{at}
 use Rattle.xt_base.specs.declared.sizes.TheConstants.{CHUNK_BYTES, PIECE_BYTES}
 use Rattle.xt_base.specs.declared.steps.LogAnswers.{LogAnswers}
@@ -32,9 +33,18 @@ abbrev pub text_with : ℕ → ℕ → List ℕ → List ℕ
 text_with number count body =
     codes "XCP1" ++ to_be_bytes w64 number ++ to_be_bytes w32 count ++ body ++ codes "XCE1" ++ to_be_bytes w32 count ++ to_be_bytes w64 number
 
+-- a text that says the size of a block: XCP2, number, count of items, size, the items, XCE2, count, number
+abbrev pub sized_text_with : ℕ → ℕ → ℕ → List ℕ → List ℕ
+sized_text_with size number count body =
+    codes "XCP2" ++ to_be_bytes w64 number ++ to_be_bytes w32 count ++ to_be_bytes w32 size ++ body ++ codes "XCE2" ++ to_be_bytes w32 count ++ to_be_bytes w64 number
+
+-- the one or the other, by the form of a mount
+abbrev pub text_in : Form → ℕ → ℕ → List ℕ → List ℕ
+text_in form number count body = if form.sized then sized_text_with form.size number count body else text_with number count body
+
 -- the text of a checkpoint: its number, and its items with these contents
-abbrev pub text_of : ℕ → ℕ → List (ℕ × List ℕ) → List (ℕ × List ℕ) → List ℕ
-text_of size number items contents = text_with number (length items) (flat_map (λ e. item_text e.0 e.1 (chunk_bytes (content_at size e.0 contents) e.1)) items)
+abbrev pub text_of : Form → ℕ → List (ℕ × List ℕ) → List (ℕ × List ℕ) → List ℕ
+text_of form number items contents = text_in form number (length items) (flat_map (λ e. item_text e.0 e.1 (chunk_bytes (content_at form.size e.0 contents) e.1)) items)
 
 -- how many pieces a text has, the last one shorter or whole
 abbrev pub piece_count : List ℕ → ℕ

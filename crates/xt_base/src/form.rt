@@ -1,11 +1,18 @@
 //! What differs from mount to mount in its sizes.
 
-ghost use Rattle.std.specs.Prelude.{◌≡◌, ◌≤◌};
-ghost use Rattle.xt_base.specs.Form.{form_one};
+ghost use Rattle.std.specs.Prelude.{◌≡◌, ◌≤◌, Some};
+ghost use Rattle.xt_base.specs.Form.{form_one, is_size};
 ghost use Rattle.xt_base.specs.declared.sizes.TheConstants.{BLOCK_BYTES, MOST_ENDS};
 
 use crate::sizes::{self, ENDS};
 use std::marker::Model;
+
+/// Whether a block may have so many bytes: 512, 1,024, 2,048 or 4,096.
+pub fn is_block_size(bytes: usize) -> bool
+    ensures { result ≡ is_size (Some bytes) }
+{
+    bytes == 512 || bytes == 1024 || bytes == 2048 || bytes == sizes::BLOCK_BYTES
+}
 
 /// The form of a mount: the bytes of a block, the bytes that the text of a checkpoint has beside its items, and whether
 /// a text says the size of a block. One value of a mount and of its layers. Today each block has 4,096 bytes.
@@ -40,6 +47,13 @@ impl Form {
             ends: ENDS,
             sized: false,
         }
+    }
+
+    /// Whether the text of a checkpoint says the size of a block. That of a mount of today does not.
+    pub fn is_sized(self) -> bool
+        ensures { result ≡ self.sized }
+    {
+        self.sized
     }
 
     /// The bytes of a block, at most 4,096.

@@ -2,7 +2,7 @@
 use Rattle.std.proofs.Common.{◌≡◌, ◌∙◌, ℕ, ◌+◌, ◌-◌, ◌<◌, ◌≤◌, Bool, true, false, List, [], ◌++◌, length, take, drop, Option, Some, None, Result, Ok, Err, sym, ap, subst, arith, append_assoc}
 use Rattle.std.specs.Prelude.{IfOk, IsNone}
 use Rattle.std.proofs.lemmas.List.{take-append-drop, take-take, drop-take, length-take-le, length-drop}
-use Rattle.xt_ckpt.specs.Grammar.{Entry, IsText, entries}
+use Rattle.xt_ckpt.specs.Grammar.{Entry, IsTextIn, entries}
 use Rattle.xt_ckpt.specs.Drafts.{IsAfter}
 use Rattle.xt_ckpt.specs.Fields.{Draft, Reads, IsUnfinished, IsFaultAt, opening, width, after}
 use Rattle.xt_ckpt.specs.Laws.{AreBytes}
@@ -76,22 +76,24 @@ refused b d e input at w not_so h =
     ap (after d) (sym (field_bytes input at w)) ∙ subst (λ t. IsAfter t e (after d (take (at + w - at) (drop at input)))) not_so h
 
 -- all fields are read
-pub whole_at : (d : Draft) (input : List ℕ) (at : ℕ) → AreBytes input → Reads opening (take at input) d → d.next ≡ Field.Nothing → IsText (take at input) d.number d.items
+pub whole_at : (d : Draft) (input : List ℕ) (at : ℕ) → AreBytes input → Reads opening (take at input) d → d.next ≡ Field.Nothing → IsTextIn d.size (take at input) d.number d.items
 whole_at d input at is way ends = subst (λ f. Stands f d (take at input)) ends (ready d (take at input) (front_bytes input at is) way)
 
 -- the text of a draft is that of its checkpoint
-pub begins : (text : List ℕ) (d : Stored) (made : Checkpoint) → made.no ≡ d.number → made.items.items ≡ d.items.items → IsText text d.number (entries d.items.items) → IsText text made.no (entries made.items.items)
-begins text d made number items is = subst (λ n. IsText text n (entries made.items.items)) (sym number) (subst (λ i. IsText text d.number (entries i)) (sym items) is)
+pub begins : (text : List ℕ) (d : Stored) (made : Checkpoint) → made.size ≡ d.size → made.no ≡ d.number → made.items.items ≡ d.items.items → IsTextIn d.size text d.number (entries d.items.items) → IsTextIn made.size text made.no (entries made.items.items)
+begins text d made size number items is =
+    subst (λ s. IsTextIn s text made.no (entries made.items.items)) (sym size)
+    (subst (λ n. IsTextIn d.size text n (entries made.items.items)) (sym number) (subst (λ i. IsTextIn d.size text d.number (entries i)) (sym items) is))
 
 -- a text that begins the input is the one that is read
-pub read_as : (input : List ℕ) (r : Result (Option (Checkpoint × ℕ)) ReadFault) → IsJudged input r → (text more : List ℕ) (number : ℕ) (items : List Entry) → IsText text number items → input ≡ text ++ more
-    → IsReadAs number items (length text) r
-read_as input (Ok (Some found)) judged text more number items is same =
-    let one = same_text (take found.1 input) text (drop found.1 input) more found.0.no number (entries found.0.items.items) items judged.1 is (take-append-drop found.1 input ∙ same) in
-    (one.1, one.2, sym (length-take-le found.1 input judged.0) ∙ ap length one.0)
-read_as input (Ok None) judged text more number items is same = unfinished_none input judged text more number items is same
-read_as input (Err (ReadFault.Ckpt fault)) judged text more number items is same = fault_none fault.at input judged text more number items is same
-read_as input (Err ReadFault.Memory) judged text more number items is same = tt
+pub read_as : (input : List ℕ) (r : Result (Option (Checkpoint × ℕ)) ReadFault) → IsJudged input r → (size : Option ℕ) (text more : List ℕ) (number : ℕ) (items : List Entry) → IsTextIn size text number items → input ≡ text ++ more
+    → IsReadAs size number items (length text) r
+read_as input (Ok (Some found)) judged size text more number items is same =
+    let one = same_text found.0.size size (take found.1 input) text (drop found.1 input) more found.0.no number (entries found.0.items.items) items judged.1 is (take-append-drop found.1 input ∙ same) in
+    (one.1, one.2, one.3, sym (length-take-le found.1 input judged.0) ∙ ap length one.0)
+read_as input (Ok None) judged size text more number items is same = unfinished_none input judged size text more number items is same
+read_as input (Err (ReadFault.Ckpt fault)) judged size text more number items is same = fault_none fault.at input judged size text more number items is same
+read_as input (Err ReadFault.Memory) judged size text more number items is same = tt
 
 -- nothing is read only where no text begins
 pub none_read : (input : List ℕ) (r : Result (Option (Checkpoint × ℕ)) ReadFault) → IsJudged input r → IfOk r (λ o. IsNone o → BeginsNoText input × IsUnfinished input)

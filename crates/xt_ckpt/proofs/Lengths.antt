@@ -1,5 +1,5 @@
 -- The bytes of items, and how long a text is.
-use Rattle.std.proofs.Common.{◌≡◌, ◌∙◌, ℕ, ◌+◌, List, [], ◌∷◌, ◌++◌, length, sym, ap, refl, arith, append_assoc, sum_by, All}
+use Rattle.std.proofs.Common.{◌≡◌, ◌∙◌, ℕ, ◌+◌, List, [], ◌∷◌, ◌++◌, ◌≤◌, None, Option, Some, length, sym, ap, refl, arith, append_assoc, sum_by, All}
 use Rattle.std.specs.List.{flat_map, AllByRecursion}
 use Rattle.std.specs.Int.{to_be_bytes, w32, w64}
 use Rattle.std.specs.Prelude.{codes, if◌then◌else◌, ◌==◌}
@@ -7,9 +7,11 @@ use Rattle.std.proofs.lemmas.List.{length-append}
 use Rattle.std.proofs.lemmas.List.Elements.{recursion_from_All}
 use Rattle.std.proofs.lemmas.List.Sums.{sum_by-cons}
 use Rattle.xt_base.specs.Chunks.{word_of}
-use Rattle.xt_base.specs.Text.{item_text, text_with}
+use Rattle.xt_base.specs.Form.{form_of}
+use Rattle.xt_base.specs.Text.{item_text, sized_text_with, text_in, text_with}
+use Rattle.xt_ckpt.specs.Grammar.{end_of, head_of}
 use Rattle.xt_ckpt.specs.declared.item.Item.{Item}
-use Rattle.xt_ckpt.specs.Items.{item_bytes, item_len, checkpoint_text, checkpoint_len, HasForm}
+use Rattle.xt_ckpt.specs.Items.{item_bytes, item_len, checkpoint_text, checkpoint_len, HasForm, checkpoint_text_in}
 
 -- four parts behind what stands there are one part behind it
 regroup : (old a b c d : List ℕ) → (((old ++ a) ++ b) ++ c) ++ d ≡ old ++ (((a ++ b) ++ c) ++ d)
@@ -50,8 +52,35 @@ length-text_with number count body =
     let d = length-append body end in
     omega (arith, a, b, d)
 
+-- and one that says the size of a block is 36 longer
+length-sized_text_with : (size number count : ℕ) (body : List ℕ) → length (sized_text_with size number count body) ≡ 36 + length body
+length-sized_text_with size number count body =
+    let end = codes "XCE2" in
+    let words = to_be_bytes w32 count in
+    let last = to_be_bytes w64 number in
+    let a = length-append (body ++ end ++ words) last in
+    let b = length-append (body ++ end) words in
+    let d = length-append body end in
+    omega (arith, a, b, d)
+
 -- the length of a text is its cost
 pub length_text : (number : ℕ) (items : List Item) → All HasForm items → length (checkpoint_text number items) ≡ checkpoint_len items
 length_text number items form =
     length-text_with number (length items) (flat_map item_bytes items)
     ∙ ap (λ n. 32 + n) (length-items items (recursion_from_All HasForm items form))
+
+-- and 4 more where it says the size of a block
+pub length_sized : (size number : ℕ) (items : List Item) → All HasForm items → length (checkpoint_text_in (Some size) number items) ≡ checkpoint_len items + 4
+length_sized size number items form =
+    let plain = length-items items (recursion_from_All HasForm items form) in
+    length-sized_text_with size number (length items) (flat_map item_bytes items) ∙ omega (arith, plain)
+
+-- so it has at most 4 more
+pub length_either : (size : Option ℕ) (number : ℕ) (items : List Item) → All HasForm items → length (checkpoint_text_in size number items) ≤ checkpoint_len items + 4
+length_either None number items form = omega (arith, length_text number items form)
+length_either (Some size) number items form = omega (arith, length_sized size number items form)
+
+-- the parts of a text
+pub text_parts : (size : Option ℕ) (number count : ℕ) (body : List ℕ) → text_in (form_of size) number count body ≡ head_of size number count ++ body ++ end_of size ++ to_be_bytes w32 count ++ to_be_bytes w64 number
+text_parts None number count body = refl
+text_parts (Some size) number count body = refl

@@ -1,3 +1,4 @@
+pub mod Sizes
 pub mod Pieces
 pub mod Lengths
 pub mod Places

@@ -36,7 +36,7 @@ length-first_pieces zero text = refl
 length-first_pieces (suc n) text = ap suc (length-first_pieces n (drop 4096 text))
 
 -- a text of at most 263,200 bytes has at most 65
-pub few : (text : List ℕ) → length text ≤ 263200 → length (pieces text) ≤ 65
+pub few : (text : List ℕ) → length text ≤ 263204 → length (pieces text) ≤ 65
 few text h = omega (arith, length-first_pieces (piece_count text) text)
 
 -- the first pieces that cover a text are its bytes

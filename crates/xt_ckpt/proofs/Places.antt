@@ -1,17 +1,20 @@
 -- Places in a text: how much is left behind one, and how it goes on.
-use Rattle.std.proofs.Common.{◌≡◌, ◌∙◌, ℕ, ◌+◌, ◌-◌, ◌<◌, ◌≤◌, All, List, [], ◌∷◌, ◌++◌, length, get_or, take, drop, min, sum_by, sym, ap, refl, arith, append_assoc, inl, inr}
+use Rattle.std.proofs.Common.{None, Option, Some, ◌≡◌, ◌∙◌, ℕ, ◌+◌, ◌-◌, ◌<◌, ◌≤◌, All, List, [], ◌∷◌, ◌++◌, length, get_or, take, drop, min, sum_by, sym, ap, refl, subst, arith, append_assoc, inl, inr}
+use Rattle.std.specs.Int.{to_be_bytes, w32, w64}
 use Rattle.std.specs.List.{flat_map}
 use Rattle.std.specs.Prelude.{if◌then◌else◌}
 use Rattle.std.proofs.lemmas.Bool.{cases_lt, lt-ltb, le-ltb}
 use Rattle.std.proofs.lemmas.List.{append-nil, drop-drop, drop_all, drop_more, get_or-map, length-append, length-drop, length-take, take-append-drop, take_all}
 use Rattle.std.proofs.lemmas.List.Elements.{All-drop, All-get_or, recursion_from_All}
 use Rattle.std.proofs.lemmas.List.Sums.{sum_by-drop_more}
-use Rattle.xt_ckpt.specs.Items.{HasForm, item_bytes, item_len}
-use Rattle.xt_ckpt.specs.Pieces.{IsPart, behind, content_at, end_bytes, field_bytes, fields_at, from_item, front_bytes, item_or_end, next_part, part_bytes, part_len}
+use Rattle.xt_ckpt.specs.Grammar.{end_of, head_of, size_field}
+use Rattle.xt_ckpt.specs.Items.{HasForm, item_bytes, item_len, checkpoint_text_in}
+use Rattle.xt_ckpt.specs.Pieces.{IsPart, behind, content_at, end_bytes, field_bytes, fields_at, from_item, from_place, front_bytes, item_or_end, next_part, part_bytes, part_len}
 use Rattle.xt_ckpt.specs.declared.item.Item.{Item}
 use Rattle.xt_ckpt.specs.declared.place.Ends.{Ends}
 use Rattle.xt_ckpt.specs.declared.place.Part.{Part}
-use Rattle.xt_ckpt.proofs.Lengths.{length-items}
+use Rattle.xt_ckpt.specs.declared.place.Place.{Place}
+use Rattle.xt_ckpt.proofs.Lengths.{length-items, text_parts}
 
 -- an item, where an index is below their count
 some_item : (items : List Item) (i : ℕ) → i < length items → Item
@@ -26,12 +29,39 @@ fields_is items i item h = get_or-map field_bytes items i item [] h
 pub content_is : (items : List Item) (i : ℕ) (item : Item) → i < length items → content_at items i ≡ (get_or items i item).content.items
 content_is items i item h = get_or-map (λ (x : Item). x.content.items) items i item [] h
 
+head_is : (size : Option ℕ) (number count : ℕ) → length (head_of size number count) ≡ 16 + length (size_field size)
+head_is None number count = refl
+head_is (Some n) number count = refl
+
+-- how long those behind them are
+end_by : (size : Option ℕ) (number count : ℕ) → length (end_of size ++ to_be_bytes w32 count ++ to_be_bytes w64 number) ≡ 16
+end_by None number count = refl
+end_by (Some n) number count = refl
+
+end_is : (ends : Ends) → length (end_bytes ends) ≡ 16
+end_is ends = end_by ends.size ends.number ends.count
+
+-- a text from its front on
+five_parts : (h b e w n : List ℕ) → h ++ (b ++ (e ++ w ++ n)) ≡ h ++ b ++ e ++ w ++ n
+five_parts h b e w n = simp append_assoc
+
+pub whole_text : (size : Option ℕ) (number count : ℕ) (items : List Item) → length items ≡ count
+    → head_of size number count ++ (flat_map item_bytes items ++ (end_of size ++ to_be_bytes w32 count ++ to_be_bytes w64 number)) ≡ checkpoint_text_in size number items
+whole_text size number count items is =
+    subst (λ n. head_of size number n ++ (flat_map item_bytes items ++ (end_of size ++ to_be_bytes w32 n ++ to_be_bytes w64 number)) ≡ checkpoint_text_in size number items) is
+    (five_parts (head_of size number (length items)) (flat_map item_bytes items) (end_of size) (to_be_bytes w32 (length items)) (to_be_bytes w64 number)
+    ∙ sym (text_parts size number (length items) (flat_map item_bytes items)))
+
+-- how long the fields before the items are
+front_is : (ends : Ends) → length (front_bytes ends) ≡ 16 + length (size_field ends.size)
+front_is ends = head_is ends.size ends.number ends.count
+
 -- how long a part is
-pub part_is : (ends : Ends) (items : List Item) (part : Part) → IsPart (length items) part → length (part_bytes ends items part) ≡ part_len items part
-part_is ends items Part.Front h = refl
+pub part_is : (ends : Ends) (items : List Item) (part : Part) → IsPart (length items) part → length (part_bytes ends items part) ≡ part_len ends items part
+part_is ends items Part.Front h = front_is ends
 part_is ends items (Part.Fields i) h = ap length (fields_is items i (some_item items i h) h)
 part_is ends items (Part.Content i) h = refl
-part_is ends items Part.End h = refl
+part_is ends items Part.End h = end_is ends
 part_is ends items Part.Nothing h = refl
 
 -- the items from one on take what they cost
@@ -43,12 +73,12 @@ pub slice_cost : (items : List Item) (i : ℕ) → sum_by item_len (take (length
 slice_cost items i = ap (sum_by item_len) (take_all (length items - i) (drop i items) (omega (arith, length-drop i items)))
 
 -- how many bytes are left, by what the items cost
-abbrev pub left_len : List Item → ℕ → Part → ℕ
-left_len items done Part.Front = 16 - done + sum_by item_len items + 16
-left_len items done (Part.Fields i) = sum_by item_len (drop i items) - done + 16
-left_len items done (Part.Content i) = length (content_at items i) - done + sum_by item_len (drop (i + 1) items) + 16
-left_len items done Part.End = 16 - done
-left_len items done Part.Nothing = 0
+abbrev pub left_len : Ends → List Item → ℕ → Part → ℕ
+left_len ends items done Part.Front = 16 + length (size_field ends.size) - done + sum_by item_len items + 16
+left_len ends items done (Part.Fields i) = sum_by item_len (drop i items) - done + 16
+left_len ends items done (Part.Content i) = length (content_at items i) - done + sum_by item_len (drop (i + 1) items) + 16
+left_len ends items done Part.End = 16 - done
+left_len ends items done Part.Nothing = 0
 
 -- a part from `done` on, and what is behind it
 length_behind : (done : ℕ) (part behind : List ℕ) → length (drop done part ++ behind) ≡ length part - done + length behind
@@ -56,12 +86,12 @@ length_behind done part behind = length-append (drop done part) behind ∙ ap (�
 
 -- the items from one on, and the end
 length_from_item : (ends : Ends) (items : List Item) (i : ℕ) → All HasForm items → length (from_item ends items i) ≡ sum_by item_len (drop i items) + 16
-length_from_item ends items i form = length-append (flat_map item_bytes (drop i items)) (end_bytes ends) ∙ ap (λ n. n + 16) (length_from items i form)
+length_from_item ends items i form = length-append (flat_map item_bytes (drop i items)) (end_bytes ends) ∙ omega (arith, end_is ends, length_from items i form)
 
 -- that is what they are
-pub left_is : (ends : Ends) (items : List Item) (done : ℕ) (part : Part) → All HasForm items → IsPart (length items) part → done ≤ part_len items part
-    → left_len items done part ≡ length (drop done (part_bytes ends items part) ++ behind ends items part)
-left_is ends items done Part.Front form is h = sym (length_behind done (front_bytes ends) (from_item ends items 0) ∙ omega (arith, length_from_item ends items 0 form))
+pub left_is : (ends : Ends) (items : List Item) (done : ℕ) (part : Part) → All HasForm items → IsPart (length items) part → done ≤ part_len ends items part
+    → left_len ends items done part ≡ length (drop done (part_bytes ends items part) ++ behind ends items part)
+left_is ends items done Part.Front form is h = sym (length_behind done (front_bytes ends) (from_item ends items 0) ∙ omega (arith, front_is ends, length_from_item ends items 0 form))
 left_is ends items done (Part.Fields i) form is h =
     let item = some_item items i is in
     let fields = ap length (fields_is items i item is) in
@@ -69,8 +99,8 @@ left_is ends items done (Part.Fields i) form is h =
     let whole = All-get_or HasForm items i item is form in
     let more = length-append (content_at items i) (from_item ends items (i + 1)) in
     sym (length_behind done (fields_at items i) (content_at items i ++ from_item ends items (i + 1)) ∙ omega (arith, fields, content, whole, more, sum_by-drop_more item_len items i item is, length_from_item ends items (i + 1) form))
-left_is ends items done (Part.Content i) form is h = sym (length_behind done (content_at items i) (from_item ends items (i + 1)) ∙ omega (arith, length_from_item ends items (i + 1) form))
-left_is ends items done Part.End form is h = sym (length_behind done (end_bytes ends) [] ∙ omega arith)
+left_is ends items done (Part.Content i) form is h = sym (length_behind done (content_at items i) (from_item ends items (i + 1)) ∙ omega (arith, end_is ends, length_from_item ends items (i + 1) form))
+left_is ends items done Part.End form is h = sym (length_behind done (end_bytes ends) [] ∙ omega (arith, end_is ends))
 left_is ends items done Part.Nothing form is h = sym (length_behind done [] [] ∙ omega arith)
 
 -- some of the bytes that are left are put
@@ -119,3 +149,16 @@ part_given ends items part next done out new is goes put =
     ∙ ap (λ x. new ++ x) (goes_on ends items part is)
     ∙ ap (λ x. x ++ behind ends items part) put
     ∙ append_assoc out (drop done (part_bytes ends items part)) (behind ends items part)
+
+-- some of a part is given, and the text goes on within it
+pub part_goes_on : (ends : Ends) (items : List Item) (part : Part) (done far : ℕ) (out new : List ℕ) → new ++ drop far (part_bytes ends items part) ≡ out ++ drop done (part_bytes ends items part)
+    → new ++ (drop far (part_bytes ends items part) ++ behind ends items part) ≡ out ++ (drop done (part_bytes ends items part) ++ behind ends items part)
+part_goes_on ends items part done far out new put =
+    sym (append_assoc new (drop far (part_bytes ends items part)) (behind ends items part))
+    ∙ ap (λ x. x ++ behind ends items part) put
+    ∙ append_assoc out (drop done (part_bytes ends items part)) (behind ends items part)
+
+-- what a text has from its front on
+pub front_text : (ends : Ends) (items : List Item) (place : Place) → place.part ≡ Part.Front → place.done ≡ 0 → from_place ends items place ≡ front_bytes ends ++ from_item ends items 0
+front_text ends items place part done =
+    ap (λ d. drop d (part_bytes ends items place.part) ++ behind ends items place.part) done ∙ ap (λ p. part_bytes ends items p ++ behind ends items p) part

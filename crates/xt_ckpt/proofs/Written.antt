@@ -1,20 +1,21 @@
 -- What is written is a text of the grammar.
-use Rattle.std.proofs.Common.{◌≡◌, ◌∙◌, ℕ, suc, ◌*◌, ◌^◌, ◌<◌, ◌≤◌, All, false, List, [], ◌∷◌, ◌++◌, length, map, sym, ap, refl, subst, arith, inl, inr}
+use Rattle.std.proofs.Common.{◌≡◌, ◌∙◌, ℕ, suc, ◌*◌, ◌^◌, ◌<◌, ◌≤◌, All, false, true, Option, List, [], ◌∷◌, ◌++◌, length, map, sym, ap, refl, subst, arith, inl, inr}
 use Rattle.std.specs.Int.{to_be_bytes, w32, w64}
-use Rattle.std.specs.Prelude.{codes, if◌then◌else◌, ◌==◌}
+use Rattle.std.specs.Prelude.{if◌then◌else◌, ◌==◌}
 use Rattle.std.specs.List.{concat, flat_map, AllByRecursion}
 use Rattle.std.proofs.lemmas.Bool.{cases_eq, ne_eqb}
 use Rattle.std.proofs.lemmas.List.{append-nil, length-map, nil_from_length}
 use Rattle.std.proofs.lemmas.List.Elements.{recursion_from_All}
 use Rattle.xt_base.specs.Chunks.{places_of, word_of}
 use Rattle.xt_base.specs.Sound.{RisesFromKeys}
+use Rattle.xt_base.specs.Form.{is_size}
 use Rattle.xt_base.specs.Text.{item_text, pieces}
 use Rattle.xt_base.proofs.ChunkLemmas.{places_of-zero}
 use Rattle.xt_ckpt.specs.declared.item.Item.{Item}
-use Rattle.xt_ckpt.specs.Items.{item_bytes, checkpoint_len, checkpoint_text, HasForm, IsStored, BlocksRise}
-use Rattle.xt_ckpt.proofs.Lengths.{length_text}
+use Rattle.xt_ckpt.specs.Items.{item_bytes, checkpoint_len, checkpoint_text_in, FitsSize, HasForm, IsStored, BlocksRise}
+use Rattle.xt_ckpt.proofs.Lengths.{length_either, text_parts}
 use Rattle.xt_ckpt.proofs.Pieces.{concat_pieces, few}
-use Rattle.xt_ckpt.specs.Grammar.{entry, entries, IsItem, AreItems, IsText}
+use Rattle.xt_ckpt.specs.Grammar.{end_of, entry, entries, head_of, map_limit, IsItem, AreItems, IsTextIn}
 
 -- a set that is not empty has a word that is not 0
 some_word : (k : ℕ) (set : List ℕ) → places_of (word_of (k ∷ set)) ≡ k ∷ set → 0 < word_of (k ∷ set)
@@ -25,18 +26,19 @@ some_word k set back =
     ]
 
 -- the text of one item
-pub item_is : (block : ℕ) (set content : List ℕ) → block < 2 ^ 64 → word_of set < 2 ^ 32 → places_of (word_of set) ≡ set → length content ≡ 128 * length set
-    → IsItem (item_text block set content) (record { block = block; chunks = set; content = content })
-item_is block [] content range word back form =
+pub item_is : (size : Option ℕ) (block : ℕ) (set content : List ℕ) → block < 2 ^ 64 → word_of set < 2 ^ 32 → places_of (word_of set) ≡ set → length content ≡ 128 * length set → word_of set < map_limit size
+    → IsItem size (item_text block set content) (record { block = block; chunks = set; content = content })
+item_is size block [] content range word back form fits =
     let none : content ≡ [] = nil_from_length content form in
     inl (record { block = range; chunks = refl; content = none; fields = ap (λ c. to_be_bytes w64 block ++ to_be_bytes w32 0 ++ to_be_bytes w32 1 ++ c) none ∙ append-nil (to_be_bytes w64 block ++ to_be_bytes w32 0 ++ to_be_bytes w32 1) })
-item_is block (k ∷ set) content range word back form =
+item_is size block (k ∷ set) content range word back form fits =
     let some : (length (k ∷ set) == 0) ≡ false = ne_eqb (length (k ∷ set)) 0 (λ e. omega arith) in
     inr (record {
       block = range;
       bits = word_of (k ∷ set);
       some = some_word k set back;
       word = word;
+      within = fits;
       chunks = sym back;
       content = form;
       fields = ap (λ t. to_be_bytes w64 block ++ to_be_bytes w32 (word_of (k ∷ set)) ++ to_be_bytes w32 (if t then 1 else 0) ++ content) some;
@@ -47,32 +49,33 @@ pub is_stored : (item : Item) (word : ℕ) → item.block < 2 ^ 64 → word < 2 
 is_stored item word range below is back = record { block = range; word = subst (λ w. w < 2 ^ 32) is below; back = ap places_of (sym is) ∙ back }
 
 -- the texts of items
-items_are : (least : ℕ) (items : List Item) → AllByRecursion IsStored items → AllByRecursion HasForm items → RisesFromKeys least (map (λ i. i.block) items) → AreItems least (flat_map item_bytes items) (entries items)
-items_are least [] stored form rises = refl
-items_are least (i ∷ is) stored form rises =
-    (item_bytes i, flat_map item_bytes is, refl, rises.0, item_is i.block i.chunks i.content.items stored.0.block stored.0.word stored.0.back form.0, items_are (suc i.block) is stored.1 form.1 rises.1)
+items_are : (size : Option ℕ) (least : ℕ) (items : List Item) → AllByRecursion IsStored items → AllByRecursion HasForm items → AllByRecursion (FitsSize size) items → RisesFromKeys least (map (λ i. i.block) items) → AreItems size least (flat_map item_bytes items) (entries items)
+items_are size least [] stored form fits rises = refl
+items_are size least (i ∷ is) stored form fits rises =
+    (item_bytes i, flat_map item_bytes is, refl, rises.0, item_is size i.block i.chunks i.content.items stored.0.block stored.0.word stored.0.back form.0 fits.0, items_are size (suc i.block) is stored.1 form.1 fits.1 rises.1)
 
 -- the text of a checkpoint
-pub text_is : (number : ℕ) (items : List Item) → 1 ≤ number → number < 2 ^ 64 → 1 ≤ length items → length items ≤ 64 → All IsStored items → All HasForm items → BlocksRise items
-    → IsText (checkpoint_text number items) number (entries items)
-text_is number items first range some few stored form rises =
+pub text_is : (size : Option ℕ) (number : ℕ) (items : List Item) → is_size size ≡ true → All (FitsSize size) items → 1 ≤ number → number < 2 ^ 64 → 1 ≤ length items → length items ≤ 64 → All IsStored items → All HasForm items → BlocksRise items
+    → IsTextIn size (checkpoint_text_in size number items) number (entries items)
+text_is size number items sized fits first range some few stored form rises =
     let count : length (entries items) ≡ length items = length-map items entry in
     record {
+      sized = sized;
       first = first;
       range = range;
       some = omega (arith, count);
       few = omega (arith, count);
       body = flat_map item_bytes items;
-      each = items_are 0 items (recursion_from_All IsStored items stored) (recursion_from_All HasForm items form) rises;
-      fields = ap (λ n. codes "XCP1" ++ to_be_bytes w64 number ++ to_be_bytes w32 n ++ flat_map item_bytes items ++ codes "XCE1" ++ to_be_bytes w32 n ++ to_be_bytes w64 number) (sym count);
+      each = items_are size 0 items (recursion_from_All IsStored items stored) (recursion_from_All HasForm items form) (recursion_from_All (FitsSize size) items fits) rises;
+      fields = text_parts size number (length items) (flat_map item_bytes items) ∙ ap (λ n. head_of size number n ++ flat_map item_bytes items ++ end_of size ++ to_be_bytes w32 n ++ to_be_bytes w64 number) (sym count);
     }
 
 -- so are its pieces together
-pub is_text : (number : ℕ) (items : List Item) (cut : List (List ℕ)) → cut ≡ pieces (checkpoint_text number items) → 1 ≤ number → number < 2 ^ 64 → 1 ≤ length items → length items ≤ 64 → All IsStored items → All HasForm items → BlocksRise items
-    → IsText (concat cut) number (entries items)
-is_text number items cut e first range some many stored form rises =
-    subst (λ t. IsText t number (entries items)) (sym (ap concat e ∙ concat_pieces (checkpoint_text number items))) (text_is number items first range some many stored form rises)
+pub is_text : (size : Option ℕ) (number : ℕ) (items : List Item) (cut : List (List ℕ)) → cut ≡ pieces (checkpoint_text_in size number items) → is_size size ≡ true → All (FitsSize size) items → 1 ≤ number → number < 2 ^ 64 → 1 ≤ length items → length items ≤ 64 → All IsStored items → All HasForm items → BlocksRise items
+    → IsTextIn size (concat cut) number (entries items)
+is_text size number items cut e sized fits first range some many stored form rises =
+    subst (λ t. IsTextIn size t number (entries items)) (sym (ap concat e ∙ concat_pieces (checkpoint_text_in size number items))) (text_is size number items sized fits first range some many stored form rises)
 
 -- and there are at most 65 of them
-pub are_few : (number : ℕ) (items : List Item) (cut : List (List ℕ)) → cut ≡ pieces (checkpoint_text number items) → checkpoint_len items ≤ 263200 → All HasForm items → length cut ≤ 65
-are_few number items cut e cost form = subst (λ ps. length ps ≤ 65) (sym e) (few (checkpoint_text number items) (omega (arith, cost, length_text number items form)))
+pub are_few : (size : Option ℕ) (number : ℕ) (items : List Item) (cut : List (List ℕ)) → cut ≡ pieces (checkpoint_text_in size number items) → checkpoint_len items ≤ 263200 → All HasForm items → length cut ≤ 65
+are_few size number items cut e cost form = subst (λ ps. length ps ≤ 65) (sym e) (few (checkpoint_text_in size number items) (omega (arith, cost, length_either size number items form)))

@@ -11,7 +11,7 @@ above (Some block) = suc block
 
 -- a draft without where it lies in memory
 abbrev pub seen : Stored → Draft
-seen d = record { number = d.number; count = d.count; items = entries d.items.items; least = above d.last; next = d.next }
+seen d = record { size = d.size; number = d.number; count = d.count; items = entries d.items.items; least = above d.last; next = d.next }
 
 -- a field that was accepted led to this draft; one that was not breaks its rule
 abbrev pub IsAfter : Bool → Draft → Option Draft → Type 0

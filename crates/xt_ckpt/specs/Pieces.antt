@@ -1,7 +1,8 @@
 -- A text that is given in pieces: its parts, a place in it, and what is still to come from there on.
 use Rattle.std.specs.Int.{to_be_bytes, w32, w64}
-use Rattle.std.specs.Prelude.{List, None, Option, Some, [], codes, drop, flat_map, if◌then◌else◌, length, map, nat_lt, slice_index_or, ℕ, ◌*◌, ◌++◌, ◌+◌, ◌-◌, ◌<◌, ◌==◌, ◌≡◌, ◌≤◌}
+use Rattle.std.specs.Prelude.{List, None, Option, Some, [], drop, flat_map, if◌then◌else◌, length, map, nat_lt, slice_index_or, ℕ, ◌*◌, ◌++◌, ◌+◌, ◌-◌, ◌<◌, ◌==◌, ◌≡◌, ◌≤◌}
 use Rattle.xt_base.specs.Chunks.{word_of}
+use Rattle.xt_ckpt.specs.Grammar.{end_of, head_of, size_field}
 use Rattle.xt_ckpt.specs.Items.{item_bytes}
 use Rattle.xt_ckpt.specs.declared.format.TheConstants.{END_BYTES, FIELD_BYTES}
 use Rattle.xt_ckpt.specs.declared.item.Item.{Item}
@@ -10,13 +11,13 @@ use Rattle.xt_ckpt.specs.declared.place.Ends.{Ends}
 use Rattle.xt_ckpt.specs.declared.place.Part.{Part}
 use Rattle.xt_ckpt.specs.declared.place.Place.{Place}
 
--- the fields before the items: XCP1, the number, the count
+-- the fields before the items: the first word, the number, the count, and the size where it is said
 abbrev pub front_bytes : Ends → List ℕ
-front_bytes ends = codes "XCP1" ++ to_be_bytes w64 ends.number ++ to_be_bytes w32 ends.count
+front_bytes ends = head_of ends.size ends.number ends.count
 
--- the fields behind them: XCE1, the count, the number
+-- the fields behind them: the last word, the count, the number
 abbrev pub end_bytes : Ends → List ℕ
-end_bytes ends = codes "XCE1" ++ to_be_bytes w32 ends.count ++ to_be_bytes w64 ends.number
+end_bytes ends = end_of ends.size ++ to_be_bytes w32 ends.count ++ to_be_bytes w64 ends.number
 
 -- an item's block, the map of its chunks, and the flag of a cancel
 abbrev pub field_bytes : Item → List ℕ
@@ -63,17 +64,17 @@ IsPart count Part.End = Unit {0}
 IsPart count Part.Nothing = Unit {0}
 
 -- how many bytes a part has
-abbrev pub part_len : List Item → Part → ℕ
-part_len items Part.Front = END_BYTES
-part_len items (Part.Fields i) = FIELD_BYTES
-part_len items (Part.Content i) = length (content_at items i)
-part_len items Part.End = END_BYTES
-part_len items Part.Nothing = 0
+abbrev pub part_len : Ends → List Item → Part → ℕ
+part_len ends items Part.Front = END_BYTES + length (size_field ends.size)
+part_len ends items (Part.Fields i) = FIELD_BYTES
+part_len ends items (Part.Content i) = length (content_at items i)
+part_len ends items Part.End = END_BYTES
+part_len ends items Part.Nothing = 0
 
 -- a place lies in the text of these items
-pub record LiesIn (items : List Item) (place : Place) : Type 0 where
+pub record LiesIn (ends : Ends) (items : List Item) (place : Place) : Type 0 where
   pub part : IsPart (length items) place.part
-  pub done : place.done ≤ part_len items place.part
+  pub done : place.done ≤ part_len ends items place.part
 
 -- the part behind the items before an index: the next item, or the end
 abbrev pub item_or_end : ℕ → ℕ → Part
@@ -107,7 +108,7 @@ to_come items writer = from_place writer.ends items writer.place
 -- the writer is one for these items: they are as many as was said at its making, and it has come to a place in their text
 pub record IsOf (items : List Item) (writer : PieceWriter) : Type 0 where
   pub count : length items ≡ writer.ends.count
-  pub place : LiesIn items writer.place
+  pub place : LiesIn writer.ends items writer.place
 
 -- the bytes that were given, none at the end
 abbrev pub given_bytes : Option (List ℕ) → List ℕ

@@ -1,8 +1,10 @@
 //! How many bytes items take in a text.
 
 ghost use Rattle.std.specs.Prelude.{◌≡◌, ◌+◌, ◌*◌, ◌≤◌, length, sum_by};
+ghost use Rattle.xt_ckpt.specs.Grammar.{size_field};
 ghost use Rattle.xt_ckpt.specs.Items.{checkpoint_len, item_len};
 
+use crate::format::SIZE_BYTES;
 use crate::item::Item;
 use xt_base::sizes::{BUSY_BLOCKS, CHUNK_BYTES, CHUNK_COST, CHUNKS, ENDS, ITEM_COST};
 
@@ -27,8 +29,19 @@ pub fn items_len(items: &[Item]) -> usize
     len
 }
 
+/// How many bytes the size of a block takes in a text, where the text says it.
+pub fn size_len(size: Option<u32>) -> usize
+    ensures value { result ≡ length (size_field size) }
+    ensures range { result ≤ SIZE_BYTES }
+{
+    match size {
+        None => 0,
+        Some(_) => SIZE_BYTES,
+    }
+}
+
 /// The length of the text of a checkpoint in bytes, which is its cost: 32, and for each
-/// item 16 and 128 for each chunk. At most 263,200.
+/// item 16 and 128 for each chunk. At most 263,200. A text that says the size of a block has 4 more.
 pub fn checkpoint_len(items: &[Item]) -> usize
     requires { length items.now ≤ BUSY_BLOCKS }
     ensures value { result ≡ checkpoint_len items.now }

@@ -16,4 +16,4 @@ pub use item::Item;
 pub use piece_writer::PieceWriter;
 pub use reading::{Checkpoint, CkptFault, ReadFault, read_checkpoint, read_checkpoint_into};
 pub use rooms::Rooms;
-pub use writing::write_checkpoint;
+pub use writing::{write_checkpoint, write_checkpoint_in, write_checkpoint2};

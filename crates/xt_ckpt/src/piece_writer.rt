@@ -2,7 +2,7 @@
 
 ghost use Rattle.std.specs.Prelude.{◌≡◌, ◌++◌, ◌≤◌, ◌↔◌, [], All, List, length, min, IfOk, IfErr, IfSome, IsNone, OnErr};
 ghost use Rattle.xt_base.specs.declared.steps.Errno.TheVariants.{NoMemory};
-ghost use Rattle.xt_ckpt.specs.Items.{checkpoint_text, HasForm};
+ghost use Rattle.xt_ckpt.specs.Items.{HasForm, checkpoint_text_in};
 ghost use Rattle.xt_ckpt.specs.Pieces.{IsOf, given_bytes, to_come};
 ghost use Rattle.xt_ckpt.specs.declared.item.Item.{Item as AnItem};
 
@@ -23,13 +23,18 @@ pub struct PieceWriter {
 }
 
 impl PieceWriter {
-    /// A writer of the text of this number and of `count` items, of which nothing is given yet.
-    pub fn new(number: CkptNo, count: u32) -> Self
+    /// A writer of the text of this number and of `count` items, of which nothing is given yet. The text says the size of a block
+    /// in bytes, where there is one.
+    pub fn new(number: CkptNo, size: Option<u32>, count: u32) -> Self
         ensures of { (items : List AnItem) → length items ≡ count → IsOf items result }
-        ensures text { (items : List AnItem) → length items ≡ count → to_come items result ≡ checkpoint_text number items }
+        ensures text { (items : List AnItem) → length items ≡ count → to_come items result ≡ checkpoint_text_in size number items }
     {
         PieceWriter {
-            ends: Ends { number, count },
+            ends: Ends {
+                number,
+                size,
+                count,
+            },
             place: Place::front(),
         }
     }
@@ -49,7 +54,7 @@ impl PieceWriter {
         ensures same { IsOf items.now self.new }
         ensures memory { OnErr result (self.new ≡ self.old) }
     {
-        let room = self.place.room(items);
+        let room = self.place.room(&self.ends, items);
         if room == 0 {
             return Ok(None);
         }

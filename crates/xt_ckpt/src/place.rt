@@ -1,13 +1,14 @@
 //! A place in the text of a checkpoint: the text is formed from there on, straight from the items.
 
-ghost use Rattle.std.specs.Prelude.{◌≡◌, ◌+◌, ◌-◌, ◌++◌, ◌<◌, ◌≤◌, ◌==◌, [], All, if◌then◌else◌, length, min, IfOk};
+ghost use Rattle.std.specs.Prelude.{◌≡◌, ◌+◌, ◌-◌, ◌++◌, ◌<◌, ◌≤◌, ◌==◌, [], All, if◌then◌else◌, length, min, take, IfOk};
+ghost use Rattle.xt_ckpt.specs.Fields.{end_word};
+ghost use Rattle.xt_ckpt.specs.Grammar.{size_field};
 ghost use Rattle.xt_ckpt.specs.Items.{HasForm};
 ghost use Rattle.xt_ckpt.specs.Pieces.{IsPart, IsPut, LiesIn, end_bytes, field_bytes, from_place, front_bytes, item_or_end, next_part, part_bytes, rank};
-ghost use Rattle.xt_ckpt.specs.declared.place.Ends.{Ends as AnyEnds};
 ghost use Rattle.xt_ckpt.specs.declared.place.Part.TheVariants as Part;
 
-use crate::costs::items_len;
-use crate::format::{END, END_BYTES, FIELD_BYTES, START};
+use crate::costs::{items_len, size_len};
+use crate::format::{END, END_BYTES, FIELD_BYTES, SIZE_BYTES, SIZED_END, SIZED_START, START};
 use crate::item::Item;
 use std::alloc::AllocError;
 use xt_base::chunks::Chunks;
@@ -18,6 +19,8 @@ use xt_base::sizes::{BUSY_BLOCKS, PIECE_BYTES};
 #[derive(Clone, Copy, Debug)]
 pub struct Ends {
     pub number: CkptNo,
+    /// The size of a block in bytes, where the text says it.
+    pub size: Option<u32>,
     /// How many items there are.
     pub count: u32,
 }
@@ -25,7 +28,7 @@ pub struct Ends {
 /// A part of a text.
 #[derive(Clone, Copy, Debug)]
 pub enum Part {
-    /// The first word, the number and the count of items.
+    /// The first word, the number, the count of items, and the size of a block where the text says it.
     Front,
     /// The block, the map and the flag of the item at this index.
     Fields(usize),
@@ -47,14 +50,38 @@ pub struct Place {
 
 impl Ends {
     /// The fields before the items.
-    fn front(&self) -> [u8; 16]
-        ensures { result ≡ front_bytes self.now }
+    fn front(&self) -> [u8; 20]
+        ensures { take (END_BYTES + length (size_field self.now.size)) result ≡ front_bytes self.now }
     {
-        let mut bytes = [0; END_BYTES];
-        bytes[..4].copy_from_slice(&START.to_be_bytes());
+        let mut bytes = [0; END_BYTES + SIZE_BYTES];
         bytes[4..12].copy_from_slice(&self.number.0.to_be_bytes());
-        bytes[12..].copy_from_slice(&self.count.to_be_bytes());
+        bytes[12..16].copy_from_slice(&self.count.to_be_bytes());
+        match self.size {
+            None => bytes[..4].copy_from_slice(&START.to_be_bytes()),
+            Some(size) => {
+                bytes[..4].copy_from_slice(&SIZED_START.to_be_bytes());
+                bytes[16..].copy_from_slice(&size.to_be_bytes());
+            }
+        }
         bytes
+    }
+
+    /// How many bytes they are.
+    fn front_len(&self) -> usize
+        ensures value { result ≡ END_BYTES + length (size_field self.now.size) }
+        ensures range { result ≤ END_BYTES + SIZE_BYTES }
+    {
+        END_BYTES + size_len(self.size)
+    }
+
+    /// The word behind the items.
+    fn end_word(&self) -> u32
+        ensures { result ≡ end_word self.now.size }
+    {
+        match self.size {
+            None => END,
+            Some(_) => SIZED_END,
+        }
     }
 
     /// The fields behind them.
@@ -62,7 +89,7 @@ impl Ends {
         ensures { result ≡ end_bytes self.now }
     {
         let mut bytes = [0; END_BYTES];
-        bytes[..4].copy_from_slice(&END.to_be_bytes());
+        bytes[..4].copy_from_slice(&self.end_word().to_be_bytes());
         bytes[4..8].copy_from_slice(&self.count.to_be_bytes());
         bytes[8..].copy_from_slice(&self.number.0.to_be_bytes());
         bytes
@@ -147,14 +174,14 @@ impl Place {
     }
 
     /// How many bytes are still to come.
-    fn left(self, items: &[Item]) -> usize
-        requires lies { LiesIn items.now self }
+    fn left(self, ends: &Ends, items: &[Item]) -> usize
+        requires lies { LiesIn ends.now items.now self }
         requires few { length items.now ≤ BUSY_BLOCKS }
         requires form { All HasForm items.now }
-        ensures { (ends : AnyEnds) → result ≡ length (from_place ends items.now self) }
+        ensures { result ≡ length (from_place ends.now items.now self) }
     {
         match self.part {
-            Part::Front => END_BYTES - self.done + items_len(items) + END_BYTES,
+            Part::Front => ends.front_len() - self.done + items_len(items) + END_BYTES,
             Part::Fields(index) => items_len(&items[index..]) - self.done + END_BYTES,
             Part::Content(index) => {
                 let content = items[index].content.len() - self.done;
@@ -166,13 +193,13 @@ impl Place {
     }
 
     /// How many bytes are still to come, at most a piece.
-    pub fn room(self, items: &[Item]) -> usize
-        requires lies { LiesIn items.now self }
+    pub fn room(self, ends: &Ends, items: &[Item]) -> usize
+        requires lies { LiesIn ends.now items.now self }
         requires few { length items.now ≤ BUSY_BLOCKS }
         requires form { All HasForm items.now }
-        ensures { (ends : AnyEnds) → result ≡ min PIECE_BYTES (length (from_place ends items.now self)) }
+        ensures { result ≡ min PIECE_BYTES (length (from_place ends.now items.now self)) }
     {
-        self.left(items).min(PIECE_BYTES)
+        self.left(ends, items).min(PIECE_BYTES)
     }
 
     /// Puts bytes of this part behind what is there, up to a limit: how many of them are
@@ -184,12 +211,15 @@ impl Place {
         ends: &Ends,
         items: &[Item],
     ) -> Result<Option<usize>, AllocError>
-        requires lies { LiesIn items.now self }
+        requires lies { LiesIn ends.now items.now self }
         requires room { length out.old.items ≤ limit }
         ensures { IfOk result (IsPut (part_bytes ends.now items.now self.part) self.done limit out.old.items out.new.items) }
     {
         match self.part {
-            Part::Front => put_from(out, limit, &ends.front(), self.done),
+            Part::Front => {
+                let front = ends.front();
+                put_from(out, limit, &front[..ends.front_len()], self.done)
+            }
             Part::Fields(index) => put_from(out, limit, &fields(&items[index]), self.done),
             Part::Content(index) => put_from(out, limit, &items[index].content, self.done),
             Part::End => put_from(out, limit, &ends.end(), self.done),
@@ -205,11 +235,11 @@ impl Place {
         ends: &Ends,
         items: &[Item],
     ) -> Result<Place, AllocError>
-        requires lies { LiesIn items.now self }
+        requires lies { LiesIn ends.now items.now self }
         requires count { length items.now ≡ ends.now.count }
         requires room { length out.old.items < limit }
         requires more { limit ≤ length out.old.items + length (from_place ends.now items.now self) }
-        ensures lies { IfOk result (LiesIn items.now) }
+        ensures lies { IfOk result (LiesIn ends.now items.now) }
         ensures bytes { IfOk result (λ place. out.new.items ++ from_place ends.now items.now place ≡ out.old.items ++ from_place ends.now items.now self) }
         ensures limit { IfOk result (λ place. length out.new.items ≤ limit) }
         ensures less { IfOk result (λ place. rank (length items.now) place.part + (limit - length out.new.items) < rank (length items.now) self.part + (limit - length out.old.items)) }
@@ -235,11 +265,11 @@ impl Place {
         ends: &Ends,
         items: &[Item],
     ) -> Result<Place, AllocError>
-        requires lies { LiesIn items.now self }
+        requires lies { LiesIn ends.now items.now self }
         requires count { length items.now ≡ ends.now.count }
         requires empty { piece.old.items ≡ [] }
         requires more { limit ≤ length (from_place ends.now items.now self) }
-        ensures lies { IfOk result (LiesIn items.now) }
+        ensures lies { IfOk result (LiesIn ends.now items.now) }
         ensures bytes { IfOk result (λ place. piece.new.items ++ from_place ends.now items.now place ≡ from_place ends.now items.now self) }
         ensures length { IfOk result (λ place. length piece.new.items ≡ limit) }
     {

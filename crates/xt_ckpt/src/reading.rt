@@ -1,8 +1,8 @@
 //! The reader: a checkpoint from the bytes of a log.
 
-ghost use Rattle.std.specs.Prelude.{◌≡◌, ◌++◌, ℕ, List, length, IfOk, IfErr, IfSome, IsNone};
+ghost use Rattle.std.specs.Prelude.{◌≡◌, ◌++◌, ℕ, List, Option, length, IfOk, IfErr, IfSome, IsNone};
 ghost use Rattle.xt_ckpt.specs.Fields.{IsUnfinished};
-ghost use Rattle.xt_ckpt.specs.Grammar.{Entry, IsText};
+ghost use Rattle.xt_ckpt.specs.Grammar.{Entry, IsTextIn};
 ghost use Rattle.xt_ckpt.specs.Reading.{Begins, BeginsNoText, IsJudged, IsReadAs, IsWhy};
 ghost use Rattle.xt_ckpt.specs.declared.reading.ReadFault.TheVariants.{Memory};
 
@@ -18,6 +18,9 @@ use xt_base::names::CkptNo;
 pub struct Checkpoint {
     /// At least 1.
     pub no: CkptNo,
+    /// The size of a block, where the text says it: 512, 1,024, 2,048 or 4,096 bytes. A text that begins with `XCP1` says
+    /// none, and has blocks of 4,096 bytes.
+    pub size: Option<u32>,
     /// 1 to 64 items by rising block.
     pub items: Vec<Item>,
 }
@@ -78,8 +81,8 @@ pub fn read_checkpoint(
     // What is read is the grammar's.
     ensures found { IfOk result (λ r. IfSome r (λ found. Begins input.now found.0 found.1)) }
     // What is the grammar's is read, whatever follows it, unless memory runs out.
-    ensures only { (text more : List ℕ) (number : ℕ) (items : List Entry) → IsText text number items
-        → input.now ≡ text ++ more → IsReadAs number items (length text) result }
+    ensures only { (size : Option ℕ) (text more : List ℕ) (number : ℕ) (items : List Entry) → IsTextIn size text number items
+        → input.now ≡ text ++ more → IsReadAs size number items (length text) result }
     // Nothing is read where no text begins the input, which ends within a field; each field before obeys its rule.
     ensures none { IfOk result (λ r. IsNone r → BeginsNoText input.now × IsUnfinished input.now) }
     // A fault is the first field that breaks its rule.
@@ -96,8 +99,8 @@ pub fn read_checkpoint_into(
     // What is read is the grammar's.
     ensures found { IfOk result (λ r. IfSome r (λ found. Begins input.now found.0 found.1)) }
     // What is the grammar's is read, whatever follows it, unless memory runs out.
-    ensures only { (text more : List ℕ) (number : ℕ) (items : List Entry) → IsText text number items
-        → input.now ≡ text ++ more → IsReadAs number items (length text) result }
+    ensures only { (size : Option ℕ) (text more : List ℕ) (number : ℕ) (items : List Entry) → IsTextIn size text number items
+        → input.now ≡ text ++ more → IsReadAs size number items (length text) result }
     // Nothing is read where no text begins the input, which ends within a field; each field before obeys its rule.
     ensures none { IfOk result (λ r. IsNone r → BeginsNoText input.now × IsUnfinished input.now) }
     // A fault is the first field that breaks its rule.

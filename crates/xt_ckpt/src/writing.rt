@@ -1,17 +1,19 @@
 //! The writer: the text of a checkpoint in pieces.
 
-ghost use Rattle.std.specs.Prelude.{◌≡◌, ◌≤◌, All, length, IfOk, IfErr};
-ghost use Rattle.std.specs.List.{concat};
-ghost use Rattle.xt_base.specs.Text.{pieces as pieces_of};
+ghost use Rattle.std.specs.Prelude.{◌≡◌, ◌≤◌, None, All, Some, true, length, IfOk, IfErr};
+ghost use Rattle.std.specs.List.{concat, flat_map};
+ghost use Rattle.xt_base.specs.Form.{is_size};
+ghost use Rattle.xt_base.specs.Text.{pieces as pieces_of, text_in};
 ghost use Rattle.xt_base.specs.declared.steps.Errno.TheVariants.{NoMemory};
-ghost use Rattle.xt_ckpt.specs.Items.{checkpoint_text, HasForm, IsStored, BlocksRise};
-ghost use Rattle.xt_ckpt.specs.Grammar.{IsText, entries};
+ghost use Rattle.xt_ckpt.specs.Items.{checkpoint_text, checkpoint_text_in, item_bytes, FitsSize, HasForm, IsStored, BlocksRise};
+ghost use Rattle.xt_ckpt.specs.Grammar.{IsText, IsTextIn, entries};
 
-use crate::costs::checkpoint_len;
+use crate::costs::{checkpoint_len, size_len};
 use crate::item::Item;
 use crate::piece_writer::PieceWriter;
 use bytes::Bytes;
 use std::alloc::{AllocError, Global};
+use xt_base::form::Form;
 use xt_base::names::CkptNo;
 use xt_base::sizes::{BUSY_BLOCKS, PIECE_BYTES, TEXT_PIECES};
 use xt_base::steps::Errno;
@@ -27,20 +29,27 @@ fn are_stored(items: &[Item])
     }
 }
 
-/// Forms the pieces one by one.
-fn write_pieces(alloc: Global, no: CkptNo, items: &[Item]) -> Result<Vec<Bytes>, AllocError>
+/// Forms the pieces one by one, of a text that says the size of a block where one is given.
+fn write_pieces(
+    alloc: Global,
+    no: CkptNo,
+    size: Option<u32>,
+    items: &[Item],
+) -> Result<Vec<Bytes>, AllocError>
+    requires size { is_size size ≡ true }
+    requires fits { All (FitsSize size) items.now }
     requires number { 1 ≤ no }
     requires count { (1 ≤ length items.now) × (length items.now ≤ BUSY_BLOCKS) }
     requires form { All HasForm items.now }
     requires rising { BlocksRise items.now }
-    ensures text { IfOk result (λ pieces. pieces.items ≡ pieces_of (checkpoint_text no items.now)) }
-    ensures grammar { IfOk result (λ pieces. IsText (concat pieces.items) no (entries items.now)) }
+    ensures text { IfOk result (λ pieces. pieces.items ≡ pieces_of (checkpoint_text_in size no items.now)) }
+    ensures grammar { IfOk result (λ pieces. IsTextIn size (concat pieces.items) no (entries items.now)) }
     ensures few { IfOk result (λ pieces. length pieces.items ≤ TEXT_PIECES) }
 {
     are_stored(items);
-    let count = checkpoint_len(items).div_ceil(PIECE_BYTES);
+    let count = (checkpoint_len(items) + size_len(size)).div_ceil(PIECE_BYTES);
     let mut pieces = Vec::with_capacity(alloc, count)?;
-    let mut writer = PieceWriter::new(no, items.len() as u32);
+    let mut writer = PieceWriter::new(no, size, items.len() as u32);
     while let Some(piece) = writer.try_next(alloc, items)? {
         pieces.push(piece)?;
     }
@@ -60,5 +69,51 @@ pub fn write_checkpoint(alloc: Global, no: CkptNo, items: &[Item]) -> Result<Vec
     ensures few { IfOk result (λ pieces. length pieces.items ≤ TEXT_PIECES) }
     ensures memory { IfErr result (λ e. e ≡ NoMemory) }
 {
-    write_pieces(alloc, no, items).map_err(|_| Errno::NoMemory)
+    are_stored(items);
+    write_pieces(alloc, no, None, items).map_err(|_| Errno::NoMemory)
+}
+
+/// The same of a text that says the size of a block: 512, 1,024, 2,048 or 4,096 bytes. No item may log a chunk that such a block lacks.
+pub fn write_checkpoint2(
+    alloc: Global,
+    no: CkptNo,
+    size: u32,
+    items: &[Item],
+) -> Result<Vec<Bytes>, Errno>
+    requires size { is_size (Some size) ≡ true }
+    requires fits { All (FitsSize (Some size)) items.now }
+    requires number { 1 ≤ no }
+    requires count { (1 ≤ length items.now) × (length items.now ≤ BUSY_BLOCKS) }
+    requires form { All HasForm items.now }
+    requires rising { BlocksRise items.now }
+    ensures text { IfOk result (λ pieces. pieces.items ≡ pieces_of (checkpoint_text_in (Some size) no items.now)) }
+    // The pieces together are a text of the grammar, which `read_checkpoint` reads again, whatever follows it.
+    ensures grammar { IfOk result (λ pieces. IsTextIn (Some size) (concat pieces.items) no (entries items.now)) }
+    ensures few { IfOk result (λ pieces. length pieces.items ≤ TEXT_PIECES) }
+    ensures memory { IfErr result (λ e. e ≡ NoMemory) }
+{
+    write_pieces(alloc, no, Some(size), items).map_err(|_| Errno::NoMemory)
+}
+
+/// The text that a mount of this form writes: it says the size of a block, or does not. The one error is `NoMemory`.
+pub fn write_checkpoint_in(
+    alloc: Global,
+    form: Form,
+    no: CkptNo,
+    items: &[Item],
+) -> Result<Vec<Bytes>, Errno>
+    requires number { 1 ≤ no }
+    requires count { (1 ≤ length items.now) × (length items.now ≤ BUSY_BLOCKS) }
+    requires form { All HasForm items.now }
+    requires rising { BlocksRise items.now }
+    ensures text { IfOk result (λ pieces. pieces.items ≡ pieces_of (text_in form no (length items.now) (flat_map item_bytes items.now))) }
+    ensures few { IfOk result (λ pieces. length pieces.items ≤ TEXT_PIECES) }
+    ensures memory { IfErr result (λ e. e ≡ NoMemory) }
+{
+    if form.is_sized() {
+        are_stored(items);
+        write_checkpoint2(alloc, no, form.size(), items)
+    } else {
+        write_checkpoint(alloc, no, items)
+    }
 }

@@ -74,7 +74,7 @@ begun_whole : (s t : State) (b : Bool) (x y : Outcome) → IsSound t → t ≡ (
 begun_whole s t true x y sound is few shut live ps = (sound, subst ArePieces (sym (ap (λ (u : State). flight_pieces u.items.flight) is ∙ shut)) ps)
 begun_whole s t false x y sound is few shut live ps =
     let now : flight_pieces t.items.flight ≡ next_pieces s = ap (λ (u : State). flight_pieces u.items.flight) is ∙ live in
-    (sound, subst ArePieces (sym now) (are_pieces (text_of s.form.size s.items.open_number s.items.cil s.frames.committed) (subst (λ ps. length ps ≤ 65) now few)))
+    (sound, subst ArePieces (sym now) (are_pieces (text_of s.form s.items.open_number s.items.cil s.frames.committed) (subst (λ ps. length ps ≤ 65) now few)))
 
 pub begun_sound : (old new : State) (name : JobName) (r : Result Reply AllocError) → IsWhole old → is_waiting name old ≡ true → is_ckpt name.kind ≡ true
     → IfOk r (λ reply. gives reply new ≡ begin old) → OnOk r (length (flight_pieces new.items.flight) ≤ 65) → OnErr r (new ≡ old) → IsWhole new

@@ -20,7 +20,7 @@ use xt_base::names::{Block, CkptNo, JobKind};
 use xt_base::sizes::TEXT_PIECES;
 use xt_base::steps::{LogAnswers, Reason, Reply};
 use xt_ckpt::item::Item;
-use xt_ckpt::writing::write_checkpoint;
+use xt_ckpt::writing::write_checkpoint_in;
 use xt_vectors::vector::LogVector;
 
 impl Machine {
@@ -48,7 +48,8 @@ impl Machine {
         ensures few { IfOk result (λ pieces. length pieces.items ≤ TEXT_PIECES) }
     {
         let items = self.items_now()?;
-        match write_checkpoint(self.alloc, self.accounts.open_number(), &items) {
+        let form = self.accounts.form();
+        match write_checkpoint_in(self.alloc, form, self.accounts.open_number(), &items) {
             Ok(pieces) => Ok(pieces),
             Err(_) => Err(AllocError),
         }

@@ -26,18 +26,18 @@ unfolding chunks_where
 few_places bits = omega (arith, length-filter (λ k. bit_at bits k == 1) (below 32), count_by-le-length (λ k. bit_at bits k == 1) (below 32))
 
 -- an item has no more bytes than a block
-item_short : (bytes : List ℕ) (e : Entry) → IsItem bytes e → length e.content ≤ 4096
-item_short bytes e (inl cancel) = omega (arith, ap (λ xs. length xs) cancel.content)
-item_short bytes e (inr logged) = omega (arith, logged.content, ap (λ xs. length xs) logged.chunks, few_places logged.bits)
+item_short : (size : Option ℕ) (bytes : List ℕ) (e : Entry) → IsItem size bytes e → length e.content ≤ 4096
+item_short size bytes e (inl cancel) = omega (arith, ap (λ xs. length xs) cancel.content)
+item_short size bytes e (inr logged) = omega (arith, logged.content, ap (λ xs. length xs) logged.chunks, few_places logged.bits)
 
-items_short : (least : ℕ) (bytes : List ℕ) (items : List Item) → AreItems least bytes (map entry items) → All (λ (i : Item). length i.content.items ≤ 4096) items
-items_short least bytes [] are = All-nil (λ (i : Item). length i.content.items ≤ 4096)
-items_short least bytes (i ∷ is) are =
-    All-cons (λ (i : Item). length i.content.items ≤ 4096) i is (item_short are.0 (entry i) are.4) (items_short (suc i.block) are.1 is are.5)
+items_short : (size : Option ℕ) (least : ℕ) (bytes : List ℕ) (items : List Item) → AreItems size least bytes (map entry items) → All (λ (i : Item). length i.content.items ≤ 4096) items
+items_short size least bytes [] are = All-nil (λ (i : Item). length i.content.items ≤ 4096)
+items_short size least bytes (i ∷ is) are =
+    All-cons (λ (i : Item). length i.content.items ≤ 4096) i is (item_short size are.0 (entry i) are.4) (items_short size (suc i.block) are.1 is are.5)
 
 -- and so has each item of a text that was found
 pub short_found : (found : Found) → IsOfGrammar found → AreShort found
-short_found (Found.Text c) (text, is) = items_short 0 is.body c.items.items is.each
+short_found (Found.Text c) (text, is) = items_short c.size 0 is.body c.items.items is.each
 short_found (Found.Rest count) is = tt
 short_found (Found.Fault place) is = tt
 

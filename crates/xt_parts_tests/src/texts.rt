@@ -8,9 +8,11 @@ ghost use Rattle.xt_ckpt.specs.Items.{HasForm};
 ghost use Rattle.xt_ckpt.specs.Pieces.{IsOf};
 
 mod many_items;
+mod sized;
 
 use bytes::Bytes;
 use many_items::{OF_4096, OF_8192};
+use sized::{OF_180, OF_4148, SIZED_CHANGES, SIZED_LOGS};
 use std::alloc::{AllocError, Global};
 use std::test::*;
 use xt_base::chunks::Chunks;
@@ -101,20 +103,22 @@ fn first_text(alloc: Global, input: &[u8]) -> Result<(Checkpoint, usize), Fail> 
     Ok(found.ok_or("a text")?)
 }
 
-/// Texts of one item, their lengths, and its chunks and its bytes.
-const OF_ONE: &[(&str, usize, u32, &str)] = &[
-    (OF_176, 176, 0x2, "00*2.0102.00*124"),
-    (OF_304, 304, 0x9, "11.00*143.22.00*111"),
-    (OF_432, 432, 0x8000_0003, "00*127.0102.00*254.ff"),
-    (OF_48, 48, 0, ""),
-    (OF_4144, 4144, 0xffff_ffff, "aa*4096"),
+/// Texts of one item, their lengths, the size of a block where they say it, and the item's chunks and its bytes.
+const OF_ONE: &[(&str, usize, Option<u32>, u32, &str)] = &[
+    (OF_176, 176, None, 0x2, "00*2.0102.00*124"),
+    (OF_304, 304, None, 0x9, "11.00*143.22.00*111"),
+    (OF_432, 432, None, 0x8000_0003, "00*127.0102.00*254.ff"),
+    (OF_48, 48, None, 0, ""),
+    (OF_4144, 4144, None, 0xffff_ffff, "aa*4096"),
+    (OF_180, 180, Some(512), 0x2, "00*2.0102.00*124"),
 ];
 
-/// Whether a checkpoint is number 1 and has one item, of block 7, with these chunks and bytes.
-fn is_one(checkpoint: &Checkpoint, map: u32, content: &[u8]) -> bool {
+/// Whether a checkpoint is number 1, says this size, and has one item, of block 7, with these chunks and bytes.
+fn is_one(checkpoint: &Checkpoint, size: Option<u32>, map: u32, content: &[u8]) -> bool {
     match checkpoint.items.as_slice() {
         [item] => {
             checkpoint.no == CkptNo(1)
+                && checkpoint.size == size
                 && item.block == Block(7)
                 && item.chunks.word() == map
                 && item.content.as_slice() == content
@@ -128,25 +132,30 @@ fn is_read(
     alloc: Global,
     rooms: &mut Rooms,
     input: &[u8],
+    size: Option<u32>,
     map: u32,
     content: &[u8],
 ) -> Result<Option<usize>, Fail> {
     let (alone, len) = first_text(alloc, input)?;
     let found = read_checkpoint_into(rooms, input)?;
     let (checkpoint, read) = found.ok_or("a text")?;
-    let is_so = is_one(&alone, map, content) && is_one(&checkpoint, map, content) && read == len;
+    let are_so = is_one(&alone, size, map, content) && is_one(&checkpoint, size, map, content);
     rooms.give_back(checkpoint);
-    Ok(if is_so { Some(len) } else { None })
+    Ok(if are_so && read == len {
+        Some(len)
+    } else {
+        None
+    })
 }
 
 #[test]
 fn texts_of_one_item(rt: HostRuntime) -> Result<(), Fail> {
     let mut rooms = Rooms::new(rt.alloc());
-    for (text, len, map, content) in OF_ONE {
+    for (text, len, size, map, content) in OF_ONE {
         let mut input = bytes_of(rt.alloc(), text)?;
         input.push(0x58)?;
         let content = bytes_of(rt.alloc(), content)?;
-        let read = is_read(rt.alloc(), &mut rooms, &input, *map, &content)?;
+        let read = is_read(rt.alloc(), &mut rooms, &input, *size, *map, &content)?;
         assert!(rt; read == Some(*len), "{text}");
     }
     Ok(())
@@ -186,7 +195,9 @@ fn is_unfinished_at_each(alloc: Global, input: &[u8]) -> Result<bool, Fail> {
 
 #[test]
 fn cut_after_each_byte(rt: HostRuntime) -> Result<(), Fail> {
-    const TEXTS: &[&str] = &[OF_176, OF_304, OF_432, OF_48, OF_4144, OF_4096, OF_8192];
+    const TEXTS: &[&str] = &[
+        OF_176, OF_304, OF_432, OF_48, OF_4144, OF_4096, OF_8192, OF_180, OF_4148,
+    ];
     for text in TEXTS {
         let input = bytes_of(rt.alloc(), text)?;
         let outcome = read_outcome(rt.alloc(), &input)?;
@@ -285,20 +296,32 @@ fn changed(alloc: Global, input: &mut [u8], at: usize, bits: u8) -> Result<Outco
     Ok(outcome)
 }
 
+/// The first byte and the bits of it that change, of which the rules say another thing.
+fn first_wrong(alloc: Global, changes: &[Change]) -> Result<Option<(usize, u8)>, Fail> {
+    for (text, first, end, bits, wanted) in changes {
+        let mut input = bytes_of(alloc, text)?;
+        for at in *first..*end {
+            if changed(alloc, &mut input, at, *bits)? != *wanted {
+                return Ok(Some((at, *bits)));
+            }
+        }
+    }
+    Ok(None)
+}
+
 #[test]
 fn one_byte_changed(rt: HostRuntime) -> Result<(), Fail> {
-    for (text, first, end, bits, wanted) in CHANGES {
-        let mut input = bytes_of(rt.alloc(), text)?;
-        for at in *first..*end {
-            let outcome = changed(rt.alloc(), &mut input, at, *bits)?;
-            assert!(rt; outcome == *wanted, "byte {at} changed by {bits}");
-        }
+    for changes in [CHANGES, SIZED_CHANGES] {
+        let wrong = first_wrong(rt.alloc(), changes)?;
+        assert!(rt; wrong.is_none(), "{wrong:?}");
     }
     Ok(())
 }
 
 /// A text, what is behind it, where that begins, and what it is read as.
-const LOGS: &[(&str, &str, usize, Outcome)] = &[
+type Log = (&'static str, &'static str, usize, Outcome);
+
+const LOGS: &[Log] = &[
     ("", "", 0, Outcome::Unfinished),
     (OF_48, "", 48, Outcome::Unfinished),
     (OF_4144, "5843503100", 4144, Outcome::Unfinished),
@@ -321,17 +344,23 @@ const LOGS: &[(&str, &str, usize, Outcome)] = &[
     ),
 ];
 
+/// Whether a log begins with a text of so many bytes, if any, and what is behind it is read so.
+fn is_log(alloc: Global, (text, behind, len, outcome): &Log) -> Result<bool, Fail> {
+    let mut log = bytes_of(alloc, text)?;
+    log.extend_from_slice(&bytes_of(alloc, behind)?)?;
+    let first = read_outcome(alloc, &log)?;
+    let rest = log.get(*len..).ok_or("bytes behind a text")?;
+    let then = read_outcome(alloc, rest)?;
+    Ok((*len == 0 || first == Outcome::Text(*len)) && then == *outcome)
+}
+
 /// Logs of several texts: how many are whole, and what is behind them.
 #[test]
 fn logs(rt: HostRuntime) -> Result<(), Fail> {
-    for (text, behind, len, outcome) in LOGS {
-        let mut log = bytes_of(rt.alloc(), text)?;
-        log.extend_from_slice(&bytes_of(rt.alloc(), behind)?)?;
-        let first = read_outcome(rt.alloc(), &log)?;
-        let rest = log.get(*len..).ok_or("bytes behind a text")?;
-        let then = read_outcome(rt.alloc(), rest)?;
-        assert!(rt; *len == 0 || first == Outcome::Text(*len));
-        assert!(rt; then == *outcome, "{text} {behind}");
+    for logs in [LOGS, SIZED_LOGS] {
+        for log in logs {
+            assert!(rt; is_log(rt.alloc(), log)?, "{log:?}");
+        }
     }
     Ok(())
 }
@@ -410,11 +439,11 @@ fn items_with(
 }
 
 /// The pieces of checkpoint 1, one by one.
-fn one_by_one(alloc: Global, items: &[Item]) -> Result<Vec<Bytes>, Fail>
+fn one_by_one(alloc: Global, size: Option<u32>, items: &[Item]) -> Result<Vec<Bytes>, Fail>
     requires few { length items.now ≤ 64 }
     requires form { All HasForm items.now }
 {
-    let mut writer = PieceWriter::new(CkptNo(1), items.len() as u32);
+    let mut writer = PieceWriter::new(CkptNo(1), size, items.len() as u32);
     let mut pieces = Vec::new(alloc);
     while let Some(piece) = writer.next(alloc, items)? {
         pieces.push(piece)?;
@@ -439,25 +468,39 @@ fn are_cut(pieces: &[Bytes], text: &[u8]) -> bool {
     rest.is_empty()
 }
 
-/// Blocks with their chunks and bytes, the text of them, and how many pieces it has.
-type Written = ((u64, u64, u64), u32, &'static str, &'static str, usize);
+/// The size of a block where it is said, blocks with their chunks and bytes, the text of them, and how many pieces it has.
+type Written = (
+    Option<u32>,
+    (u64, u64, u64),
+    u32,
+    &'static str,
+    &'static str,
+    usize,
+);
 
 const WRITTEN: &[Written] = &[
-    ((7, 8, 8), 0xffff_ffff, "aa*4096", OF_4144, 2),
-    ((7, 8, 8), 0x2, "00*2.0102.00*124", OF_176, 1),
-    ((0, 28, 30), 0x1, "11*128", OF_4096, 1),
-    ((0, 30, 30), 0x3, "00*127.2222.00*127", OF_8192, 2),
+    (None, (7, 8, 8), 0xffff_ffff, "aa*4096", OF_4144, 2),
+    (None, (7, 8, 8), 0x2, "00*2.0102.00*124", OF_176, 1),
+    (None, (0, 28, 30), 0x1, "11*128", OF_4096, 1),
+    (None, (0, 30, 30), 0x3, "00*127.2222.00*127", OF_8192, 2),
+    (Some(512), (7, 8, 8), 0x2, "00*2.0102.00*124", OF_180, 1),
+    (Some(4096), (0, 1, 1), 0xffff_ffff, "aa*4096", OF_4148, 2),
 ];
 
 /// How many pieces are given of items, where they are the text.
-fn count_of_text(alloc: Global, items: &[Item], spelled: &str) -> Result<usize, Fail>
+fn count_of_text(
+    alloc: Global,
+    size: Option<u32>,
+    items: &[Item],
+    spelled: &str,
+) -> Result<usize, Fail>
     requires { All HasForm items.now }
 {
     let text = bytes_of(alloc, spelled)?;
     if items.len() > 64 {
         return Err("at most 64 items".into());
     }
-    let pieces = one_by_one(alloc, items)?;
+    let pieces = one_by_one(alloc, size, items)?;
     if !are_cut(&pieces, &text) {
         return Err("the text, cut every 4,096 bytes".into());
     }
@@ -466,10 +509,10 @@ fn count_of_text(alloc: Global, items: &[Item], spelled: &str) -> Result<usize, 
 
 #[test]
 fn pieces_written(rt: HostRuntime) -> Result<(), Fail> {
-    for (blocks, map, spelled, text, count) in WRITTEN {
+    for (size, blocks, map, spelled, text, count) in WRITTEN {
         let items = items_with(rt.alloc(), *blocks, *map, spelled)?;
         assert!(rt;
-            count_of_text(rt.alloc(), &items, text)? == *count,
+            count_of_text(rt.alloc(), *size, &items, text)? == *count,
             "{text}"
         );
     }
@@ -502,7 +545,7 @@ fn piece_refused(rt: HostRuntime) -> Result<(), Errno> {
         return Ok(());
     };
     let items = [item];
-    let mut writer = PieceWriter::new(CkptNo(1), 1);
+    let mut writer = PieceWriter::new(CkptNo(1), None, 1);
     for len in [Some(4096), Some(48), None] {
         assert!(rt; len_of_next(&mut writer, rt.alloc(), &items)? == len);
     }

@@ -1,16 +1,16 @@
 -- A log that is gathered text by text.
-use Rattle.std.proofs.Common.{append_assoc, ◌≡◌, ◌∙◌, ◌+◌, ◌∷◌, ◌++◌, All, List, None, Option, Some, [], ap, append-nil, arith, false, length, refl, subst, suc, sym, true≢false, ℕ}
+use Rattle.std.proofs.Common.{append_assoc, ◌≡◌, ◌∙◌, ◌+◌, ◌∷◌, ◌++◌, All, List, None, Option, Some, [], ap, append-nil, arith, false, inl, inr, length, refl, subst, suc, sym, true≢false, ℕ}
 use Rattle.std.proofs.lemmas.List.{take-append-drop, drop-drop, length-append, length-take-le}
-use Rattle.std.specs.Prelude.{IfSome, drop, take}
+use Rattle.std.specs.Prelude.{IfSome, drop, is_some, take, true}
 use Rattle.xt_ckpt.specs.Fields.{IsUnfinished}
-use Rattle.xt_ckpt.specs.Grammar.{AreItems, Entry, IsItem, IsText, entries, entry}
+use Rattle.xt_ckpt.specs.Grammar.{AreItems, Entry, IsItem, IsText, IsTextIn, entries, entry}
 use Rattle.xt_ckpt.specs.Items.{HasForm}
 use Rattle.xt_ckpt.specs.declared.item.Item.{Item}
 use Rattle.std.specs.List.{AllByRecursion}
 use Rattle.std.proofs.lemmas.List.Elements.{All-from_recursion}
 use Rattle.xt_recover.proofs.LaidLemmas.{read_entry}
-use Rattle.xt_recover.specs.Reading.{AreTexts, ReadsAs}
-use Rattle.xt_recover.specs.Gathering.{IsGathered, IsTextLaid, IsWhyLog, is_broken}
+use Rattle.xt_recover.specs.Reading.{AreTexts, BeginsSized, IsStoppedAt, ReadsAs}
+use Rattle.xt_recover.specs.Gathering.{IsGathered, IsTextLaid, IsWhyLog, has_offset}
 use Rattle.xt_recover.specs.declared.gather.LogCounts.{LogCounts}
 use Rattle.xt_recover.specs.declared.gather.LogFault.{LogFault}
 use Rattle.xt_ckpt.specs.declared.reading.Checkpoint.{Checkpoint}
@@ -71,22 +71,22 @@ so_far_end log at counts old now new so rest ends same = record {
 }
 
 -- ---- items as they are read
-form_item : (here : List ℕ) (item : Item) → IsItem here (entry item) → HasForm item
-form_item here item is = (read_entry here (entry item) is).form
+form_item : (size : Option ℕ) (here : List ℕ) (item : Item) → IsItem size here (entry item) → HasForm item
+form_item size here item is = (read_entry size here (entry item) is).form
 
-forms_of : (least : ℕ) (bytes : List ℕ) (items : List Item) → AreItems least bytes (entries items) → AllByRecursion HasForm items
-forms_of least bytes [] h = tt
-forms_of least bytes (i ∷ is) h = (form_item h.0 i h.4, forms_of (suc i.block) h.1 is h.5)
+forms_of : (size : Option ℕ) (least : ℕ) (bytes : List ℕ) (items : List Item) → AreItems size least bytes (entries items) → AllByRecursion HasForm items
+forms_of size least bytes [] h = tt
+forms_of size least bytes (i ∷ is) h = (form_item size h.0 i h.4, forms_of size (suc i.block) h.1 is h.5)
 
 -- the items of a text have their form
-items_form : (text : List ℕ) (number : ℕ) (items : List Item) → IsText text number (entries items) → All HasForm items
-items_form text number items is = All-from_recursion HasForm items (forms_of 0 is.body items is.each)
+items_form : (size : Option ℕ) (text : List ℕ) (number : ℕ) (items : List Item) → IsTextIn size text number (entries items) → All HasForm items
+items_form size text number items is = All-from_recursion HasForm items (forms_of size 0 is.body items is.each)
 
 -- and so have those of a text that was found
 pub formed_found : (found : Found) (c : Checkpoint) → found ≡ Found.Text c → IsOfGrammar found → All HasForm c.items.items
 formed_found found c is read =
     let one : IsOfGrammar (Found.Text c) = subst IsOfGrammar is read in
-    items_form one.0 c.no c.items.items one.1
+    items_form c.size one.0 c.no c.items.items one.1
 
 -- ---- a log that is read piece by piece
 -- the texts in front of what is held were gathered
@@ -107,19 +107,26 @@ rest_of : (log : List ℕ) (h : Held) (left : Option (List ℕ)) (count : ℕ) (
 rest_of log h left count old now P s is = subst (λ o. IfSome o P) s.same is
 
 -- one more text is laid
-more_of : (log : List ℕ) (h past : Held) (left has : Option (List ℕ)) (count : ℕ) (old now new : Overlaid) (c : Checkpoint) → Stands log h left count old now → IsAhead h (drop h.offset log) (Found.Text c) past has → new ≡ with_items (entries c.items.items) now → Stands log past has (count + 1) old new
-more_of log h past left has count old now new c s (size, (begins, (place, same))) laid =
-    let one : IsTextLaid size (drop h.offset log) now new = record { within = begins.0; number = c.no; items = entries c.items.items; text = begins.1; laid = laid } in
+more_of : (log : List ℕ) (h past : Held) (left has : Option (List ℕ)) (count : ℕ) (old now new : Overlaid) (c : Checkpoint) → Stands log h left count old now → IsAhead h (drop h.offset log) (Found.Text c) past has → c.size ≡ None → new ≡ with_items (entries c.items.items) now
+    → Stands log past has (count + 1) old new
+more_of log h past left has count old now new c s (size, (begins, (place, same))) plain laid =
+    let text : IsText (take size (drop h.offset log)) c.no (entries c.items.items) = subst (λ o. IsTextIn o (take size (drop h.offset log)) c.no (entries c.items.items)) plain begins.1 in
+    let one : IsTextLaid size (drop h.offset log) now new = record { within = begins.0; number = c.no; items = entries c.items.items; text = text; laid = laid } in
     record {
       so = subst (λ n. IsSoFar log n (count + 1) old new) (sym place) (so_far_more log h.offset count size old now new s.so one);
       same = same ∙ ap Some (drop-drop size h.offset log ∙ ap (λ n. drop n log) (sym place));
     }
 
+-- no size is said
+pub none_said : (size : Option ℕ) → is_some size ≡ false → size ≡ None
+none_said None none = refl
+none_said (Some n) none = absurd (true≢false none)
+
 pub stands_more : (had : Option (List ℕ)) (h past : Held) (left has : Option (List ℕ)) (count : ℕ) (old now new : Overlaid) (found : Found) (c : Checkpoint) → found ≡ Found.Text c → IfSome had (λ log. Stands log h left count old now) → IfSome (ahead h left) (λ log. IsAhead h log found past has)
-    → new ≡ with_items (entries c.items.items) now → IfSome had (λ log. Stands log past has (count + 1) old new)
-stands_more None h past left has count old now new found c is s next laid = tt
-stands_more (Some log) h past left has count old now new found c is s next laid =
-    more_of log h past left has count old now new c s (subst (λ f. IsAhead h (drop h.offset log) f past has) is (rest_of log h left count old now (λ t. IsAhead h t found past has) s next)) laid
+    → c.size ≡ None → new ≡ with_items (entries c.items.items) now → IfSome had (λ log. Stands log past has (count + 1) old new)
+stands_more None h past left has count old now new found c is s next plain laid = tt
+stands_more (Some log) h past left has count old now new found c is s next plain laid =
+    more_of log h past left has count old now new c s (subst (λ f. IsAhead h (drop h.offset log) f past has) is (rest_of log h left count old now (λ t. IsAhead h t found past has) s next)) plain laid
 
 -- the log ends behind its texts
 pub gathered_rest : (had : Option (List ℕ)) (h past : Held) (left has : Option (List ℕ)) (count : ℕ) (old now : Overlaid) (found : Found) (rest : ℕ) → found ≡ Found.Rest rest → IfSome had (λ log. Stands log h left count old now) → IfSome (ahead h left) (λ log. IsAhead h log found past has)
@@ -146,9 +153,42 @@ why_broken (Some log) h past left has count old now found offset is s next =
       place = ends.1.1.0 ∙ ap (λ n. n + ends.0) (sym s.so.size);
     }
 
+-- a text says the size of a block
+sized_begins : (size : Option ℕ) (input : List ℕ) (len number : ℕ) (items : List Entry) → is_some size ≡ true → IsTextIn size (take len input) number items → BeginsSized input
+sized_begins None input len number items sized is = absurd (true≢false (sym sized))
+sized_begins (Some size) input len number items sized is = (size, take len input, drop len input, number, items, is, sym (take-append-drop len input))
+
+why_of : (log : List ℕ) (h past : Held) (left has : Option (List ℕ)) (count : ℕ) (old now : Overlaid) (c : Checkpoint) (offset : ℕ) → Stands log h left count old now → IsAhead h (drop h.offset log) (Found.Text c) past has → is_some c.size ≡ true → offset ≡ h.offset
+    → IsWhyLog log (LogFault.Sized offset)
+why_of log h past left has count old now c offset s (len, (begins, goes)) sized at = record {
+  texts = s.so.done;
+  front = s.so.front;
+  behind = drop h.offset log;
+  parts = s.so.parts;
+  whole = s.so.whole;
+  sized = sized_begins c.size (drop h.offset log) len c.no (entries c.items.items) sized begins.1;
+  place = at ∙ sym s.so.size;
+}
+
+pub why_sized : (had : Option (List ℕ)) (h past : Held) (left has : Option (List ℕ)) (count : ℕ) (old now : Overlaid) (found : Found) (c : Checkpoint) (offset : ℕ) → found ≡ Found.Text c → IfSome had (λ log. Stands log h left count old now)
+    → IfSome (ahead h left) (λ log. IsAhead h log found past has) → is_some c.size ≡ true → offset ≡ h.offset → IfSome had (λ log. IsWhyLog log (LogFault.Sized offset))
+why_sized None h past left has count old now found c offset is s next sized at = tt
+why_sized (Some log) h past left has count old now found c offset is s next sized at =
+    why_of log h past left has count old now c offset s (subst (λ f. IsAhead h (drop h.offset log) f past has) is (rest_of log h left count old now (λ t. IsAhead h t found past has) s next)) sized at
+
 -- another fault
-pub why_other : (had : Option (List ℕ)) (fault : LogFault) → is_broken fault ≡ false → IfSome had (λ log. IsWhyLog log fault)
+pub why_other : (had : Option (List ℕ)) (fault : LogFault) → has_offset fault ≡ false → IfSome had (λ log. IsWhyLog log fault)
 why_other None fault other = tt
 why_other (Some log) (LogFault.Broken offset) other = absurd (true≢false other)
+why_other (Some log) (LogFault.Sized offset) other = absurd (true≢false other)
 why_other (Some log) LogFault.Memory other = tt
 why_other (Some log) LogFault.Read other = tt
+
+-- ---- where recovery stops, whatever the reason
+pub broken_stops : (had : Option (List ℕ)) (offset : ℕ) → IfSome had (λ log. IsWhyLog log (LogFault.Broken offset)) → IfSome had (IsStoppedAt offset)
+broken_stops None offset why = tt
+broken_stops (Some log) offset why = inl why
+
+pub sized_stops : (had : Option (List ℕ)) (offset : ℕ) → IfSome had (λ log. IsWhyLog log (LogFault.Sized offset)) → IfSome had (IsStoppedAt offset)
+sized_stops None offset why = tt
+sized_stops (Some log) offset why = inr why

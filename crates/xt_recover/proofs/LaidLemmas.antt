@@ -308,24 +308,24 @@ items_say n (e ∷ es) l b k rise all h less =
 
 -- ---- a text of the grammar
 -- what is read of an item
-pub read_entry : (here : List ℕ) (e : Entry) → IsItem here e → IsEntry e
-read_entry here e (inl cancel) =
+pub read_entry : (size : Option ℕ) (here : List ℕ) (e : Entry) → IsItem size here e → IsEntry e
+read_entry size here e (inl cancel) =
     let none = cancel.chunks in
     record {
       once = subst HasNoTwice (sym none) tt;
       small = λ c there. absurd (false≢true (sym (ap (λ xs. has xs c) none) ∙ there));
       form = ap length cancel.content ∙ ap (λ (xs : List ℕ). 128 * length xs) (sym none);
     }
-read_entry here e (inr logged) =
+read_entry size here e (inr logged) =
     let set : e.chunks ≡ filter (λ k. bit_at logged.bits k == 1) (below 32) = logged.chunks ∙ places_are logged.bits in
     let both = no_twice_below (λ k. bit_at logged.bits k == 1) 32 in
     record { once = subst HasNoTwice (sym set) both.0; small = λ c there. both.1 c (sym (ap (λ xs. has xs c) set) ∙ there); form = logged.content }
 
-read_entries : (n : ℕ) (bytes : List ℕ) (es : List Entry) → AreItems n bytes es → BlocksRise n es × AreEntries es
+read_entries : (n : ℕ) (bytes : List ℕ) (es : List Entry) → AreItems None n bytes es → BlocksRise n es × AreEntries es
 read_entries n bytes [] h = (tt, tt)
 read_entries n bytes (e ∷ es) h =
     let rest = read_entries (suc e.block) h.1 es h.5 in
-    ((h.3, rest.0), (read_entry h.0 e h.4, rest.1))
+    ((h.3, rest.0), (read_entry None h.0 e h.4, rest.1))
 
 -- ---- a log
 -- what is gathered of texts that are read gives what they give

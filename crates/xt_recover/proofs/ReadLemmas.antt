@@ -1,24 +1,25 @@
 -- What is read of the bytes of a log.
 use mathlib.Core.List.{reverse_aux}
-use Rattle.std.proofs.Common.{append_assoc, ◌≡◌, ◌∙◌, ◌*◌, ◌^◌, ◌+◌, ◌≤◌, ◌∷◌, ◌++◌, List, Some, [], ap, arith, inl, inr, length, map, refl, subst, suc, sym, true, ℕ}
+use Rattle.std.proofs.Common.{append_assoc, ◌≡◌, ◌∙◌, ◌*◌, ◌^◌, ◌+◌, ◌≤◌, ◌∷◌, ◌++◌, List, None, Some, [], ap, arith, inl, inr, length, map, refl, subst, suc, sym, true, ℕ}
 use Rattle.std.proofs.lemmas.Bool.{cases_Bool, eq-eqb, leb-false, leb-true, or_left, or_right}
 use Rattle.std.proofs.lemmas.List.{drop-append-le, length-append, length-map, take-append-drop, take-append-le}
 use Rattle.std.proofs.lemmas.List.Concat.{flat_map-cons}
 use Rattle.std.proofs.Math.Seq.{drop-append_seam}
 use Rattle.std.specs.Int.{to_be_bytes, w32, w64}
 use Rattle.std.specs.List.{flat_map}
-use Rattle.std.specs.Prelude.{codes, drop, nat_le, take, ◌<◌, ◌==◌}
+use Rattle.std.specs.Prelude.{drop, nat_le, take, ◌<◌, ◌==◌}
 use Rattle.xt_base.proofs.RisingLemmas.{each_map}
 use Rattle.xt_base.specs.ChunkWords.{word_back}
 use Rattle.xt_base.specs.Chunks.{places_of, word_of}
 use Rattle.xt_base.specs.Maps.{at, has}
 use Rattle.xt_base.specs.Sound.{Each, RisesFrom}
 use Rattle.xt_base.specs.Text.{chunk, chunk_bytes, item_text}
+use Rattle.xt_ckpt.proofs.Lengths.{text_parts}
 use Rattle.xt_ckpt.proofs.OneText.{same_text, unfinished_none}
 use Rattle.xt_ckpt.proofs.TextReads.{text_reads}
 use Rattle.xt_ckpt.proofs.Written.{item_is}
 use Rattle.xt_ckpt.specs.Fields.{Draft, IsUnfinished, Reads, opening, width}
-use Rattle.xt_ckpt.specs.Grammar.{AreItems, Entry, IsItem, IsText}
+use Rattle.xt_ckpt.specs.Grammar.{AreItems, Entry, IsItem, IsText, end_of, head_of}
 use Rattle.xt_ckpt.specs.Laws.{whole}
 use Rattle.xt_recover.proofs.TextEntries.{entries_of}
 use Rattle.xt_recover.proofs.SaidLemmas.{length_chunk, set_small}
@@ -38,14 +39,15 @@ length_bytes content (c ∷ cs) whole_ small =
     ap length (flat_map-cons (chunk content) c cs) ∙ length-append (chunk content c) (chunk_bytes content cs) ∙ omega (arith, one, rest)
 
 -- an item that fits its fields
-fit_item : (contents : ℕ → List ℕ) (b : ℕ) (set : List ℕ) → FitsFields b set → length (contents b) ≡ 4096 → IsItem (item_text b set (chunk_bytes (contents b) set)) (record { block = b; chunks = set; content = chunk_bytes (contents b) set })
+fit_item : (contents : ℕ → List ℕ) (b : ℕ) (set : List ℕ) → FitsFields b set → length (contents b) ≡ 4096 → IsItem None (item_text b set (chunk_bytes (contents b) set)) (record { block = b; chunks = set; content = chunk_bytes (contents b) set })
 fit_item contents b set fit whole_ =
     let is : IsChunkSet set = fit.1 in
     let word : word_of set ≡ is.0 = ap word_of is.2 ∙ word_back is.0 is.1 in
-    item_is b set (chunk_bytes (contents b) set) fit.0 (subst (λ (n : ℕ). n < 2 ^ 32) (sym word) is.1) (ap places_of word ∙ sym is.2) (length_bytes (contents b) set whole_ (λ c there. set_small set c is there))
+    let small : word_of set < 2 ^ 32 = subst (λ (n : ℕ). n < 2 ^ 32) (sym word) is.1 in
+    item_is None b set (chunk_bytes (contents b) set) fit.0 small (ap places_of word ∙ sym is.2) (length_bytes (contents b) set whole_ (λ c there. set_small set c is there)) small
 
 items_are : (contents : ℕ → List ℕ) (least : ℕ) (items : List (ℕ × List ℕ)) → ((b : ℕ) → length (contents b) ≡ 4096) → RisesFrom least items → Each (λ e. FitsFields e.0 e.1) items
-    → AreItems least (flat_map (λ e. item_text e.0 e.1 (chunk_bytes (contents e.0) e.1)) items) (map (λ e. record { block = e.0; chunks = e.1; content = chunk_bytes (contents e.0) e.1 }) items)
+    → AreItems None least (flat_map (λ e. item_text e.0 e.1 (chunk_bytes (contents e.0) e.1)) items) (map (λ e. record { block = e.0; chunks = e.1; content = chunk_bytes (contents e.0) e.1 }) items)
 items_are contents least [] whole_ rises fit = refl
 items_are contents least (e ∷ es) whole_ rises fit = (
   item_text e.0 e.1 (chunk_bytes (contents e.0) e.1),
@@ -65,13 +67,14 @@ is_text w p =
     let some = p.some in
     let few = p.few in
     record {
+      sized = refl;
       first = p.first;
       range = p.range;
       some = omega (arith, count, some);
       few = omega (arith, count, few);
       body = body;
       each = items_are w.contents 0 w.items p.whole p.rising fit;
-      fields = ap (λ n. codes "XCP1" ++ to_be_bytes w64 w.number ++ to_be_bytes w32 n ++ body ++ codes "XCE1" ++ to_be_bytes w32 n ++ to_be_bytes w64 w.number) (sym count);
+      fields = text_parts None w.number (length w.items) body ∙ ap (λ n. head_of None w.number n ++ body ++ end_of None ++ to_be_bytes w32 n ++ to_be_bytes w64 w.number) (sym count);
     }
 
 -- ---- a beginning of a text
@@ -114,8 +117,8 @@ reads_cut d last bytes front more (Reads.field e mid l field rest len goes way) 
 -- a beginning of a text that is not all of it is no text yet
 pub beginning_unfinished : (text front more : List ℕ) (number : ℕ) (items : List Entry) → IsText text number items → text ≡ front ++ more → 0 < length more → IsUnfinished front
 beginning_unfinished text front more number items is same some =
-    let way = text_reads text number items is in
-    let cut = reads_cut opening (whole number items way.0) text front more way.1 same some in
+    let way = text_reads None text number items is in
+    let cut = reads_cut opening (whole None number items way.0) text front more way.1 same some in
     record { draft = cut.draft; front = cut.read; rest = cut.rest; parts = cut.parts; reads = cut.reads; short = cut.short }
 
 pub nothing_unfinished : IsUnfinished []
@@ -125,12 +128,12 @@ nothing_unfinished = record { draft = opening; front = []; rest = []; parts = re
 -- a log is read in one way
 pub read_once : (bytes : List ℕ) (ts us : List (List Entry)) → ReadsAs bytes ts → ReadsAs bytes us → ts ≡ us
 read_once bytes [] [] ht hu = refl
-read_once bytes [] (u ∷ us) ht hu = absurd (unfinished_none bytes ht hu.0 hu.1 hu.2 u hu.3 hu.4)
-read_once bytes (t ∷ ts) [] ht hu = absurd (unfinished_none bytes hu ht.0 ht.1 ht.2 t ht.3 ht.4)
+read_once bytes [] (u ∷ us) ht hu = absurd (unfinished_none bytes ht None hu.0 hu.1 hu.2 u hu.3 hu.4)
+read_once bytes (t ∷ ts) [] ht hu = absurd (unfinished_none bytes hu None ht.0 ht.1 ht.2 t ht.3 ht.4)
 read_once bytes (t ∷ ts) (u ∷ us) ht hu =
-    let same = same_text ht.0 hu.0 ht.1 hu.1 ht.2 hu.2 t u ht.3 hu.3 (sym ht.4 ∙ hu.4) in
+    let same = same_text None None ht.0 hu.0 ht.1 hu.1 ht.2 hu.2 t u ht.3 hu.3 (sym ht.4 ∙ hu.4) in
     let behind : ht.1 ≡ hu.1 = sym (drop-append_seam ht.0 ht.1) ∙ ap (drop (length ht.0)) (sym ht.4 ∙ hu.4) ∙ ap (λ xs. drop (length xs) (hu.0 ++ hu.1)) same.0 ∙ drop-append_seam hu.0 hu.1 in
-    ap (λ x. x ∷ ts) same.2 ∙ ap (λ xs. u ∷ xs) (read_once ht.1 ts us ht.5 (subst (λ xs. ReadsAs xs us) (sym behind) hu.5))
+    ap (λ x. x ∷ ts) same.3 ∙ ap (λ xs. u ∷ xs) (read_once ht.1 ts us ht.5 (subst (λ xs. ReadsAs xs us) (sym behind) hu.5))
 
 -- the texts of a log are read before what is behind them
 pub reads_log : (log : List CheckpointText) (bytes : List ℕ) (ts : List (List Entry)) → Each IsWellFormed log → ReadsAs bytes ts → ReadsAs (bytes_of_log log ++ bytes) (reverse_aux (map entries_of log) ts)

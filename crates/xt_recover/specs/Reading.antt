@@ -1,9 +1,9 @@
 -- What is read of the bytes of a log.
-use Rattle.std.specs.Prelude.{List, [], length, ℕ, ◌++◌, ◌+◌, ◌∷◌, ◌≡◌}
+use Rattle.std.specs.Prelude.{List, Some, [], length, ℕ, ◌++◌, ◌+◌, ◌∷◌, ◌≡◌, ◌⊎◌}
 use Rattle.xt_ckpt.specs.Fields.{IsFaultAt, IsUnfinished}
-use Rattle.xt_ckpt.specs.Grammar.{Entry, IsText}
+use Rattle.xt_ckpt.specs.Grammar.{Entry, IsText, IsTextIn}
 
--- a log is read as these texts, the oldest first, and an unfinished end, empty where it ends with a text
+-- a log is read as these texts, the oldest first, none of which says the size of a block, and an unfinished end, empty where it ends with a text
 abbrev pub ReadsAs : List ℕ → List (List Entry) → Type 0
 ReadsAs bytes [] = IsUnfinished bytes
 ReadsAs bytes (t ∷ ts) = (text more : List ℕ) × (number : ℕ) × IsText text number t × (bytes ≡ text ++ more) × ReadsAs more ts
@@ -32,3 +32,21 @@ pub record IsBrokenAt (offset : ℕ) (log : List ℕ) : Type 0 where
   pub inside : ℕ
   pub broken : IsFaultAt inside behind
   pub place : offset ≡ length front + inside
+
+-- a text that says the size of a block begins the bytes
+abbrev pub BeginsSized : List ℕ → Type 0
+BeginsSized bytes = (size : ℕ) × (text more : List ℕ) × (number : ℕ) × (items : List Entry) × IsTextIn (Some size) text number items × (bytes ≡ text ++ more)
+
+-- a log is some texts that say no size, and behind them one that says it begins at this offset of the log
+pub record IsSizedAt (offset : ℕ) (log : List ℕ) : Type 0 where
+  pub texts : List (List Entry)
+  pub front : List ℕ
+  pub behind : List ℕ
+  pub parts : log ≡ front ++ behind
+  pub whole : AreTexts front texts
+  pub sized : BeginsSized behind
+  pub place : offset ≡ length front
+
+-- the first place at which a log is none that is recovered
+abbrev pub IsStoppedAt : ℕ → List ℕ → Type 0
+IsStoppedAt offset log = IsBrokenAt offset log ⊎ IsSizedAt offset log

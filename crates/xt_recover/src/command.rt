@@ -2,7 +2,7 @@
 
 ghost use Rattle.std.specs.Prelude.{◌≡◌, ◌⊎◌, ℕ, IfErr, IfOk, IfSome, MatchResult, OnOk, Bool, false, true};
 ghost use Rattle.std.specs.Io.KnownBytes.{Appends};
-ghost use Rattle.xt_recover.specs.Reading.{IsBrokenAt};
+ghost use Rattle.xt_recover.specs.Reading.{IsStoppedAt};
 ghost use Rattle.xt_recover.specs.Recovering.{IsCounted, IsWhy, TellsRecovered, is_home_fault};
 ghost use Rattle.xt_recover.specs.declared.recovering.Recovered.{Recovered as ARecovered};
 ghost use Rattle.xt_recover.specs.Command.{IfStopped, IsCommandStatus, IsOutcomePrinted, fault_line, recovered_lines, rest_lines};
@@ -80,8 +80,9 @@ fn empty_log<C: Emptied>(
 }
 
 /// Recovers a home device from a log, which is emptied after that where it is asked, and prints what was recovered. Answers the exit status:
-/// 0; 3 after `fault OFFSET` of a log with a field that breaks its rule, and then the home device and the log are as they were; 1 after another
-/// fault, which is printed on `err`.
+/// 0; 3 after `fault OFFSET` of a log with a field that breaks its rule, or with a text that says the size of a block, and then the home device and
+/// the log are as they were; 1 after another fault, which is printed on `err`.
+#[tactic(auto, using(crate::proofs::GatherLemmas::broken_stops, crate::proofs::GatherLemmas::sized_stops))]
 pub fn run<L: Read, C: Emptied, H: HomeDevice, W: Write, E: Write>(
     alloc: Global,
     reader: &mut L,
@@ -95,7 +96,7 @@ pub fn run<L: Read, C: Emptied, H: HomeDevice, W: Write, E: Write>(
     ensures recovered { result ≡ 0 → IfSome (L.remaining reader.old) (λ bytes. TellsRecovered bytes (H.home_tells home.old) (H.home_taken home.old) (H.home_tells home.new) (H.home_taken home.new)) }
     ensures printed { result ≡ 0 → (found : ARecovered) × Appends (W.contents writer.old) (W.contents writer.new) (recovered_lines found) × IfSome (L.remaining reader.old) (λ bytes. IsCounted bytes found) }
     ensures emptied { result ≡ 0 → is_cut ≡ true → C.is_emptied log.new ≡ true }
-    ensures broken { result ≡ 3 → (offset : ℕ) × Appends (W.contents writer.old) (W.contents writer.new) (fault_line offset) × IfSome (L.remaining reader.old) (IsBrokenAt offset) }
+    ensures broken { result ≡ 3 → (offset : ℕ) × Appends (W.contents writer.old) (W.contents writer.new) (fault_line offset) × IfSome (L.remaining reader.old) (IsStoppedAt offset) }
     ensures untouched { result ≡ 3 → (home.new ≡ home.old) × (log.new ≡ log.old) }
     ensures safe { (log.new ≡ log.old) ⊎ IfSome (L.remaining reader.old) (λ bytes. TellsRecovered bytes (H.home_tells home.old) (H.home_taken home.old) (H.home_tells home.new) (H.home_taken home.new)) }
     ensures uncut { is_cut ≡ false → log.new ≡ log.old }
@@ -115,7 +116,10 @@ fn print_end<W: Write, E: Write>(
     match end {
         Ok(recovered) => status_printed(err, print_recovered(writer, recovered), 0),
         Err(CommandFault::Recover(RecoverFault::Log(LogFault::Broken(offset)))) => {
-            status_printed(err, print_broken(writer, *offset), 3)
+            status_printed(err, print_stopped(writer, *offset), 3)
+        }
+        Err(CommandFault::Recover(RecoverFault::Log(LogFault::Sized(start)))) => {
+            status_printed(err, print_stopped(writer, *start), 3)
         }
         Err(fault) => {
             let _ = writeln!(err, "fault: {fault}");
@@ -161,8 +165,8 @@ fn print_rest<W: Write>(writer: &mut W, rest: u64) -> io::Result<()>
     writeln!(writer, "rest {rest}")
 }
 
-/// Prints where a field breaks its rule, counted in the log from 0.
-fn print_broken<W: Write>(writer: &mut W, offset: u64) -> io::Result<()>
+/// Prints where a field breaks its rule, or a text that says the size of a block begins, counted in the log from 0.
+fn print_stopped<W: Write>(writer: &mut W, offset: u64) -> io::Result<()>
     ensures { OnOk result (Appends (W.contents writer.old) (W.contents writer.new) (fault_line offset)) }
 {
     writeln!(writer, "fault {offset}")?;

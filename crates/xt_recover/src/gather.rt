@@ -3,7 +3,7 @@
 ghost use Rattle.std.specs.Prelude.{◌≡◌, ◌<◌, All, IfErr, IfOk, IfSome, OnOk, false, length};
 ghost use Rattle.xt_ckpt.specs.Grammar.{entries};
 ghost use Rattle.xt_ckpt.specs.Items.{HasForm};
-ghost use Rattle.xt_recover.specs.Gathering.{is_broken, IsGathered, IsWhyLog};
+ghost use Rattle.xt_recover.specs.Gathering.{has_offset, IsGathered, IsWhyLog};
 ghost use Rattle.xt_recover.specs.Overlaid.{overlaid, with_items};
 ghost use Rattle.xt_recover.specs.declared.gather.LogFault.TheVariants.{Memory};
 
@@ -21,6 +21,9 @@ pub enum LogFault {
     /// The field at this offset of the log breaks its rule. No crash leaves such a log.
     #[error("fault {0}")]
     Broken(u64),
+    /// The text that begins at this offset of the log says the size of a block. A home device of such blocks is not recovered.
+    #[error("fault {0}")]
+    Sized(u64),
     /// Memory was refused.
     #[error("out of memory")]
     Memory,
@@ -36,7 +39,7 @@ pub struct LogCounts {
     pub rest: u64,
 }
 
-/// Gathers the texts of a log, from the first on, up to bytes that are no text yet, as a crash leaves them.
+/// Gathers the texts of a log, from the first on, up to bytes that are no text yet, as a crash leaves them. None may say the size of a block.
 pub(crate) fn gather<L: Read>(
     alloc: Global,
     log: &mut L,
@@ -66,8 +69,12 @@ fn gather_by_pieces<L: Read>(
     let mut window = Window::new(alloc, u64::MAX);
     let mut rooms = Rooms::new(alloc);
     for texts in 0..u64::MAX {
+        let offset = window.offset();
         match window.next(log, piece, &mut rooms) {
             Ok(Found::Text(checkpoint)) => {
+                if checkpoint.size.is_some() {
+                    return Err(LogFault::Sized(offset));
+                }
                 lay_text(overlay, &checkpoint)?;
                 rooms.give_back(checkpoint);
             }
@@ -81,7 +88,7 @@ fn gather_by_pieces<L: Read>(
 
 /// Why a window read no further. A log of 2^64 bytes, which nothing has, counts as one that cannot be read.
 fn why_unread(fault: &WindowFault) -> LogFault
-    ensures { is_broken result ≡ false }
+    ensures { has_offset result ≡ false }
 {
     match fault {
         WindowFault::TooLong | WindowFault::Io(_) => LogFault::Read,

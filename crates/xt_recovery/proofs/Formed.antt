@@ -1,5 +1,5 @@
 -- What makes the texts of a mount texts of the grammar: their numbers, blocks and sets of chunks fit the fields.
-use Rattle.std.proofs.Common.{List, Some, length, true, ◌<◌, ◌^◌, ◌≡◌, ◌≤◌, ℕ}
+use Rattle.std.proofs.Common.{List, Some, false, length, true, ◌<◌, ◌^◌, ◌≡◌, ◌≤◌, ℕ}
 use Rattle.xt_base.specs.Chunks.{places_of}
 use Rattle.xt_base.specs.Maps.{at, is_in}
 use Rattle.xt_base.specs.Sound.{IsRising}
@@ -32,8 +32,9 @@ pub record IsFlightOfText (d : Disks) (f : Flight) : Type 0 where
   pub proper : IsWellFormed (flight_text f d)
   pub pieces : f.pieces ≡ pieces (text_bytes (flight_text f d))
 
--- the blocks of a mount and the items of its commit list fit the fields of a text, and so does its flight
+-- the blocks of a mount and the items of its commit list fit the fields of a text that does not say the size of a block, and so does its flight
 pub record FitsTexts (d : Disks) (s : State) : Type 0 where
+  pub plain : s.form.sized ≡ false
   pub blocks : s.blocks < 2 ^ 64
   pub owners : (b : ℕ) → is_in b s.owners ≡ true → b < 2 ^ 64
   pub items : (b : ℕ) (set : List ℕ) → at b s.items.cil ≡ Some set → FitsFields b set

@@ -2,19 +2,21 @@
 use Rattle.std.proofs.Common.{◌≡◌, ◌∙◌, ◌^◌, ◌∷◌, Bool, List, None, Option, Some, [], ap, arith, false, inl, inr, length, refl, subst, sym, true, ℕ}
 use Rattle.std.proofs.lemmas.Bool.{and_parts, false≢true, ltb-false, not-true, or_parts}
 use Rattle.std.proofs.lemmas.List.{length-replicate}
-use Rattle.std.specs.Prelude.{if◌then◌else◌, is_none, is_some, nat_le, nat_lt, not, unwrap_or, ◌&&◌, ◌<◌, ◌==◌, ◌||◌}
+use Rattle.std.specs.Prelude.{flat_map, if◌then◌else◌, is_none, is_some, nat_le, nat_lt, not, unwrap_or, ◌&&◌, ◌<◌, ◌==◌, ◌||◌}
 use Rattle.xt_base.proofs.BusyLemmas.{few_committed}
 use Rattle.xt_base.proofs.KeyLemmas.{is_in_filter}
 use Rattle.xt_base.proofs.MapLemmas.{some_none, some_same}
 use Rattle.xt_base.proofs.SoundSteps.{is_none_not, passes_first, second_false}
+use Rattle.xt_base.proofs.TextLemmas.{plain_text}
 use Rattle.xt_base.specs.Alone.{after, alone, call, called, goes_on, is_okay, mount_refusals, mounted_new, on_mount, shown, turn, unless_refused, with_mount}
 use Rattle.xt_base.specs.Calls.{Outcome, alone_with, first_of, gives, is_unmount}
 use Rattle.xt_base.specs.Jobs.{begin, begun, end, end_of, end_offers, failed, finished, fits_pieces, fits_plan, flight_pieces, flown, flush, flush_offers, flush_plan, flushed, is_begun, is_ckpt, is_ok, is_outstanding, is_owed_as, is_serial, is_waiting, job, landed, next_pieces, posted, unflushed, waits_on}
+use Rattle.xt_base.specs.Form.{Form}
 use Rattle.xt_base.specs.Maps.{at, is_in}
 use Rattle.xt_base.specs.Order.{mount_is, suits}
 use Rattle.xt_base.specs.Sound.{Each, IsSound}
 use Rattle.xt_base.specs.State.{Flight, Jobs, Lone, State}
-use Rattle.xt_base.specs.Text.{pieces, zeros}
+use Rattle.xt_base.specs.Text.{chunk_bytes, item_text, pieces, zeros}
 use Rattle.xt_base.specs.declared.names.JobKind.{JobKind}
 use Rattle.xt_base.specs.declared.names.JobName.{JobName}
 use Rattle.xt_base.specs.declared.sizes.TheConstants.{LEAST_LOG, MOST_BLOCKS, MOST_LOG}
@@ -48,8 +50,9 @@ pub record SlotIsWellFormed (d : Disks) (s : Lone) : Type 0 where
   pub texts : Each IsWellFormed d.log
 
 -- other devices, with the same text in flight
-fits_disks : (d e : Disks) (m n : State) → e.snapshot ≡ d.snapshot → n.blocks ≡ m.blocks → n.owners ≡ m.owners → n.items.cil ≡ m.items.cil → n.items.flight ≡ m.items.flight → FitsTexts d m → FitsTexts e n
-fits_disks d e m n flew blocks owners cil flight h = record {
+fits_disks : (d e : Disks) (m n : State) → e.snapshot ≡ d.snapshot → n.form ≡ m.form → n.blocks ≡ m.blocks → n.owners ≡ m.owners → n.items.cil ≡ m.items.cil → n.items.flight ≡ m.items.flight → FitsTexts d m → FitsTexts e n
+fits_disks d e m n flew form blocks owners cil flight h = record {
+  plain = ap (λ (f : Form). f.sized) form ∙ h.plain;
   blocks = subst (λ (x : ℕ). x < 2 ^ 64) (sym blocks) h.blocks;
   owners = λ b there. h.owners b (ap (is_in b) (sym owners) ∙ there);
   items = λ b set there. h.items b set (ap (at b) (sym cil) ∙ there);
@@ -80,16 +83,19 @@ text_proper d m out none sound own p =
 formed_flown : (ps : List (List ℕ)) (d : Disks) (m : State) → IsWellFormed (record { number = m.items.open_number; items = m.items.cil; contents = content_of m }) → ps ≡ next_pieces m → FitsTexts d m → FitsTexts (disks_begun m d) (flown ps m)
 formed_flown ps d m text cut p =
     let g : Flight = record { number = m.items.open_number; items = m.items.cil; pieces = ps } in
+    let body : List ℕ = flat_map (λ e. item_text e.0 e.1 (chunk_bytes (content_of m e.0) e.1)) m.items.cil in
+    let cut_plain : ps ≡ pieces (text_bytes (flight_text g (disks_begun m d))) = cut ∙ ap pieces (plain_text m.form m.items.open_number (length m.items.cil) body p.plain) in
     record {
+      plain = p.plain;
       blocks = p.blocks;
       owners = p.owners;
       items = λ b set there. absurd (cc);
-      flight = λ f flies. subst (λ (x : Flight). IsFlightOfText (disks_begun m d) x) (some_same g f flies) (record { proper = text; pieces = cut });
+      flight = λ f flies. subst (λ (x : Flight). IsFlightOfText (disks_begun m d) x) (some_same g f flies) (record { proper = text; pieces = cut_plain });
     }
 
 begun_if : (shut : Bool) (d : Disks) (m : State) → is_some m.shut ≡ shut → is_some m.jobs.ckpt ≡ true → is_none m.items.flight ≡ true → IsSound m → KeepsInvariant d m → FitsTexts d m
     → FitsTexts (if shut then d else disks_begun m d) (if shut then gives Nothing (finished JobKind.Ckpt m) else begun (next_pieces m) m).state
-begun_if true d m is out none sound c p = fits_disks d d m (finished JobKind.Ckpt m) refl refl refl refl refl p
+begun_if true d m is out none sound c p = fits_disks d d m (finished JobKind.Ckpt m) refl refl refl refl refl refl p
 begun_if false d m is out none sound c p = let l = c.live (is_none_not m.shut is) in formed_flown (next_pieces m) d m (text_proper d m out none sound l.own p) refl p
 
 begun_texts : (shut : Bool) (d : Disks) (m : State) → Each IsWellFormed d.log → Each IsWellFormed (if shut then d else disks_begun m d).log
@@ -116,12 +122,13 @@ formed_begin name (Some m) d s ckpt fits holds p all =
 -- ---- end
 ended_if : (ok : Bool) (d : Disks) (m : State) (f : Flight) → m.items.flight ≡ Some f → FitsTexts d m → FitsTexts (if ok then disks_landed f d else disks_failed f d) (if ok then gives (Landed f.number) (landed [] f m) else gives (Failed f.number) (failed [] m)).state
 ended_if true d m f flies p = record {
+  plain = p.plain;
   blocks = p.blocks;
   owners = λ b there. p.owners b (is_in_filter b (λ e. not (waits_on f.number e.1)) m.owners there);
   items = p.items;
   flight = λ g now. some_none g (IsFlightOfText (disks_landed f d) g) (sym now);
 }
-ended_if false d m f flies p = record { blocks = p.blocks; owners = p.owners; items = p.items; flight = λ g now. some_none g (IsFlightOfText (disks_failed f d) g) (sym now) }
+ended_if false d m f flies p = record { plain = p.plain; blocks = p.blocks; owners = p.owners; items = p.items; flight = λ g now. some_none g (IsFlightOfText (disks_failed f d) g) (sym now) }
 
 ended_texts : (ok : Bool) (d : Disks) (f : Flight) → IsWellFormed (flight_text f d) → Each IsWellFormed d.log → Each IsWellFormed (if ok then disks_landed f d else disks_failed f d).log
 ended_texts true d f text all = (text, all)
@@ -146,8 +153,8 @@ mount_there test (Some m) h = refl
 
 -- ---- flush
 flush_if : (none : Bool) (answers : HomeAnswers) (d : Disks) (m : State) (home : Image) → FitsTexts d m → FitsTexts (record d { home = home }) (if none then gives Nothing (unflushed m) else flushed [] (flush_plan m) answers m).state
-flush_if true answers d m home p = fits_disks d (record d { home = home }) m _ refl refl refl refl refl p
-flush_if false answers d m home p = fits_disks d (record d { home = home }) m _ refl refl refl refl refl p
+flush_if true answers d m home p = fits_disks d (record d { home = home }) m _ refl refl refl refl refl refl p
+flush_if false answers d m home p = fits_disks d (record d { home = home }) m _ refl refl refl refl refl refl p
 
 formed_flush : (answers : HomeAnswers) (o : Option State) (d : Disks) (s : Lone) (home : Image) → mount_is (λ m. true) o ≡ true → MountFitsTexts d o → Each IsWellFormed d.log
     → SlotIsWellFormed (record d { home = home }) (on_mount o s (λ m. goes_on (flush [] answers m) [] (flush_offers answers m) s)).slot
@@ -166,7 +173,7 @@ blocks_small log_bytes blocks s passes =
 formed_mounted : (slot log_bytes blocks : ℕ) (o : Option Errno) (d : Disks) (s : Lone) (home : Image) → (None ≡ o → blocks < 2 ^ 64) → SlotIsWellFormed d s
     → SlotIsWellFormed (if is_none o then new_disks home else d) (unless_refused o s (mounted_new slot log_bytes blocks s)).slot
 formed_mounted slot log_bytes blocks None d s home small h = record {
-  mount = record { blocks = small refl; owners = λ b there. absurd (false≢true there); items = λ b set there. absurd (cc); flight = λ f now. absurd (cc) };
+  mount = record { plain = refl; blocks = small refl; owners = λ b there. absurd (false≢true there); items = λ b set there. absurd (cc); flight = λ f now. absurd (cc) };
   texts = tt;
 }
 formed_mounted slot log_bytes blocks (Some e) d s home small h = h
@@ -185,7 +192,7 @@ formed_called life request answer (Some m) d s is holds p h = call_if (m.life ==
 
 formed_post : (name : JobName) (o : Option State) (d : Disks) (s : Lone) → mount_is (λ m. true) o ≡ true → MountFitsTexts d o → Each IsWellFormed d.log → SlotIsWellFormed d (on_mount o s (λ m. turn Okay (with_mount (posted name.kind m) s))).slot
 formed_post name None d s there p all = absurd (false≢true there)
-formed_post name (Some m) d s there p all = record { mount = fits_disks d d m (posted name.kind m) refl refl refl refl refl p; texts = all }
+formed_post name (Some m) d s there p all = record { mount = fits_disks d d m (posted name.kind m) refl refl refl refl refl refl p; texts = all }
 
 formed_shown : (o : Option State) (d : Disks) (s : Lone) → s.mounted ≡ o → SlotIsWellFormed d s → SlotIsWellFormed d (shown o s)
 formed_shown None d s is h = h
@@ -223,7 +230,7 @@ formed_cut (Some m) d e s is (inl same) h = subst (λ (y : Disks). SlotIsWellFor
 formed_cut (Some m) d e s is (inr cut) h =
     let c : Disks = record d { log = texts_from cut.0 d.log } in
     let p : FitsTexts d m = subst (MountFitsTexts d) is h.mount in
-    subst (λ (y : Disks). SlotIsWellFormed y s) (sym cut.3) (record { mount = subst (MountFitsTexts c) (sym is) (fits_disks d c m m refl refl refl refl refl p); texts = each_from cut.0 d.log h.texts })
+    subst (λ (y : Disks). SlotIsWellFormed y s) (sym cut.3) (record { mount = subst (MountFitsTexts c) (sym is) (fits_disks d c m m refl refl refl refl refl refl p); texts = each_from cut.0 d.log h.texts })
 
 -- both, over steps one after another
 pub moves_proper : (xs : List Step) (s : Lone) (d e : Disks) → AreSuitedSteps xs s d e → SlotKeepsInvariant d s → SlotIsWellFormed d s → SlotIsWellFormed e (after xs s)

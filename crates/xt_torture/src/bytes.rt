@@ -25,33 +25,85 @@ struct Entry {
     map: u32,
 }
 
-/// The items of the texts that are tried: one chunk; a whole block; cancels beside chunks.
-const TEXTS: [&[Entry]; 3] = [
-    &[Entry { block: 7, map: 2 }],
-    &[Entry {
-        block: 7,
-        map: u32::MAX,
-    }],
-    &[
-        Entry { block: 0, map: 0 },
-        Entry {
-            block: 9,
-            map: 0x8000_0001,
-        },
-        Entry {
-            block: 1 << 40,
-            map: 0,
-        },
-    ],
+/// The texts that are tried: the size of a block, where they say it, and their items. One chunk; a whole block; cancels beside chunks; and
+/// the same of smaller blocks.
+const TEXTS: [(Option<u32>, &[Entry]); 6] = [
+    (None, &[Entry { block: 7, map: 2 }]),
+    (
+        None,
+        &[Entry {
+            block: 7,
+            map: u32::MAX,
+        }],
+    ),
+    (
+        None,
+        &[
+            Entry { block: 0, map: 0 },
+            Entry {
+                block: 9,
+                map: 0x8000_0001,
+            },
+            Entry {
+                block: 1 << 40,
+                map: 0,
+            },
+        ],
+    ),
+    (Some(512), &[Entry { block: 7, map: 2 }]),
+    (
+        Some(1024),
+        &[
+            Entry { block: 0, map: 0 },
+            Entry {
+                block: 9,
+                map: 0x81,
+            },
+        ],
+    ),
+    (
+        Some(2048),
+        &[Entry {
+            block: 7,
+            map: 0xffff,
+        }],
+    ),
 ];
 
+/// Puts what stands before the items of a text.
+fn put_front(
+    text: &mut Vec<u8>,
+    number: u64,
+    count: u32,
+    size: Option<u32>,
+) -> Result<(), AllocError> {
+    text.extend_from_slice(if size.is_some() { b"XCP2" } else { b"XCP1" })?;
+    text.extend_from_slice(&number.to_be_bytes())?;
+    text.extend_from_slice(&count.to_be_bytes())?;
+    if let Some(size) = size {
+        text.extend_from_slice(&size.to_be_bytes())?;
+    }
+    Ok(())
+}
+
+/// Puts what stands behind them.
+fn put_end(
+    text: &mut Vec<u8>,
+    number: u64,
+    count: u32,
+    size: Option<u32>,
+) -> Result<(), AllocError> {
+    text.extend_from_slice(if size.is_some() { b"XCE2" } else { b"XCE1" })?;
+    text.extend_from_slice(&count.to_be_bytes())?;
+    text.extend_from_slice(&number.to_be_bytes())?;
+    Ok(())
+}
+
 /// The text of checkpoint 1 with these items.
-fn text_of(alloc: Global, items: &[Entry]) -> Result<Vec<u8>, AllocError> {
+fn text_of(alloc: Global, size: Option<u32>, items: &[Entry]) -> Result<Vec<u8>, AllocError> {
     let mut text = Vec::new(alloc);
     let count = u32::try_from(items.len()).unwrap_or(0);
-    text.extend_from_slice(b"XCP1")?;
-    text.extend_from_slice(&1u64.to_be_bytes())?;
-    text.extend_from_slice(&count.to_be_bytes())?;
+    put_front(&mut text, 1, count, size)?;
     for item in items {
         let flag = u32::from(item.map == 0);
         text.extend_from_slice(&item.block.to_be_bytes())?;
@@ -63,9 +115,7 @@ fn text_of(alloc: Global, items: &[Entry]) -> Result<Vec<u8>, AllocError> {
             }
         }
     }
-    text.extend_from_slice(b"XCE1")?;
-    text.extend_from_slice(&count.to_be_bytes())?;
-    text.extend_from_slice(&1u64.to_be_bytes())?;
+    put_end(&mut text, 1, count, size)?;
     Ok(text)
 }
 
@@ -73,9 +123,7 @@ fn text_of(alloc: Global, items: &[Entry]) -> Result<Vec<u8>, AllocError> {
 fn written(alloc: Global, checkpoint: &Checkpoint) -> Result<Vec<u8>, AllocError> {
     let mut text = Vec::new(alloc);
     let count = u32::try_from(checkpoint.items.len()).unwrap_or(0);
-    text.extend_from_slice(b"XCP1")?;
-    text.extend_from_slice(&checkpoint.no.0.to_be_bytes())?;
-    text.extend_from_slice(&count.to_be_bytes())?;
+    put_front(&mut text, checkpoint.no.0, count, checkpoint.size)?;
     for item in &checkpoint.items {
         let map = item.chunks.word();
         let flag = u32::from(map == 0);
@@ -84,9 +132,7 @@ fn written(alloc: Global, checkpoint: &Checkpoint) -> Result<Vec<u8>, AllocError
         text.extend_from_slice(&flag.to_be_bytes())?;
         text.extend_from_slice(&item.content)?;
     }
-    text.extend_from_slice(b"XCE1")?;
-    text.extend_from_slice(&count.to_be_bytes())?;
-    text.extend_from_slice(&checkpoint.no.0.to_be_bytes())?;
+    put_end(&mut text, checkpoint.no.0, count, checkpoint.size)?;
     Ok(text)
 }
 
@@ -157,8 +203,8 @@ impl Tried {
 /// Tries each text cut at each length, and with each byte changed to so many other values.
 pub fn try_bytes(alloc: Global, values: u8) -> Result<Tried, AllocError> {
     let mut tried = Tried::default();
-    for items in TEXTS {
-        let mut text = text_of(alloc, items)?;
+    for (size, items) in TEXTS {
+        let mut text = text_of(alloc, size, items)?;
         tried.read_cut(alloc, &text)?;
         tried.read_changed(alloc, &mut text, values)?;
     }

@@ -16,6 +16,11 @@ const START: u64 = 0x5843_5031;
 
 const END: u64 = 0x5843_4531;
 
+/// The same of a text that says the size of a block, `XCP2` and `XCE2`.
+const SIZED_START: u64 = 0x5843_5032;
+
+const SIZED_END: u64 = 0x5843_4532;
+
 /// A field: where it begins, and its number.
 #[derive(Clone, Copy)]
 struct Field {
@@ -62,15 +67,28 @@ impl<'a> Walk<'a> {
         Ok(Field { at, value })
     }
 
-    /// An item behind one of this block, if there is one before it: its block.
-    fn item(&mut self, last: Option<u64>) -> Result<u64, Judged> {
+    /// The size of a block: how many chunks it has.
+    fn chunks(&mut self) -> Result<u32, Judged> {
+        let size = self.field(4)?;
+        let is_one = matches!(size.value, 512 | 1024 | 2048 | 4096);
+        match size.obeys(is_one)? {
+            512 => Ok(4),
+            1024 => Ok(8),
+            2048 => Ok(16),
+            _ => Ok(32),
+        }
+    }
+
+    /// An item behind one of this block, if there is one before it, where a block has so many chunks: its block.
+    fn item(&mut self, last: Option<u64>, chunks: u32) -> Result<u64, Judged> {
         let field = self.field(8)?;
         let rises = match last {
             Some(last) => last < field.value,
             None => true,
         };
         let block = field.obeys(rises)?;
-        let map = self.field(4)?.value;
+        let map = self.field(4)?;
+        let map = map.obeys(map.value < 1 << chunks.min(32))?;
         self.field(4)?.is(if map == 0 { 1 } else { 0 })?;
         for chunk in 0..32u32 {
             if map >> chunk & 1 == 1 {
@@ -82,16 +100,19 @@ impl<'a> Walk<'a> {
 
     /// A whole text.
     fn text(&mut self) -> Result<(), Judged> {
-        self.field(4)?.is(START)?;
+        let start = self.field(4)?;
+        let is_sized = start.value == SIZED_START;
+        start.obeys(is_sized || start.value == START)?;
         let number = self.field(8)?;
         let number = number.obeys(number.value >= 1)?;
         let count = self.field(4)?;
         let count = count.obeys(count.value >= 1 && count.value <= 64)?;
+        let chunks = if is_sized { self.chunks()? } else { 32 };
         let mut last = None;
         for _ in 0..count {
-            last = Some(self.item(last)?);
+            last = Some(self.item(last, chunks)?);
         }
-        self.field(4)?.is(END)?;
+        self.field(4)?.is(if is_sized { SIZED_END } else { END })?;
         self.field(4)?.is(count)?;
         self.field(8)?.is(number)?;
         Ok(())

@@ -4,7 +4,7 @@ use Rattle.std.proofs.lemmas.List.{drop-append-le, length-append, take-append-le
 use Rattle.std.specs.Io.KnownBytes.{Keeps}
 use Rattle.std.specs.Prelude.{IfSome}
 use Rattle.xt_ckpt.specs.Fields.{IsFaultAt, IsUnfinished}
-use Rattle.xt_ckpt.specs.Grammar.{IsText, entries}
+use Rattle.xt_ckpt.specs.Grammar.{IsTextIn, entries}
 use Rattle.xt_ckpt.specs.Reading.{Begins}
 use Rattle.xt_ckpt.specs.declared.reading.Checkpoint.{Checkpoint}
 use Rattle.xt_window.specs.Window.{ahead, is_too_long, unread, Held, IsAhead, IsNext, IsOfGrammar, IsRefilled, IsTied, IsWhy}
@@ -16,7 +16,7 @@ use Rattle.xt_window.specs.declared.window.Found.{Found}
 -- a text that begins a front begins the whole
 text_of_front : (front more : List ℕ) (c : Checkpoint) (size : ℕ) → Begins front c size → Begins (front ++ more) c size
 text_of_front front more c size begins =
-    (omega (arith, begins.0, length-append front more), subst (λ t. IsText t c.no (entries c.items.items)) (sym (take-append-le size front more begins.0)) begins.1)
+    (omega (arith, begins.0, length-append front more), subst (λ t. IsTextIn c.size t c.no (entries c.items.items)) (sym (take-append-le size front more begins.0)) begins.1)
 
 -- a field that breaks its rule in a front breaks it in the whole
 fault_of_front : (front more : List ℕ) (at : ℕ) → IsFaultAt at front → IsFaultAt at (front ++ more)

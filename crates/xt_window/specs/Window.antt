@@ -2,7 +2,7 @@
 use Rattle.std.specs.Io.KnownBytes.{IsAtEnd, Keeps, prepend_known}
 use Rattle.std.specs.Prelude.{Bool, List, None, Option, Some, [], drop, false, length, true, ℕ, ◌+◌, ◌++◌, ◌<◌, ◌≡◌, ◌≤◌}
 use Rattle.xt_ckpt.specs.Fields.{IsFaultAt, IsUnfinished}
-use Rattle.xt_ckpt.specs.Grammar.{IsText, entries}
+use Rattle.xt_ckpt.specs.Grammar.{IsTextIn, entries}
 use Rattle.xt_ckpt.specs.Reading.{Begins}
 use Rattle.xt_window.specs.declared.fault.LogFault.{LogFault}
 use Rattle.xt_window.specs.declared.fault.LogFault.TheVariants.{TooLong}
@@ -29,7 +29,7 @@ with_more more h = record h { bytes = h.bytes ++ more }
 
 -- a text that was found is one of the grammar
 abbrev pub IsOfGrammar : Found → Type 0
-IsOfGrammar (Found.Text c) = (text : List ℕ) × IsText text c.no (entries c.items.items)
+IsOfGrammar (Found.Text c) = (text : List ℕ) × IsTextIn c.size text c.no (entries c.items.items)
 IsOfGrammar other = Unit {0}
 
 -- what is held begins with a text, which is taken; or it is the unfinished end of the log; or a field breaks its rule; or more is to be read

@@ -12,8 +12,8 @@ use xt_ckpt::{Checkpoint, ReadFault, Rooms, read_checkpoint_into};
 /// How many bytes are read at once.
 pub const PIECE_BYTES: usize = 65_536;
 
-/// The most bytes of a text: of 64 whole blocks.
-const TEXT_BYTES: usize = 263_200;
+/// The most bytes of a text: of 64 whole blocks, where it says their size.
+const TEXT_BYTES: usize = 263_204;
 
 /// What comes next in a log.
 #[derive(Debug, Drop)]
@@ -72,8 +72,8 @@ impl Window {
         &self.bytes[self.taken..]
     }
 
-    /// Their offset in the log.
-    fn offset(&self) -> u64
+    /// The offset in the log, in bytes, of what comes next: so many are taken.
+    pub fn offset(&self) -> u64
         ensures value { result ≡ self.now.offset }
         ensures bound { result + length self.now.bytes < 2 ^ 64 }
     {

@@ -38,4 +38,4 @@ pub returns : goal.returns
 returns c =
     let ends : c.fields.draft.next ≡ Field.Nothing = search rules in
     let whole = whole_at (seen c.fields.draft) c.args.input.now c.fields.at (λ i. omega (arith, c.type_inv.input i)) c.fields.invariant.reads ends in
-    (omega arith, begins (take c.fields.at c.args.input.now) c.fields.draft c.into_checkpoint.result c.into_checkpoint.ensures.number c.into_checkpoint.ensures.items whole)
+    (omega arith, begins (take c.fields.at c.args.input.now) c.fields.draft c.into_checkpoint.result c.into_checkpoint.ensures.size c.into_checkpoint.ensures.number c.into_checkpoint.ensures.items whole)

@@ -1,6 +1,6 @@
 use Rattle.std.proofs.Common.{rules, ◌≡◌, ◌++◌, ◌∷◌, [], arith, ap, ◌∙◌, length, min}
 use Rattle.xt_base.specs.Text.{pieces}
-use Rattle.xt_ckpt.specs.Items.{checkpoint_text}
+use Rattle.xt_ckpt.specs.Items.{checkpoint_text_in}
 use Rattle.xt_ckpt.specs.Pieces.{given_bytes, to_come}
 use Rattle.xt_ckpt.proofs.Pieces.{cut_more, some_rest}
 use Rattle.xt_ckpt.proofs.Written.{are_few, is_text}
@@ -18,7 +18,7 @@ loop-pieces-preserved c =
     let pushed : c.push.new.self.items ≡ c.loop-pieces.pieces.items ++ piece ∷ [] = search rules in
     record {
       of = c.in_ok-piece.ensures.same;
-      pieces = ap (λ ps. ps ++ pieces left) pushed ∙ cut_more c.loop-pieces.pieces.items rest piece left (pieces (checkpoint_text c.args.no items)) some parts size c.loop-pieces.invariant.pieces;
+      pieces = ap (λ ps. ps ++ pieces left) pushed ∙ cut_more c.loop-pieces.pieces.items rest piece left (pieces (checkpoint_text_in c.args.size c.args.no items)) some parts size c.loop-pieces.invariant.pieces;
     }
 
 pub loop-pieces-init : goal.loop-pieces-init
@@ -32,10 +32,10 @@ loop-pieces-init c =
 
 pub returns-clause-grammar : goal.returns-clause-grammar
 returns-clause-grammar c =
-    let cut : c.loop-pieces.pieces.items ≡ pieces (checkpoint_text c.args.no c.args.items.now) = search rules in
-    is_text c.args.no c.args.items.now c.loop-pieces.pieces.items cut c.requires.number (search rules) c.requires.count.0 c.requires.count.1 c.are_stored.ensures c.requires.form c.requires.rising
+    let cut : c.loop-pieces.pieces.items ≡ pieces (checkpoint_text_in c.args.size c.args.no c.args.items.now) = search rules in
+    is_text c.args.size c.args.no c.args.items.now c.loop-pieces.pieces.items cut c.requires.size c.requires.fits c.requires.number (search rules) c.requires.count.0 c.requires.count.1 c.are_stored.ensures c.requires.form c.requires.rising
 
 pub returns-clause-few : goal.returns-clause-few
 returns-clause-few c =
-    let cut : c.loop-pieces.pieces.items ≡ pieces (checkpoint_text c.args.no c.args.items.now) = search rules in
-    are_few c.args.no c.args.items.now c.loop-pieces.pieces.items cut (omega (arith, c.checkpoint_len.ensures.value, c.checkpoint_len.ensures.range)) c.requires.form
+    let cut : c.loop-pieces.pieces.items ≡ pieces (checkpoint_text_in c.args.size c.args.no c.args.items.now) = search rules in
+    are_few c.args.size c.args.no c.args.items.now c.loop-pieces.pieces.items cut (omega (arith, c.checkpoint_len.ensures.value, c.checkpoint_len.ensures.range)) c.requires.form

@@ -4,7 +4,7 @@ use Rattle.xt_ckpt.proofs.place.Place.fill.Given as goal
 
 abbrev pub invariant-loop-piece : goal.invariant-loop-piece
 invariant-loop-piece l = record {
-  lies : LiesIn l.items l.place;
+  lies : LiesIn l.ends l.items l.place;
   bytes : l.piece.items ++ from_place l.ends l.items l.place ≡ from_place l.ends l.items l.fn.self;
   room : length l.piece.items ≤ l.limit;
 }

@@ -1,6 +1,6 @@
 use Rattle.std.proofs.Common.{subst, arith}
 use Rattle.xt_ckpt.specs.Pieces.{IsPut, part_bytes}
-use Rattle.xt_ckpt.proofs.Places.{part_given, part_is}
+use Rattle.xt_ckpt.proofs.Places.{part_given, part_goes_on, part_is}
 use Rattle.xt_ckpt.proofs.place.Place.step.Goals as goal
 
 pub returns-in-Some-clause-lies : goal.returns-in-Some-clause-lies
@@ -18,3 +18,11 @@ returns-in-None-clause-bytes c =
     let part = c.args.self.part in
     let put = subst (IsPut (part_bytes ends items part) c.args.self.done c.args.limit c.args.out.now.items c.put.new.out.items) c.in-None.is c.in_ok-done.ensures in
     part_given ends items part c.next.result c.args.self.done c.args.out.now.items c.put.new.out.items c.requires.lies.part c.next.ensures put.0
+
+pub returns-in-Some-clause-bytes : goal.returns-in-Some-clause-bytes
+returns-in-Some-clause-bytes c =
+    let ends = c.args.ends.now in
+    let items = c.args.items.now in
+    let part = c.args.self.part in
+    let put = subst (IsPut (part_bytes ends items part) c.args.self.done c.args.limit c.args.out.now.items c.put.new.out.items) c.in-Some.is c.in_ok-done.ensures in
+    part_goes_on ends items part c.args.self.done c.in-Some.done c.args.out.now.items c.put.new.out.items put.0
