@@ -18,9 +18,9 @@ use Rattle.xt_window.specs.declared.window.Found.{Found}
 abbrev pub item_lines : List Item → List ℕ
 item_lines items = flat_map (λ i. ended (item_text i.block i.chunks i.content.items)) items
 
--- the lines of a checkpoint: its number with the count of its items, and each of them
+-- the lines of a checkpoint: its number with the count of its items, and the size of a block where its text says it; and each of the items
 abbrev pub checkpoint_lines : Checkpoint → List ℕ
-checkpoint_lines c = ended (head_text c.no (length c.items.items)) ++ item_lines c.items.items
+checkpoint_lines c = ended (head_text c.no (length c.items.items) c.size) ++ item_lines c.items.items
 
 -- how many bytes stand behind the last whole text; nothing where there is none
 abbrev pub rest_lines : ℕ → List ℕ

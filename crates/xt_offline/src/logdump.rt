@@ -153,7 +153,7 @@ fn print_found<W: Write>(writer: &mut W, text: &mut Text, found: &Found) -> io::
     }
 }
 
-/// Prints a checkpoint: its number with the count of its items, and a line for each of them.
+/// Prints a checkpoint: its number with the count of its items, and the size of a block where its text says it; and a line for each item.
 fn print_checkpoint<W: Write>(
     writer: &mut W,
     text: &mut Text,
@@ -167,17 +167,17 @@ fn print_checkpoint<W: Write>(
     print_items(writer, text, &checkpoint.items)
 }
 
-/// Prints the number of a checkpoint and the count of its items.
+/// Prints the number of a checkpoint and the count of its items, and the size of a block where its text says it.
 fn print_head_line<W: Write>(
     writer: &mut W,
     text: &mut Text,
     checkpoint: &Checkpoint,
 ) -> io::Result<()>
-    ensures all { OnOk result (Appends (W.contents writer.old) (W.contents writer.new) (ended (head_text checkpoint.now.no (length checkpoint.now.items.items)))) }
-    ensures part { Begins (W.contents writer.old) (W.contents writer.new) (ended (head_text checkpoint.now.no (length checkpoint.now.items.items))) }
+    ensures all { OnOk result (Appends (W.contents writer.old) (W.contents writer.new) (ended (head_text checkpoint.now.no (length checkpoint.now.items.items) checkpoint.now.size))) }
+    ensures part { Begins (W.contents writer.old) (W.contents writer.new) (ended (head_text checkpoint.now.no (length checkpoint.now.items.items) checkpoint.now.size)) }
 {
     text.clear();
-    print_head(checkpoint.no, checkpoint.items.len(), text);
+    print_head(checkpoint.no, checkpoint.items.len(), checkpoint.size, text);
     print_line(writer, text)
 }
 

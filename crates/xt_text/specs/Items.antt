@@ -2,14 +2,15 @@
 use Rattle.std.specs.Fmt.{decimal}
 use Rattle.std.specs.Int.{to_be_bytes, w32}
 use Rattle.std.specs.List.{flat_map}
-use Rattle.std.specs.Prelude.{List, codes, if◌then◌else◌, length, ℕ, ◌==◌}
+use Rattle.std.specs.Prelude.{List, None, Option, Some, codes, if◌then◌else◌, length, ℕ, ◌==◌}
 use Rattle.xt_base.specs.Chunks.{word_of}
 use Rattle.xt_text.specs.DataText.{hex, spelling}
 use Rattle.xt_text.specs.Lines.{ckpt_text, ◌␣◌}
 
--- the number of a checkpoint and the count of its items
-abbrev pub head_text : ℕ → ℕ → List ℕ
-head_text number count = ckpt_text number ␣ decimal count
+-- the number of a checkpoint and the count of its items, and the size of a block where its text says it
+abbrev pub head_text : ℕ → ℕ → Option ℕ → List ℕ
+head_text number count None = ckpt_text number ␣ decimal count
+head_text number count (Some size) = ckpt_text number ␣ decimal count ␣ decimal size
 
 -- a word of 32 bits as eight hexadecimal digits
 abbrev pub word_text : ℕ → List ℕ

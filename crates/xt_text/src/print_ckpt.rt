@@ -13,15 +13,19 @@ use xt_base::chunks::Chunks;
 use xt_base::names::{Block, CkptNo};
 use xt_base::sizes::DATA_BYTES;
 
-/// Puts the number of a checkpoint and the count of its items, with no newline in it or behind.
+/// Puts the number of a checkpoint and the count of its items, and the size of a block where its text says it, with no newline in
+/// it or behind.
 #[tactic(auto, using(crate::proofs::BufferLemmas::put_put))]
-pub fn print_head(number: CkptNo, count: usize, out: &mut Text)
-    ensures text { out.new ≡ put out.old (head_text number count) }
-    ensures short { length (head_text number count) ≤ 42 }
+pub fn print_head(number: CkptNo, count: usize, size: Option<u32>, out: &mut Text)
+    ensures text { out.new ≡ put out.old (head_text number count size) }
+    ensures short { length (head_text number count size) ≤ 63 }
 {
     out.push(b'c');
     put_number(out, number.0);
     then_number(out, count as u64);
+    if let Some(size) = size {
+        then_number(out, size as u64);
+    }
 }
 
 /// Puts a word as eight hexadecimal digits.
