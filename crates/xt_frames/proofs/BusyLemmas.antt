@@ -295,6 +295,11 @@ module _ (frames : Slab Frame) (es : Index) (i : ℕ) (copies new : List (ℕ ×
 pub copied_all : (frames : Slab Frame) (es : Index) (i : ℕ) (copies : List (ℕ × List ℕ)) → length es ≤ i → copies ++ committed_of (busy_of frames (drop i es)) ≡ committed_of (busy_of frames es) → copies ≡ committed_of (busy_of frames es)
 copied_all frames es i copies past so_far = sym (append-nil copies) ∙ ap (λ xs. copies ++ committed_of (busy_of frames xs)) (sym (drop_all i es past)) ∙ so_far
 
+-- the frame under a block's key is the block's
+pub was_at : (frames : Slab Frame) (es : Index) (now : List Frame) (b key : ℕ) (before : Frame) → AreTied frames es → busy_of frames es ≡ now → at b es ≡ Some key → get frames key ≡ Some before → at b now ≡ Some before.1
+was_at frames es now b key before tied seen there was =
+    sym (ap (at b) seen) ∙ sym (found_at frames es b (Some key) tied (sym there)) ∙ ap (option_map (λ (x : Frame). x.1)) was
+
 -- ---- one that is changed where it stands
 module _ (frames cleared next : Slab Frame) (es : Index) (now : List Frame) (b key : ℕ) (before : Frame) (frame : Framed) (tied : AreTied frames es) (seen : busy_of frames es ≡ now)
     (there : at b es ≡ Some key) (was : get frames key ≡ Some before) (gone : Updates frames cleared key None) (brought : Updates cleared next key (Some (b, frame))) where

@@ -1,9 +1,9 @@
 -- Contents, chunk by chunk.
-use Rattle.std.proofs.Common.{◌≡◌, ◌≢◌, ◌∙◌, ◌+◌, ◌*◌, ◌-◌, ◌<◌, ◌≤◌, ◌++◌, ◌∷◌, ◌⊎◌, Bool, List, Option, Some, [], ap, append-nil, append_assoc, arith, drop, false, if◌then◌else◌, inl, inr, length, length-append, not, refl, suc, sym, take, take-append-drop, true, zero, ℕ}
+use Rattle.std.proofs.Common.{◌≡◌, ◌≢◌, ◌∙◌, ◌+◌, ◌*◌, ◌-◌, ◌<◌, ◌≤◌, ◌++◌, ◌∷◌, ◌⊎◌, Bool, IfSome, List, None, Option, Some, [], ap, append-nil, append_assoc, arith, drop, false, if◌then◌else◌, inl, inr, length, length-append, min, not, refl, suc, sym, take, take-append-drop, true, zero, ℕ}
 use Rattle.std.proofs.Math.Seq.{drop-append-add, take-add, take-append_seam, take-length}
 use Rattle.std.proofs.lemmas.Bool.{cases_order, false≢true}
 use Rattle.std.proofs.lemmas.Bool.Decides.{nat_tests}
-use Rattle.std.proofs.lemmas.List.{drop-append-le, length-drop, length-take-le, take-append-le}
+use Rattle.std.proofs.lemmas.List.{drop-append-le, drop_all, length-drop, length-take, length-take-le, take-append-le, take_all}
 use Rattle.std.proofs.lemmas.List.Concat.{flat_map-append}
 use Rattle.std.specs.Prelude.{flat_map, nat_lt, ◌&&◌, ◌||◌}
 use Rattle.xt_base.proofs.ChunkCounts.{has-chunks_where}
@@ -31,8 +31,40 @@ first_flat (suc n) xs =
     ∙ sym (take-add (128 * n) 128 xs) ∙ ap (λ m. take m xs) more
 
 -- a content is its chunks
-pub whole_flat : (xs : List ℕ) → length xs ≡ 4096 → flat_map (chunk xs) (below 32) ≡ xs
-whole_flat xs whole = first_flat 32 xs ∙ ap (λ n. take n xs) (sym whole) ∙ take-length xs
+pub whole_flat : (xs : List ℕ) → length xs ≤ 4096 → flat_map (chunk xs) (below 32) ≡ xs
+whole_flat xs small = first_flat 32 xs ∙ take_all 4096 xs small
+
+-- ---- lengths
+-- one piece more
+flat_more : (n : ℕ) (f : ℕ → List ℕ) → length (flat_map f (below (suc n))) ≡ length (flat_map f (below n)) + length (f n)
+flat_more n f =
+    ap length (flat_map-append f (below n) (n ∷ [])) ∙ length-append (flat_map f (below n)) (flat_map f (n ∷ [])) ∙ ap (λ xs. length (flat_map f (below n)) + length xs) (append-nil (f n))
+
+-- pieces that are as long below n
+flat_length : (n : ℕ) (f g : ℕ → List ℕ) → ((k : ℕ) → length (f k) ≡ length (g k)) → length (flat_map f (below n)) ≡ length (flat_map g (below n))
+flat_length zero f g alike = refl
+flat_length (suc n) f g alike =
+    flat_more n f ∙ ap (λ m. m + length (f n)) (flat_length n f g alike) ∙ ap (λ m. length (flat_map g (below n)) + m) (alike n) ∙ sym (flat_more n g)
+
+-- contents that are as long have chunks that are as long
+chunk_length : (xs ys : List ℕ) (k : ℕ) → length xs ≡ length ys → length (chunk xs k) ≡ length (chunk ys k)
+chunk_length xs ys k alike =
+    length-take 128 (drop (128 * k) xs) ∙ ap (min 128) (length-drop (128 * k) xs ∙ ap (λ n. n - 128 * k) alike ∙ sym (length-drop (128 * k) ys)) ∙ sym (length-take 128 (drop (128 * k) ys))
+
+either_length : (b : Bool) (old now : List ℕ) → length old ≡ length now → length (if b then old else now) ≡ length now
+either_length true old now alike = alike
+either_length false old now alike = refl
+
+-- kept chunks that are put back change no length
+restored_length : (kept : Kept) (content : List ℕ) → length kept.bytes ≡ length content → length content ≤ 4096 → length (restored kept content) ≡ length content
+unfolding restored
+restored_length kept content alike small =
+    flat_length 32 (as_it_was kept content) (chunk content) (λ k. either_length (has kept.chunks k) (chunk kept.bytes k) (chunk content k) (chunk_length kept.bytes content k alike))
+    ∙ ap length (whole_flat content small)
+
+pub before_length : (o : Option Kept) (content : List ℕ) → IfSome o (λ k. length k.bytes ≡ length content) → length content ≤ 4096 → length (before_edits o content) ≡ length content
+before_length None content alike small = refl
+before_length (Some kept) content alike small = restored_length kept content alike small
 
 -- ---- one chunk
 -- in what stands in front
@@ -76,6 +108,11 @@ module _ (first : ℕ) (bytes old : List ℕ) (within : first + length bytes ≤
       ap (λ xs. chunk xs k) (append_assoc (take first old) bytes rest) ∙ chunk_back (take first old) (bytes ++ rest) k 0 (omega (arith, front, here))
       ∙ ap (λ n. take n (bytes ++ rest)) (sym whole) ∙ take-append_seam bytes rest
 
+-- written bytes change no length
+pub written_length : (first : ℕ) (bytes old : List ℕ) → first + length bytes ≤ length old → length (overwritten first bytes old) ≡ length old
+written_length first bytes old within =
+    omega (arith, within, length-append (take first old ++ bytes) (drop (first + length bytes) old), length-append (take first old) bytes, length-take-le first old (omega (arith, within)), length-drop (first + length bytes) old)
+
 -- chunks that are not touched lie apart
 pub untouched : (first n k : ℕ) → 0 < n → touches first n k ≡ false → (128 * k + 128 ≤ first) ⊎ (first + n ≤ 128 * k)
 untouched first n k some not_touched =
@@ -110,7 +147,7 @@ back_by : (s : Bool) (old now : List ℕ) → (if s && true then old else now) �
 back_by true old now = refl
 back_by false old now = refl
 
-pub put_back_is : (kept : Kept) (new now : List ℕ) → length new ≡ 4096 → ((k : ℕ) → k < 32 → chunk new k ≡ (if has kept.chunks k && true then chunk kept.bytes k else chunk now k)) → new ≡ restored kept now
+pub put_back_is : (kept : Kept) (new now : List ℕ) → length new ≤ 4096 → ((k : ℕ) → k < 32 → chunk new k ≡ (if has kept.chunks k && true then chunk kept.bytes k else chunk now k)) → new ≡ restored kept now
 unfolding restored
 put_back_is kept new now whole copied =
     sym (whole_flat new whole)
@@ -137,12 +174,12 @@ restored_written kept set bytes now first is within some =
     chunk_other first bytes now within k (untouched first (length bytes) k some apart)))
 
 -- ---- one chunk is copied
-module _ (k : ℕ) (to new piece : List ℕ) (fits : k < 32) (whole : length to ≡ 4096) (short : length piece ≡ 128) (is : new ≡ overwritten (128 * k) piece to) where
+module _ (k : ℕ) (to new piece : List ℕ) (fits : 128 * k + 128 ≤ length to) (short : length piece ≡ 128) (is : new ≡ overwritten (128 * k) piece to) where
   -- others stay
   pub copied_elsewhere : (j : ℕ) → j ≢ k → chunk new j ≡ chunk to j
   copied_elsewhere j other =
       ap (λ xs. chunk xs j) is
-      ∙ chunk_other (128 * k) piece to (omega (arith, fits, whole, short)) j
+      ∙ chunk_other (128 * k) piece to (omega (arith, fits, short)) j
       (elim (cases_order j k) [
         | inl same ↦ absurd (other same)
         | inr (inl less) ↦ inl (omega (arith, less))
@@ -150,7 +187,15 @@ module _ (k : ℕ) (to new piece : List ℕ) (fits : k < 32) (whole : length to 
       ])
 
   pub copied_there : chunk new k ≡ piece
-  copied_there = ap (λ xs. chunk xs k) is ∙ chunk_written (128 * k) piece to (omega (arith, fits, whole, short)) k refl short
+  copied_there = ap (λ xs. chunk xs k) is ∙ chunk_written (128 * k) piece to (omega (arith, fits, short)) k refl short
+
+-- behind a content there is no chunk
+pub chunk_past : (xs : List ℕ) (k : ℕ) → length xs ≤ 128 * k → chunk xs k ≡ []
+chunk_past xs k past = ap (take 128) (drop_all (128 * k) xs past)
+
+pub none_past : (wanted : Bool) (k : ℕ) (to from : List ℕ) → length to ≡ length from → length to ≤ 128 * k → chunk to k ≡ (if wanted then chunk from k else chunk to k)
+none_past true k to from alike past = chunk_past to k past ∙ sym (chunk_past from k (omega (arith, alike, past)))
+none_past false k to from alike past = refl
 
 -- the piece is the chunk
 abbrev pub piece_of : ℕ → List ℕ → List ℕ
@@ -159,17 +204,23 @@ piece_of k from = take (128 * k + 128 - 128 * k) (drop (128 * k) from)
 piece_is : (k : ℕ) (from : List ℕ) → piece_of k from ≡ chunk from k
 piece_is k from = let size : 128 * k + 128 - 128 * k ≡ 128 = omega arith in ap (λ n. take n (drop (128 * k) from)) size
 
-piece_whole : (k : ℕ) (from : List ℕ) → k < 32 → length from ≡ 4096 → length (piece_of k from) ≡ 128
-piece_whole k from fits whole = ap length (piece_is k from) ∙ length-take-le 128 (drop (128 * k) from) (omega (arith, fits, whole, length-drop (128 * k) from))
+piece_whole : (k : ℕ) (from : List ℕ) → 128 * k + 128 ≤ length from → length (piece_of k from) ≡ 128
+piece_whole k from fits = ap length (piece_is k from) ∙ length-take-le 128 (drop (128 * k) from) (omega (arith, fits, length-drop (128 * k) from))
 
-pub copied_here : (k : ℕ) (to new from : List ℕ) → k < 32 → length to ≡ 4096 → length from ≡ 4096 → new ≡ overwritten (128 * k) (piece_of k from) to → chunk new k ≡ chunk from k
-copied_here k to new from fits whole full is = copied_there k to new (piece_of k from) fits whole (piece_whole k from fits full) is ∙ piece_is k from
+-- a copied chunk is one of as many bytes
+pub copied_length : (k : ℕ) (to new from : List ℕ) → 128 * k + 128 ≤ length to → length to ≡ length from → new ≡ overwritten (128 * k) (piece_of k from) to → length new ≡ length to
+copied_length k to new from fits alike is =
+    let piece = piece_whole k from (omega (arith, fits, alike)) in
+    ap length is ∙ written_length (128 * k) (piece_of k from) to (omega (arith, fits, piece))
 
-pub kept_elsewhere : (k : ℕ) (to new from : List ℕ) → k < 32 → length to ≡ 4096 → length from ≡ 4096 → new ≡ overwritten (128 * k) (piece_of k from) to → (j : ℕ) → j ≢ k → chunk new j ≡ chunk to j
-kept_elsewhere k to new from fits whole full is = copied_elsewhere k to new (piece_of k from) fits whole (piece_whole k from fits full) is
+pub copied_here : (k : ℕ) (to new from : List ℕ) → 128 * k + 128 ≤ length to → length to ≡ length from → new ≡ overwritten (128 * k) (piece_of k from) to → chunk new k ≡ chunk from k
+copied_here k to new from fits alike is = copied_there k to new (piece_of k from) fits (piece_whole k from (omega (arith, fits, alike))) is ∙ piece_is k from
+
+pub kept_elsewhere : (k : ℕ) (to new from : List ℕ) → 128 * k + 128 ≤ length to → length to ≡ length from → new ≡ overwritten (128 * k) (piece_of k from) to → (j : ℕ) → j ≢ k → chunk new j ≡ chunk to j
+kept_elsewhere k to new from fits alike is = copied_elsewhere k to new (piece_of k from) fits (piece_whole k from (omega (arith, fits, alike))) is
 
 -- ---- where none is kept
-pub restored_none : (room content : List ℕ) → length content ≡ 4096 → restored (none_kept room) content ≡ content
+pub restored_none : (room content : List ℕ) → length content ≤ 4096 → restored (none_kept room) content ≡ content
 unfolding restored
 restored_none room content whole = whole_flat content whole
 
@@ -182,12 +233,24 @@ framed_kept kept more o edit content same is = ap (λ x. record { edit = edit; c
 pub framed_clean : (o : Option Kept) (content : List ℕ) → before_edits o content ≡ content → framed content o ≡ clean_of content
 framed_clean o content same = ap (λ x. record { edit = content; committed = x }) same
 
+-- what is kept is put back, and what is not is the same
+whole_by : (b : Bool) (old new : List ℕ) → (b ≡ false → new ≡ old) → (if b then old else new) ≡ old
+whole_by true old new same = refl
+whole_by false old new same = same refl
+
 -- all chunks of a content are kept, where none was
-pub restored_whole : (kept more : Kept) (content edit : List ℕ) → kept.chunks ≡ [] → more.chunks ≡ below 32 → more.bytes ≡ content → restored more edit ≡ restored kept content
+pub restored_whole : (kept more : Kept) (content edit : List ℕ) → kept.chunks ≡ [] → more.chunks ≡ marks 0 (length edit) → more.bytes ≡ content → length edit ≡ length content → 0 < length edit
+    → restored more edit ≡ restored kept content
 unfolding restored
-restored_whole kept more content edit none all is =
+restored_whole kept more content edit none all is alike some =
     flat_same 32 (as_it_was more edit) (as_it_was kept content)
     (λ k lt.
-    let there : nat_lt k 32 ≡ true = grind (arith, nat_tests) in
-    ap (λ b. if b then chunk more.bytes k else chunk edit k) (ap (λ cs. has cs k) all ∙ has-below 32 k ∙ there) ∙ ap (λ xs. chunk xs k) is
+    ap (λ cs. if has cs k then chunk more.bytes k else chunk edit k) all ∙ ap (λ xs. if has (marks 0 (length edit)) k then chunk xs k else chunk edit k) is
+    ∙ whole_by (has (marks 0 (length edit)) k) (chunk content k) (chunk edit k)
+    (λ out.
+    let apart : touches 0 (length edit) k ≡ false = sym (has-chunks_where (touches 0 (length edit)) k lt) ∙ out in
+    elim (untouched 0 (length edit) k some apart) [
+      | inl before ↦ absurd (omega (arith, before))
+      | inr past ↦ chunk_past edit k (omega (arith, past)) ∙ sym (chunk_past content k (omega (arith, past, alike)))
+    ])
     ∙ sym (ap (λ cs. if has cs k then chunk kept.bytes k else chunk content k) none))

@@ -6,9 +6,10 @@ use Rattle.std.proofs.lemmas.List.{nil_from_length}
 use Rattle.std.proofs.lemmas.Nat.{leading_length}
 use Rattle.std.proofs.lemmas.Nat.Bits.{bit_at-lt, bit_at-trailing_zeros, bit_at-zero, bit_at_above, bit_at_and, bit_at_not}
 use Rattle.std.specs.Int.{bit_at, bit_not, leading_zeros, trailing_zeros, w32}
-use Rattle.std.specs.Prelude.{bit_and, ◌&&◌, ◌==◌}
+use Rattle.std.specs.Prelude.{bit_and, ◌&&◌, ◌==◌, ◌||◌}
 use Rattle.xt_base.proofs.ChunkCounts.{has-chunks_where}
-use Rattle.xt_base.specs.Chunks.{below, chunks_where, marks, places_of, union}
+use Rattle.xt_base.proofs.ChunkLemmas.{alike}
+use Rattle.xt_base.specs.Chunks.{below, chunks_where, marks, places_of, touches, union}
 use Rattle.xt_base.specs.Maps.{has}
 
 -- no chunk
@@ -20,9 +21,9 @@ pub all_places : places_of 4294967295 ≡ below 32
 unfolding chunks_where
 all_places = refl
 
-pub all_marks : union [] (marks 0 4096) ≡ below 32
-unfolding chunks_where
-all_marks = refl
+-- the chunks of some bytes beside none
+pub union_none : (first n : ℕ) → union [] (marks first n) ≡ marks first n
+union_none first n = alike (λ k. has [] k || has (marks first n) k) (touches first n) (λ k lt. has-chunks_where (touches first n) k lt)
 
 -- a chunk of a set, by the set's word
 pub has_bit : (word : ℕ) (set : List ℕ) (k : ℕ) → places_of word ≡ set → k < 32 → has set k ≡ (bit_at word k == 1)

@@ -1,15 +1,13 @@
 //! The frame of a busy block, which a leg changes in place.
 
-ghost use Rattle.std.specs.Prelude.{ℕ, List, ◌≡◌, ◌+◌, ◌<◌, ◌≤◌, None, length, IfOk, OnErr, OnOk};
+ghost use Rattle.std.specs.Prelude.{ℕ, List, ◌≡◌, ◌+◌, ◌<◌, ◌≤◌, None, length, IfOk, IfSome, OnErr, OnOk};
 ghost use Rattle.xt_frames.specs.Kept.{before_edits, clean_of, committed_now, logged, restored, undone};
 
-use crate::kept::KeptChunks;
+use crate::kept::{KeptChunks, content_len};
 use crate::spares::SpareRooms;
 use std::alloc::{AllocError, Global};
 use std::marker::Model;
 use xt_base::content::{Content, Data};
-use xt_base::form::Form;
-use xt_base::sizes::BLOCK_BYTES;
 
 /// The frame of a busy block: its bytes, and each chunk that a leg wrote, as it was. Clauses see the bytes, and the committed content,
 /// which is the bytes with the kept chunks put back.
@@ -20,11 +18,14 @@ pub struct Buf {
 }
 
 impl Model for Buf {
+    ghost use Rattle.std.specs.Prelude.{IfSome, ◌≡◌, length};
     ghost use Rattle.xt_frames.specs.Kept.{Framed, framed};
 
     ghost Value = { Framed };
 
     ghost view = { λ b. framed b.content b.kept };
+
+    ghost invariant = { λ b. IfSome b.kept (λ k. length k.bytes ≡ length b.content) };
 }
 
 impl Buf {
@@ -38,10 +39,12 @@ impl Buf {
         }
     }
 
-    /// Its bytes, as the leg that changes it has them.
+    /// Its bytes, as the leg that changes it has them: as many as the committed ones.
     pub fn content(&self) -> &Content
-        ensures { result.now ≡ self.now.edit }
+        ensures value { result.now ≡ self.now.edit }
+        ensures size { length result.now ≡ length self.now.committed }
     {
+        let _size = content_len(&self.content);
         &self.content
     }
 
@@ -51,16 +54,15 @@ impl Buf {
         &mut self,
         spares: &mut SpareRooms,
         alloc: Global,
-        form: Form,
         first: u32,
         bytes: &Data,
     ) -> Result<(), AllocError>
-        requires within { first + length bytes.now ≤ BLOCK_BYTES }
+        requires within { first + length bytes.now ≤ length self.old.edit }
         requires some { 0 < length bytes.now }
         ensures ok { OnOk result (self.new ≡ logged first bytes.now self.old) }
         ensures err { OnErr result (self.new ≡ self.old) }
     {
-        let mut kept = kept_or_room(self.kept.take(), spares, alloc, form, &self.content)?;
+        let mut kept = kept_or_room(self.kept.take(), spares, alloc, &self.content)?;
         kept.write(&mut self.content, first, bytes);
         self.kept = Some(kept);
         Ok(())
@@ -114,17 +116,18 @@ fn kept_or_room(
     kept: Option<KeptChunks>,
     spares: &mut SpareRooms,
     alloc: Global,
-    form: Form,
     content: &Content,
 ) -> Result<KeptChunks, AllocError>
+    requires { IfSome kept (λ k. length k.bytes ≡ length content.now) }
+    ensures size { IfOk result (λ room. length room.bytes ≡ length content.now) }
     ensures ok { IfOk result (λ room. restored room content.now ≡ before_edits kept content.now) }
     ensures err { OnErr result (kept ≡ None) }
 {
-    let _whole = content.bytes();
+    let _size = content_len(content);
     match kept {
         Some(kept) => Ok(kept),
         None => {
-            let room = spares.take(alloc, form)?;
+            let room = spares.take(alloc, content)?;
             Ok(KeptChunks::none(room))
         }
     }
@@ -132,7 +135,9 @@ fn kept_or_room(
 
 /// The kept chunks are put back into a content, where some are kept.
 fn put_back(kept: &Option<KeptChunks>, content: &mut Content)
-    ensures { content.new ≡ before_edits kept.now content.old }
+    requires { IfSome kept.now (λ k. length k.bytes ≡ length content.old) }
+    ensures size { length content.new ≡ length content.old }
+    ensures value { content.new ≡ before_edits kept.now content.old }
 {
     if let Some(kept) = kept {
         kept.put_back(content);

@@ -12,9 +12,8 @@ use slab::Slab;
 use std::alloc::{AllocError, Global};
 use std::marker::Model;
 use xt_base::content::{Content, Data};
-use xt_base::form::Form;
 use xt_base::map::NumberMap;
-use xt_base::sizes::{BLOCK_BYTES, ROOM};
+use xt_base::sizes::ROOM;
 
 /// The frames of busy blocks, each of which stays where it is until its block rests. It has room for 128, made once: to bring one
 /// takes no memory. Clauses see them by rising block, each with its bytes, as the leg that changes it has them, and with its
@@ -169,13 +168,12 @@ impl BusyFrames {
     pub fn log(
         &mut self,
         alloc: Global,
-        form: Form,
         block: u64,
         first: u32,
         bytes: &Data,
     ) -> Result<(), AllocError>
         requires there { is_in block self.old ≡ true }
-        requires within { first + length bytes.now ≤ BLOCK_BYTES }
+        requires within { IfSome (at block self.old) (λ f. first + length bytes.now ≤ length f.edit) }
         requires some { 0 < length bytes.now }
         ensures ok { OnOk result (self.new ≡ changed_in (logged first bytes.now) block self.old) }
         ensures err { OnErr result (self.new ≡ self.old) }
@@ -184,7 +182,7 @@ impl BusyFrames {
             unreachable!();
         };
         let (_, mut frame) = self.frames.remove(key);
-        let logged = frame.log(&mut self.spares, alloc, form, first, bytes);
+        let logged = frame.log(&mut self.spares, alloc, first, bytes);
         let _place = self.frames.insert_reserved((block, frame));
         logged
     }

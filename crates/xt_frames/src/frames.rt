@@ -17,9 +17,8 @@ use crate::share::FrameShare;
 use std::alloc::{AllocError, Global};
 use std::marker::Model;
 use xt_base::content::{Content, Data};
-use xt_base::form::Form;
 use xt_base::names::Slot;
-use xt_base::sizes::{BLOCK_BYTES, IDLE_BLOCKS, ROOM};
+use xt_base::sizes::{IDLE_BLOCKS, ROOM};
 
 /// The contents that a mount keeps: frames of busy blocks, each with its bytes as the leg that changes it has them and with its
 /// committed content; which blocks are fresh; and the contents of idle blocks, the most recent first.
@@ -157,18 +156,17 @@ impl Frames {
     pub fn log(
         &mut self,
         alloc: Global,
-        form: Form,
         block: u64,
         first: u32,
         bytes: &Data,
     ) -> Result<(), AllocError>
         requires there { is_in block self.old.frames ≡ true }
-        requires within { first + length bytes.now ≤ BLOCK_BYTES }
+        requires within { IfSome (at block self.old.frames) (λ f. first + length bytes.now ≤ length f.edit) }
         requires some { 0 < length bytes.now }
         ensures ok { OnOk result (self.new ≡ record self.old { frames = changed_in (logged first bytes.now) block self.old.frames }) }
         ensures err { OnErr result (self.new ≡ self.old) }
     {
-        self.busy.log(alloc, form, block, first, bytes)
+        self.busy.log(alloc, block, first, bytes)
     }
 
     /// What a leg changed of a block in place is put back, if it has a frame. It takes no memory.

@@ -1,14 +1,15 @@
 //! Room for kept chunks that is used again.
 
+ghost use Rattle.std.specs.Prelude.{◌≡◌, length, IfOk};
+
 use std::alloc::{AllocError, Global};
 use std::marker::Model;
 use xt_base::content::Content;
-use xt_base::form::Form;
 
 /// How many rooms are held at most.
 const SPARE_ROOMS: usize = 8;
 
-/// Rooms of a block's size that no frame needs at present, at most eight: a leg that changes few blocks in place asks no memory for what it
+/// Rooms for contents that no frame needs at present, at most eight: a leg that changes few blocks in place asks no memory for what it
 /// keeps of them. Clauses see nothing of these.
 #[derive(Debug, Drop)]
 pub struct SpareRooms {
@@ -30,11 +31,20 @@ impl SpareRooms {
         Ok(SpareRooms { rooms })
     }
 
-    /// A room that nobody needs, if there is one, else a new one. The one error is want of memory.
-    pub fn take(&mut self, alloc: Global, form: Form) -> Result<Content, AllocError> {
+    /// A room as long as a content: one that nobody needs, if there is one of that length, else a new one. The one error is want of
+    /// memory.
+    pub fn take(&mut self, alloc: Global, content: &Content) -> Result<Content, AllocError>
+        ensures { IfOk result (λ room. length room ≡ length content.now) }
+    {
         match self.rooms.pop() {
-            Some(room) => Ok(room),
-            None => Content::zeros(alloc, form),
+            Some(room) => {
+                if room.bytes().len() == content.bytes().len() {
+                    Ok(room)
+                } else {
+                    content.copy(alloc)
+                }
+            }
+            None => content.copy(alloc),
         }
     }
 

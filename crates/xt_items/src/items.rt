@@ -5,6 +5,7 @@ ghost use Rattle.xt_base.specs.Chunks.{union};
 ghost use Rattle.xt_base.specs.Maps.{at, has, is_in, put, without};
 ghost use Rattle.xt_base.specs.Space.{cost, flight_items, is_listed, item_cost, least_number, lesser};
 ghost use Rattle.xt_base.specs.Jobs.{activated, fits_plan, flight_pieces, gone};
+ghost use Rattle.xt_base.specs.Sized.{IsWithin};
 ghost use Rattle.xt_base.specs.Sound.{IsRising};
 ghost use Rattle.xt_items.specs.Lists.{no_items, flight_number, marked, with_landed};
 ghost use Rattle.xt_items.specs.Plans.{due, is_unpinned, planned};
@@ -219,14 +220,16 @@ impl Items {
     }
 
     /// Marks of a commit are joined to those of the block's item, and its log vector has the committed bytes of them all, in this
-    /// room. It takes no memory.
+    /// room; the content has all these chunks. It takes no memory.
     pub fn mark(&mut self, block: u64, marks: Chunks, content: &Content, room: VectorRoom)
-        requires { length self.old.cil < ROOM }
+        requires few { length self.old.cil < ROOM }
+        requires within { IsWithin (length content.now) (union (unwrap_or (at block self.old.cil) []) marks) }
         ensures { self.new ≡ marked block (union (unwrap_or (at block self.old.cil) []) marks) content.now self.old }
     {
         let before = self.marks(block).unwrap_or(Chunks::none());
         let chunks = before.union(marks);
-        self.put_vector(block, room.filled(content, chunks));
+        let vector = room.filled(content, chunks);
+        self.put_vector(block, vector);
     }
 
     /// The block's item cancels it: it has no chunks. It takes no memory.

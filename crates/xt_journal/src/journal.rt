@@ -20,7 +20,7 @@ use xt_base::content::{Content, Data};
 use xt_base::form::Form;
 use xt_base::map::NumberMap;
 use xt_base::names::Slot;
-use xt_base::sizes::{BLOCK_BYTES, CHUNK_COST, CHUNKS, ITEM_COST, MOST_ENDS, ROOM};
+use xt_base::sizes::{CHUNK_COST, CHUNKS, ITEM_COST, MOST_ENDS, ROOM};
 use xt_base::steps::{HomeAnswers, Reason};
 use xt_frames::frames::Frames;
 use xt_frames::share::FrameShare;
@@ -162,8 +162,8 @@ impl Journal {
         self.frames.leave_fresh(block);
     }
 
-    /// A leg writes bytes of a block that has a frame, in place: what is committed stays. The one error is want of memory for the first
-    /// chunk that is kept of it, and then nothing changes.
+    /// A leg writes bytes of a block that has a frame, in place, within its content: what is committed stays. The one error is want of
+    /// memory for the first chunk that is kept of it, and then nothing changes.
     pub fn log_in_place(
         &mut self,
         alloc: Global,
@@ -172,13 +172,13 @@ impl Journal {
         bytes: &Data,
     ) -> Result<(), AllocError>
         requires there { is_in block self.old.frames.frames ≡ true }
-        requires within { first + length bytes.now ≤ BLOCK_BYTES }
+        requires within { IfSome (at block self.old.frames.frames) (λ f. first + length bytes.now ≤ length f.edit) }
         requires some { 0 < length bytes.now }
         ensures ok { OnOk result (self.new ≡ with_frames (changed_in (logged first bytes.now) block self.old.frames.frames) self.old) }
         ensures err { OnErr result (self.new ≡ self.old) }
     {
         self.frames.frames_rise();
-        self.frames.log(alloc, self.form, block, first, bytes)
+        self.frames.log(alloc, block, first, bytes)
     }
 
     /// What a leg changed of a block in place is put back, if it has a frame: what is committed stays. It takes no memory.

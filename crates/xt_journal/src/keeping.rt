@@ -85,6 +85,7 @@ impl Journal {
         } }
     {
         let _cil = self.items.cil();
+        let _whole = content.bytes();
         self.items.mark(block, marks, &content, room);
         self.frames.commit(block, content);
     }
@@ -100,7 +101,11 @@ impl Journal {
     {
         let _cil = self.items.cil();
         match self.frames.frame(block) {
-            Some(frame) => self.items.mark(block, marks, frame.content(), room),
+            Some(frame) => {
+                let content = frame.content();
+                let _whole = content.bytes();
+                self.items.mark(block, marks, content, room);
+            }
             None => unreachable!(),
         }
         self.frames.keep(block);

@@ -1,8 +1,8 @@
 -- What a leg shows after a step at one block: bytes written over its own, in the block's frame or in a content of its own, and a block invalidated.
-use Rattle.std.proofs.Common.{◌≡◌, ◌≢◌, ◌∙◌, ◌<◌, ◌++◌, Bool, IfSome, List, None, Option, Some, [], ap, arith, drop, false, if◌then◌else◌, length, length-append, not, refl, subst, sym, take, true, unwrap_or, ℕ, ◌∷◌, ◌+◌}
+use Rattle.std.proofs.Common.{◌≡◌, ◌≢◌, ◌∙◌, ◌<◌, ◌≤◌, ◌++◌, Bool, IfSome, List, None, Option, Some, [], ap, arith, drop, false, if◌then◌else◌, length, length-append, not, refl, subst, sym, take, true, unwrap_or, ℕ, ◌∷◌, ◌+◌}
 use Rattle.std.proofs.lemmas.Bool.{false≢true}
 use Rattle.std.specs.Prelude.{is_some, option_map, ◌&&◌, ◌||◌}
-use Rattle.xt_base.proofs.MapLemmas.{at_put_other, at_put_same}
+use Rattle.xt_base.proofs.MapLemmas.{at_put_other, at_put_same, some_same}
 use Rattle.xt_base.specs.Calls.{edited, invalidated, overwritten, seen}
 use Rattle.xt_base.specs.Chunks.{marks, union}
 use Rattle.xt_base.specs.Legs.{change_of, is_stale}
@@ -251,6 +251,18 @@ module _ (b : ℕ) (j : JournalState) (u : Transaction) (rises : IsRising u.leg.
   stale_step m v moved is =
       subst (λ (x : Transaction). IsStep b (invalidated b (leg_over j.frames.frames u.leg)) m j x u) (sym is)
       (subst (λ (x : JournalState). IsStep b (invalidated b (leg_over j.frames.frames u.leg)) x j stale_now u) (sym moved) (stale_at (at b j.frames.frames) refl))
+
+-- ---- lengths
+-- bytes of its own are a whole content
+pub own_whole : (e : Option (List ℕ)) (content : List ℕ) → Some content ≡ own_edit e → length content ≡ 4096 → length (unwrap_or e []) ≡ 4096
+own_whole None content own whole = absurd (cc)
+own_whole (Some []) content own whole = absurd (cc)
+own_whole (Some (x ∷ xs)) content own whole = ap length (some_same (x ∷ xs) content (sym own)) ∙ whole
+
+-- what ends within a block ends within its frame
+pub frame_has : (o : Option Framed) (end : ℕ) → IfSome o (λ f. length f.edit ≡ 4096) → end ≤ 4096 → IfSome o (λ f. end ≤ length f.edit)
+frame_has None end whole within = tt
+frame_has (Some f) end whole within = omega (arith, whole, within)
 
 -- ---- a copy of what a leg sees
 own_is : (f : List (ℕ × Framed)) (b : ℕ) (e : Option (List ℕ)) (left content : List ℕ) → Some content ≡ own_edit e → unwrap_or (edit_over f b e) left ≡ content

@@ -1,6 +1,6 @@
 //! An open transaction: its ticket, and what its present leg did.
 
-ghost use Rattle.std.specs.Prelude.{◌≡◌, ◌+◌, ◌*◌, ◌<◌, ◌≤◌, ◌&&◌, ℕ, [], IfOk, IfSome, OnErr, OnOk, Some, false, is_none, is_some, length, nat_le, sum_by, true};
+ghost use Rattle.std.specs.Prelude.{◌≡◌, ◌+◌, ◌*◌, ◌<◌, ◌≤◌, ◌&&◌, ℕ, [], IfOk, IfSome, OnErr, OnOk, Some, false, is_none, is_some, length, nat_le, sum_by, true, unwrap_or};
 ghost use Rattle.xt_base.specs.Calls.{edited, invalidated, legs_after, without_hold};
 ghost use Rattle.xt_base.specs.Chunks.{marks};
 ghost use Rattle.xt_base.specs.Legs.{change_of, clean_leg, is_dirty, with_marks};
@@ -144,18 +144,26 @@ impl OpenTrans {
 
     /// Whether the leg has bytes of its own of a block.
     fn has_own(&self, block: u64) -> bool
-        ensures { result ≡ is_some (own_edit (change_of block self.now.leg).edit) }
+        ensures value { result ≡ is_some (own_edit (change_of block self.now.leg).edit) }
+        ensures whole { result ≡ true → length (unwrap_or (change_of block self.now.leg).edit []) ≡ BLOCK_BYTES }
     {
-        self.leg.edit(block).is_some()
+        match self.leg.edit(block) {
+            Some(content) => {
+                let _whole = content.bytes();
+                true
+            }
+            None => false,
+        }
     }
 
     /// Whether bytes that the leg writes of a block, of which it has none of its own, go into the block's frame.
     fn goes_in_place(&self, journal: &Journal, block: u64) -> bool
-        ensures { result ≡ goes_in_place block self.now.leg journal.now.frames }
+        ensures value { result ≡ goes_in_place block self.now.leg journal.now.frames }
+        ensures whole { IfSome (at block journal.now.frames.frames) (λ f. length f.edit ≡ BLOCK_BYTES) }
     {
         let frames = journal.frames();
         let leg = &self.leg;
-        frames.frame(block).is_some()
+        has_frame(journal, block)
             && (leg.is_in_place(block) || !(frames.is_fresh(block) || leg.is_stale(block)))
     }
 
@@ -163,7 +171,8 @@ impl OpenTrans {
     fn log_over(&mut self, journal: &Journal, block: u64, first: u32, bytes: &Data)
         requires own { is_some (own_edit (change_of block self.old.leg).edit) ≡ true }
         requires fits { charge journal.now.form.ends (edited block [] (marks first (length bytes.now)) self.old.leg).changes ≤ self.old.unit }
-        requires within { first + length bytes.now ≤ BLOCK_BYTES }
+        requires within { first + length bytes.now ≤ length (unwrap_or (change_of block self.old.leg).edit []) }
+        requires room { first + length bytes.now ≤ BLOCK_BYTES }
         requires some { 0 < length bytes.now }
         requires clean { has_in_place block self.old.leg ≡ false → IfSome (at block journal.now.frames.frames) IsClean }
         ensures { IsStep block (shown_logged block first bytes.now journal.now self.old.leg) journal.now journal.now self.new self.old }
@@ -187,7 +196,8 @@ impl OpenTrans {
         requires goes { goes_in_place block self.old.leg journal.old.frames ≡ true }
         requires few { is_in block self.old.leg.changes ≡ false → length self.old.leg.changes + length self.old.leg.holds < ROOM }
         requires fits { charge journal.old.form.ends (edited block [] (marks first (length bytes.now)) self.old.leg).changes ≤ self.old.unit }
-        requires within { first + length bytes.now ≤ BLOCK_BYTES }
+        requires within { IfSome (at block journal.old.frames.frames) (λ f. first + length bytes.now ≤ length f.edit) }
+        requires room { first + length bytes.now ≤ BLOCK_BYTES }
         requires some { 0 < length bytes.now }
         requires clean { has_in_place block self.old.leg ≡ false → IfSome (at block journal.old.frames.frames) IsClean }
         ensures ok { OnOk result (IsStep block (shown_logged block first bytes.now journal.old self.old.leg) journal.new journal.old self.new self.old) }
@@ -371,6 +381,20 @@ impl OpenTrans {
         journal.lose_leg(&mut self.leg);
         self.leg.next_leg();
         space.give_up(&mut self.ticket);
+    }
+}
+
+/// Whether a block has a frame: its content is as long as a block.
+fn has_frame(journal: &Journal, block: u64) -> bool
+    ensures value { result ≡ is_in block journal.now.frames.frames }
+    ensures whole { IfSome (at block journal.now.frames.frames) (λ f. length f.edit ≡ BLOCK_BYTES) }
+{
+    match journal.frames().frame(block) {
+        Some(frame) => {
+            let _whole = frame.content().bytes();
+            true
+        }
+        None => false,
     }
 }
 

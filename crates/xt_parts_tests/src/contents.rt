@@ -3,7 +3,8 @@
 //! A function that names the frames pays for all that they hold, and one that is long pays with the square of its length. So what
 //! becomes of a few blocks stands in constants, step by step, and a few short functions play them.
 
-ghost use Rattle.std.specs.Prelude.{◌≡◌, length, IfOk};
+ghost use Rattle.std.specs.Prelude.{◌≡◌, ◌<◌, length, true, IfOk, IfSome};
+ghost use Rattle.xt_base.specs.Maps.{at, is_in};
 ghost use Rattle.xt_frames.specs.Shares.{no_contents};
 
 use std::alloc::{AllocError, Global};
@@ -79,11 +80,22 @@ fn enter(alloc: Global, frames: &mut Frames, step: Step) -> Result<(), AllocErro
     Ok(())
 }
 
+/// Whether a block has a frame.
+fn has_frame(frames: &Frames, block: u64) -> bool
+    ensures there { result ≡ true → is_in block frames.now.frames ≡ true }
+    ensures byte { result ≡ true → IfSome (at block frames.now.frames) (λ f. 0 < length f.edit) }
+{
+    match frames.frame(block) {
+        Some(frame) => !frame.content().bytes().is_empty(),
+        None => false,
+    }
+}
+
 /// The steps of a leg that writes in place, where the block has a frame; others do nothing.
 fn write(alloc: Global, frames: &mut Frames, step: Step) -> Result<(), AllocError> {
     match step {
-        Step::Log(block, first) if frames.frame(block).is_some() => {
-            frames.log(alloc, Form::one(), block, 0, &one_byte(alloc, first)?)
+        Step::Log(block, first) if has_frame(frames, block) => {
+            frames.log(alloc, block, 0, &one_byte(alloc, first)?)
         }
         Step::Keep(block) if frames.frame(block).is_some() => {
             frames.keep(block);

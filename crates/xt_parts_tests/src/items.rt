@@ -29,6 +29,8 @@ fn mark(alloc: Global, items: &mut Items, block: u64, first: u32) -> bool
     else {
         return false;
     };
+    // For the proof, that it has all chunks.
+    let _whole = content.bytes();
     items.mark(block, Chunks::mark(first, 12), &content, room);
     true
 }

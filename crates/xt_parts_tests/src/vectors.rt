@@ -16,7 +16,11 @@ fn two_chunks(alloc: Global) -> Result<LogVector, AllocError> {
     let chunks = Chunks::mark(130, 1).union(Chunks::mark(400, 1));
     let (content, room) = edit.into_parts();
     match content {
-        Some(content) => Ok(room.filled(&content, chunks)),
+        Some(content) => {
+            // For the proof, that it has all chunks.
+            let _whole = content.bytes();
+            Ok(room.filled(&content, chunks))
+        }
         None => Ok(LogVector::none()),
     }
 }

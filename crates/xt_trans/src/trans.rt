@@ -22,7 +22,7 @@ use xt_base::map::NumberMap;
 use xt_base::marks::ItemMarks;
 use xt_base::names::Block;
 use xt_base::newly::Newly;
-use xt_base::sizes::{BLOCK_BYTES, BUSY_BLOCKS, CHUNK_COST, CHUNKS, ITEM_COST, MOST_ENDS, ROOM};
+use xt_base::sizes::{BUSY_BLOCKS, CHUNK_COST, CHUNKS, ITEM_COST, MOST_ENDS, ROOM};
 use xt_vectors::edit::Edit;
 
 /// What a leg did to one block, after `xfs_buf_log_item`: its marks, the bytes, if it was changed, the chunks marked, and
@@ -256,7 +256,7 @@ impl TransRec {
     /// no memory.
     pub fn write(&mut self, block: u64, first: usize, bytes: &Data, marked: Chunks)
         requires own { is_some (own_edit (change_of block self.old).edit) ≡ true }
-        requires within { first + length bytes.now ≤ BLOCK_BYTES }
+        requires within { first + length bytes.now ≤ length (unwrap_or (change_of block self.old).edit []) }
         ensures { self.new ≡ edited block (overwritten first bytes.now (unwrap_or (change_of block self.old).edit [])) marked self.old }
     {
         let item = take_item(&mut self.items, block);
@@ -606,7 +606,7 @@ fn marked_too(mut item: BufItem, marked: Chunks) -> BufItem
 /// An entry over whose own bytes others are written from `first` on.
 fn written(mut item: BufItem, first: usize, bytes: &Data) -> BufItem
     requires own { is_some (own_edit item.edit) ≡ true }
-    requires within { first + length bytes.now ≤ BLOCK_BYTES }
+    requires within { first + length bytes.now ≤ length (unwrap_or item.edit []) }
     ensures marks { result.marks ≡ item.marks }
     ensures change { change_in result ≡ record (change_in item) { edit = Some (overwritten first bytes.now (unwrap_or item.edit [])) } }
 {

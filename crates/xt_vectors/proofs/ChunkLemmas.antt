@@ -7,7 +7,11 @@ use Rattle.std.proofs.lemmas.Nat.{leading_length}
 use Rattle.std.proofs.lemmas.Nat.Bits.{bit_at-trailing_zeros, bit_at-zero, bit_at_above}
 use Rattle.std.proofs.lemmas.List.Concat.{flat_map-append}
 use Rattle.std.proofs.lemmas.List.Elements.{filter-append}
+use Rattle.xt_base.proofs.ChunkLemmas.{has-places_of}
+use Rattle.xt_base.proofs.KeyLemmas.{each_has}
 use Rattle.xt_base.specs.Chunks.{below, chunks_where, places_of}
+use Rattle.xt_base.specs.Maps.{has}
+use Rattle.xt_base.specs.Sized.{IsWithin}
 use Rattle.xt_base.specs.Text.{chunk, chunk_bytes}
 
 -- one number more below
@@ -101,3 +105,12 @@ whole_content word set xs all is whole =
 
 pub whole_count : (word : ℕ) (set : List ℕ) → word ≡ 4294967295 → places_of word ≡ set → 4096 ≡ 128 * length set
 whole_count word set all is = ap (λ (xs : List ℕ). 128 * length xs) (sym all_marked ∙ ap places_of (sym all) ∙ is)
+
+-- a chunk that the word has lies within the content, where those of its set do
+pub marked_within : (word : ℕ) (set : List ℕ) (size : ℕ) → places_of word ≡ set → IsWithin size set → (k : ℕ) → k < 32 → (bit_at word k == 1) ≡ true → 128 * k + 128 ≤ size
+marked_within word set size is within k lt there =
+    each_has (λ j. 128 * j + 128 ≤ size) k set (ap (λ s. has s k) (sym is) ∙ has-places_of word k lt ∙ there) within
+
+-- a word of all bits has the last one
+pub last_bit : (word : ℕ) → word ≡ 4294967295 → (bit_at word 31 == 1) ≡ true
+last_bit word is = ap (λ w. bit_at w 31 == 1) is

@@ -1,14 +1,23 @@
 -- The log vectors of a commit list, where contents or the list change.
-use Rattle.std.proofs.Common.{◌≡◌, ◌≢◌, ◌∙◌, ◌<◌, ◌∷◌, Bool, List, Option, [], ap, arith, false, filter, inl, inr, refl, suc, sym, true, unwrap_or, ℕ}
+use Rattle.std.proofs.Common.{◌≡◌, ◌≢◌, ◌∙◌, ◌*◌, ◌+◌, ◌<◌, ◌≤◌, ◌∷◌, Bool, List, Option, [], ap, arith, false, filter, inl, inr, length, refl, suc, sym, true, unwrap_or, ℕ}
 use Rattle.std.proofs.lemmas.Bool.{cases_eq, cases_order, false≢true}
-use Rattle.std.specs.Prelude.{is_some}
+use Rattle.std.specs.Prelude.{is_some, ◌||◌}
+use Rattle.xt_base.proofs.ChunkCounts.{each_below}
 use Rattle.xt_base.proofs.KeyLemmas.{at_filter_kept}
 use Rattle.xt_base.proofs.MapLemmas.{at_first, at_later, put_less, put_more, put_same}
-use Rattle.xt_base.proofs.RisingLemmas.{each_map}
-use Rattle.xt_base.specs.Maps.{at, is_in, put}
+use Rattle.xt_base.proofs.RisingLemmas.{each_filter, each_map}
+use Rattle.xt_base.specs.Chunks.{below, chunks_where, union}
+use Rattle.xt_base.specs.Maps.{at, has, is_in, put}
+use Rattle.xt_base.specs.Sized.{IsWithin}
 use Rattle.xt_base.specs.Sound.{Each, RisesFrom}
 use Rattle.xt_base.specs.Text.{content_at, zeros}
 use Rattle.xt_vectors.specs.Vectors.{Vector, chunks_of, vector, vector_of, vectors_of}
+
+-- a content of 32 chunks has each chunk of two sets
+pub all_within : (a b content : List ℕ) → length content ≡ 4096 → IsWithin (length content) (union a b)
+unfolding chunks_where
+all_within a b content whole =
+    each_filter (λ k. 128 * k + 128 ≤ length content) (λ k. has a k || has b k) (below 32) (each_below (λ k. 128 * k + 128 ≤ length content) 32 (λ k lt. omega (arith, lt, whole)))
 
 -- ---- other contents n in the place of m, which are the same of each block but one
 module _ (size b : ℕ) (m n : List (ℕ × List ℕ)) (same : (k : ℕ) → k ≢ b → at k n ≡ at k m) where

@@ -4,10 +4,9 @@ ghost use Rattle.std.specs.Prelude.{◌≡◌, ◌+◌, ◌≤◌, [], Some, len
 ghost use Rattle.xt_base.specs.Calls.{overwritten};
 ghost use Rattle.xt_vectors.specs.Edits.{has_own, own_bytes};
 
-use crate::vector::VectorRoom;
+use crate::vector::{VectorRoom, content_len};
 use std::marker::Model;
 use xt_base::content::{Content, Data};
-use xt_base::sizes::BLOCK_BYTES;
 
 /// What a leg has of a block: bytes of its own, or none where the block is changed in place; with room for the log vector that its
 /// commit makes, so the commit takes no memory. Clauses see the bytes, which are none where it has none of its own.
@@ -55,10 +54,11 @@ impl Edit {
     /// Writes bytes of its own from `first` on.
     pub fn write(&mut self, first: usize, bytes: &Data)
         requires own { has_own self.old ≡ true }
-        requires within { first + length bytes.now ≤ BLOCK_BYTES }
+        requires within { first + length bytes.now ≤ length self.old }
         ensures { self.new ≡ overwritten first bytes.now self.old }
     {
         if let Some(content) = &mut self.content {
+            let _size = content_len(content);
             content.write_data(first, bytes);
         }
     }

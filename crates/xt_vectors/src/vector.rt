@@ -1,8 +1,9 @@
 //! The log vector of a block, and the room that is made for one.
 
 ghost use Rattle.std.specs.Int.{bit_at};
-ghost use Rattle.std.specs.Prelude.{◌≡◌, ◌+◌, ◌*◌, ◌≤◌, ◌<◌, ◌++◌, ◌==◌, [], IfOk, if◌then◌else◌, length, vec_capacity};
+ghost use Rattle.std.specs.Prelude.{ℕ, ◌≡◌, ◌+◌, ◌*◌, ◌≤◌, ◌<◌, ◌++◌, ◌==◌, [], true, IfOk, if◌then◌else◌, length, vec_capacity};
 ghost use Rattle.xt_base.specs.Chunks.{places_of};
+ghost use Rattle.xt_base.specs.Sized.{IsWithin};
 ghost use Rattle.xt_base.specs.Text.{chunk, chunk_bytes};
 ghost use Rattle.xt_vectors.specs.Vectors.{no_vector, vector};
 
@@ -103,8 +104,9 @@ impl VectorRoom {
         }
     }
 
-    /// The log vector of some chunks of a content, in this room. It takes no memory.
+    /// The log vector of some chunks that a content has, in this room. It takes no memory.
     pub fn filled(self, content: &Content, chunks: Chunks) -> LogVector
+        requires { IsWithin (length content.now) chunks }
         ensures { result ≡ vector content.now chunks }
     {
         let VectorRoom { mut bytes } = self;
@@ -116,6 +118,14 @@ impl VectorRoom {
     }
 }
 
+/// How many bytes a content has, at most 4,096.
+pub(crate) fn content_len(content: &Content) -> usize
+    ensures value { result ≡ length content.now }
+    ensures short { result ≤ BLOCK_BYTES }
+{
+    content.bytes().len()
+}
+
 /// Room without bytes.
 fn emptied(mut bytes: Vec<u8>) -> VectorRoom
     requires { BLOCK_BYTES ≤ vec_capacity bytes }
@@ -124,14 +134,16 @@ fn emptied(mut bytes: Vec<u8>) -> VectorRoom
     VectorRoom { bytes }
 }
 
-/// Appends the bytes of some chunks of a content, one after another, to none.
+/// Appends the bytes of some chunks that a content has, one after another, to none.
 fn push_chunks(out: &mut Vec<u8>, content: &Content, chunks: Chunks)
     requires none { out.old.items ≡ [] }
     requires room { BLOCK_BYTES ≤ vec_capacity out.old }
+    requires within { IsWithin (length content.now) chunks }
     ensures bytes { out.new.items ≡ chunk_bytes content.now chunks }
     ensures form { length out.new.items ≡ CHUNK_BYTES * length chunks }
     ensures capacity { BLOCK_BYTES ≤ vec_capacity out.new }
 {
+    let _size = content_len(content);
     let word = chunks.word();
     if word == u32::MAX {
         push_block(out, content);
@@ -140,10 +152,11 @@ fn push_chunks(out: &mut Vec<u8>, content: &Content, chunks: Chunks)
     }
 }
 
-/// Appends all bytes of a content to none.
+/// Appends all bytes of a content of 32 chunks to none.
 fn push_block(out: &mut Vec<u8>, content: &Content)
     requires none { out.old.items ≡ [] }
     requires room { BLOCK_BYTES ≤ vec_capacity out.old }
+    requires whole { length content.now ≡ BLOCK_BYTES }
     ensures bytes { out.new.items ≡ content.now }
     ensures form { length out.new.items ≡ BLOCK_BYTES }
     ensures capacity { BLOCK_BYTES ≤ vec_capacity out.new }
@@ -155,6 +168,7 @@ fn push_block(out: &mut Vec<u8>, content: &Content)
 fn push_marked(out: &mut Vec<u8>, content: &Content, word: u32)
     requires none { out.old.items ≡ [] }
     requires room { BLOCK_BYTES ≤ vec_capacity out.old }
+    requires within { (k : ℕ) → k < CHUNKS → (bit_at word k == 1) ≡ true → CHUNK_BYTES * k + CHUNK_BYTES ≤ length content.now }
     ensures bytes { out.new.items ≡ chunk_bytes content.now (places_of word) }
     ensures form { length out.new.items ≡ CHUNK_BYTES * length (places_of word) }
     ensures capacity { BLOCK_BYTES ≤ vec_capacity out.new }
@@ -178,6 +192,7 @@ fn is_marked(word: u32, k: u32) -> bool
 fn push_if_marked(out: &mut Vec<u8>, content: &Content, word: u32, k: u32)
     requires chunk { k < CHUNKS }
     requires room { length out.old.items + CHUNK_BYTES ≤ vec_capacity out.old }
+    requires within { (bit_at word k == 1) ≡ true → CHUNK_BYTES * k + CHUNK_BYTES ≤ length content.now }
     ensures bytes { out.new.items ≡ out.old.items ++ (if bit_at word k == 1 then chunk content.now k else []) }
     ensures count { length out.new.items ≡ length out.old.items + (if bit_at word k == 1 then CHUNK_BYTES else 0) }
     ensures capacity { vec_capacity out.old ≤ vec_capacity out.new }
@@ -191,6 +206,7 @@ fn push_if_marked(out: &mut Vec<u8>, content: &Content, word: u32, k: u32)
 fn push_chunk(out: &mut Vec<u8>, content: &Content, k: u32)
     requires chunk { k < CHUNKS }
     requires room { length out.old.items + CHUNK_BYTES ≤ vec_capacity out.old }
+    requires within { CHUNK_BYTES * k + CHUNK_BYTES ≤ length content.now }
     ensures bytes { out.new.items ≡ out.old.items ++ chunk content.now k }
     ensures count { length out.new.items ≡ length out.old.items + CHUNK_BYTES }
     ensures capacity { vec_capacity out.old ≤ vec_capacity out.new }

@@ -15,7 +15,7 @@ returns-in-Some c =
     let frames = now.journal.frames.frames in
     let there = c.in-Some.ensures ∙ ap (λ (f : Bufs). at c.args.block f.frames) c.frames.ensures in
     let clean = subst (λ o. IfSome o IsClean) (sym there) (clean_nowhere frames c.args.block now.transactions (unchanged_in c.args.self.now now.space.size now.transactions now.space.landed now.journal c.self.view_is c.args.block c.requires) c.self.invariant.3) in
-    ap Some (c.content.ensures ∙ clean) ∙ ap (option_map (λ (f : Framed). f.committed)) there ∙ sym (at_committed c.args.block frames) ∙ ap (λ (a : AccountsState). at c.args.block a.frames.committed) c.self.view_is
+    ap Some (c.content.ensures.value ∙ clean) ∙ ap (option_map (λ (f : Framed). f.committed)) there ∙ sym (at_committed c.args.block frames) ∙ ap (λ (a : AccountsState). at c.args.block a.frames.committed) c.self.view_is
 
 pub returns-in-None : goal.returns-in-None
 returns-in-None c =

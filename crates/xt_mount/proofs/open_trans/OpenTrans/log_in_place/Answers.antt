@@ -1,12 +1,17 @@
-use Rattle.std.proofs.Common.{◌∙◌, ap, subst}
+use Rattle.std.proofs.Common.{◌∙◌, ◌+◌, ◌≤◌, IfSome, ap, length, subst, sym}
 use Rattle.xt_base.specs.Chunks.{marks}
+use Rattle.xt_base.specs.Maps.{at}
 use Rattle.xt_base.specs.Sound.{IsRising}
 use Rattle.xt_frames.specs.Busy.{changed_in}
 use Rattle.xt_frames.specs.Contents.{Bufs}
-use Rattle.xt_frames.specs.Kept.{logged}
+use Rattle.xt_frames.specs.Kept.{Framed, logged}
 use Rattle.xt_journal.specs.Journals.{JournalState, with_frames}
 use Rattle.xt_mount.proofs.StepLemmas.{place_step}
 use Rattle.xt_mount.proofs.open_trans.OpenTrans.log_in_place.Goals as goal
+
+pub log_in_place-requires-clause-within : goal.log_in_place-requires-clause-within
+log_in_place-requires-clause-within c =
+    subst (λ (x : JournalState). IfSome (at c.args.block x.frames.frames) (λ (f : Framed). c.args.first + length c.args.bytes.now ≤ length f.edit)) (sym c.room_of.ensures.journal) c.requires.within
 
 pub returns-clause-ok : goal.returns-clause-ok
 returns-clause-ok c =

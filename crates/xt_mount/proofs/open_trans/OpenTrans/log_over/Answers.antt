@@ -1,4 +1,4 @@
-use Rattle.std.proofs.Common.{◌∙◌, List, [], ap, subst, sym, unwrap_or, ℕ}
+use Rattle.std.proofs.Common.{◌∙◌, ◌+◌, ◌≤◌, List, [], ap, length, subst, sym, unwrap_or, ℕ}
 use Rattle.std.specs.Prelude.{sum_by}
 use Rattle.xt_base.specs.Calls.{edited, overwritten}
 use Rattle.xt_base.specs.Chunks.{marks}
@@ -11,6 +11,10 @@ use Rattle.xt_mount.proofs.StepLemmas.{over_step}
 use Rattle.xt_mount.proofs.open_trans.OpenTrans.log_over.Goals as goal
 use Rattle.xt_mount.specs.contracts.open_trans.OpenTrans.{the_view}
 use Rattle.xt_resv.specs.Ledgers.{Grant}
+
+pub write-requires-clause-within : goal.write-requires-clause-within
+write-requires-clause-within c =
+    subst (λ (t : Transaction). c.args.first + length c.args.bytes.now ≤ length (unwrap_or (change_of c.args.block t.leg).edit [])) (sym c.self.view_is) c.requires.within
 
 pub invariant_of-self : goal.invariant_of-self
 invariant_of-self c =

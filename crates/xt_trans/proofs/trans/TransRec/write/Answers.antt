@@ -1,4 +1,4 @@
-use Rattle.std.proofs.Common.{◌∙◌, List, Some, [], ap, false, subst, sym, true, unwrap_or, ℕ}
+use Rattle.std.proofs.Common.{◌≡◌, ◌∙◌, List, Some, [], ap, arith, false, length, subst, sym, true, unwrap_or, ℕ}
 use Rattle.std.specs.Prelude.{is_some}
 use Rattle.xt_base.specs.Calls.{edited, overwritten}
 use Rattle.xt_base.specs.Chunks.{union}
@@ -17,6 +17,14 @@ written-item-requires-clause-own c =
     let block = c.args.block in
     ap (λ (i : BufItem). is_some (own_edit i.edit)) c.take_item-item.ensures.value ∙ sym (ap (λ (x : Change). is_some (own_edit x.edit)) (change_is block c.self.inside.items c.self.invariant))
     ∙ ap (λ (l : Leg). is_some (own_edit (change_of block l).edit)) c.self.view_is ∙ c.requires.own
+
+pub written-item-requires-clause-within : goal.written-item-requires-clause-within
+written-item-requires-clause-within c =
+    let block = c.args.block in
+    let same : unwrap_or c.take_item-item.result.edit [] ≡ unwrap_or (change_of block c.args.self.now).edit [] =
+    ap (λ (i : BufItem). unwrap_or i.edit []) c.take_item-item.ensures.value ∙ sym (ap (λ (x : Change). unwrap_or x.edit []) (change_is block c.self.inside.items c.self.invariant))
+    ∙ ap (λ (l : Leg). unwrap_or (change_of block l).edit []) c.self.view_is in
+    omega (arith, ap length same, c.requires.within)
 
 pub put-requires : goal.put-requires
 put-requires c =
