@@ -65,7 +65,7 @@ impl Form {
     }
 
     /// The bytes of a block, as many as a content has today.
-    pub(crate) fn block_bytes(self) -> usize
+    pub fn block_bytes(self) -> usize
         ensures value { result ≡ self.size }
         ensures today { result ≡ BLOCK_BYTES }
     {

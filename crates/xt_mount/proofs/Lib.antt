@@ -17,3 +17,4 @@ pub mod StayLemmas
 pub mod ShownLemmas
 pub mod StepLemmas
 pub mod SnapshotLemmas
+pub mod SizeLemmas

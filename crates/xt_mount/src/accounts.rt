@@ -13,7 +13,7 @@ ghost use Rattle.xt_frames.specs.Busy.{committed_of};
 ghost use Rattle.xt_frames.specs.Contents.{brought_in, contents_of};
 ghost use Rattle.xt_frames.specs.Settling.{AreOthersBusy, settled_by};
 ghost use Rattle.xt_frames.specs.Shares.{no_contents};
-ghost use Rattle.xt_mount.specs.Accounts.{AreAlone, IsAlone, IsUnchanged, cleaned_in, closed_in, flown_in, kept_in, landed_in, legs_in, lists_in, lost_in, no_accounts, opened_in, releg, used_in};
+ghost use Rattle.xt_mount.specs.Accounts.{AreAlone, HaveChunks, IsAlone, IsUnchanged, cleaned_in, closed_in, flown_in, kept_in, landed_in, legs_in, lists_in, lost_in, no_accounts, opened_in, releg, used_in};
 ghost use Rattle.xt_mount.specs.Settling.{AreChangedBusy, is_busy_in};
 ghost use Rattle.xt_mount.specs.Shown.{has_in_place};
 ghost use Rattle.xt_items.specs.Lists.{flight_number};
@@ -395,6 +395,7 @@ impl Accounts {
         requires alone { IsAlone trans block self.old.transactions }
         requires some { 0 < length bytes.now }
         requires within { first + length bytes.now ≤ BLOCK_BYTES }
+        requires seen { IfSome (at trans self.old.transactions) (λ t. first + length bytes.now ≤ length (seen self.old.form.size block t.leg self.old.frames)) }
         requires few { IfSome (at trans self.old.transactions) (λ t. is_in block t.leg.changes ≡ false → length t.leg.changes + length t.leg.holds < ROOM) }
         requires fits { IfSome (at trans self.old.transactions) (λ t. charge self.old.form.ends (edited block [] (marks first (length bytes.now)) t.leg).changes ≤ t.unit) }
         ensures ok { OnOk result (IfSome (at trans self.old.transactions) (λ t. self.new ≡ releg trans t (logged_leg self.old.form.size block first bytes.now self.old.frames t.leg) self.old)) }
@@ -508,11 +509,12 @@ impl Accounts {
         self.journal.bring(block);
     }
 
-    /// A block becomes busy, on a live mount one that is not listed, with this content. It takes no memory.
+    /// A block becomes busy, on a live mount one that is not listed, with this content, which has the mount's size. It takes no memory.
     pub fn bring_content(&mut self, block: u64, content: Content)
         requires unlisted { is_none self.old.shut ≡ true → is_in block self.old.items.cil ≡ false }
         requires unchanged { IsUnchanged block self.old.transactions }
         requires room { length self.old.frames.committed < ROOM }
+        requires size { length content ≡ self.old.form.size }
         ensures { self.new ≡ record self.old { frames = record self.old.frames { committed = put block content self.old.frames.committed; idle = without block self.old.frames.idle } } }
     {
         self.journal.bring_content(block, content);
@@ -553,12 +555,13 @@ impl Accounts {
 
     // ---- ends of legs
     /// A transaction ends, and its leg is committed: its edits are the committed contents, and its marks are joined to the
-    /// commit list. It takes no memory.
+    /// commit list; these are of chunks that its contents have. It takes no memory.
     pub fn commit(&mut self, trans: u64)
         requires there { is_in trans self.old.transactions ≡ true }
         requires alone { IfSome (at trans self.old.transactions) (λ t. AreAlone trans t.leg.changes self.old.transactions) }
         requires contents { IfSome (at trans self.old.transactions) (λ t. length self.old.frames.committed + length t.leg.changes ≤ ROOM) }
         requires list { IfSome (at trans self.old.transactions) (λ t. length self.old.items.cil + length t.leg.changes ≤ ROOM) }
+        requires chunks { IfSome (at trans self.old.transactions) (λ t. HaveChunks self.old.items.cil t.leg.changes) }
         requires paid { IfSome (at trans self.old.transactions) (λ t. cost self.old.form.ends (with_marks t.leg.changes self.old.items.cil) ≤ cost self.old.form.ends self.old.items.cil + t.unit * t.legs) }
         ensures { IfSome (at trans self.old.transactions) (λ t. self.new ≡ closed_in trans (kept_in t self.old)) }
     {
@@ -580,6 +583,7 @@ impl Accounts {
         requires rising { IsRising self.old.transactions }
         requires contents { IfSome (at trans self.old.transactions) (λ t. length self.old.frames.committed + length t.leg.changes ≤ ROOM) }
         requires list { IfSome (at trans self.old.transactions) (λ t. length self.old.items.cil + length t.leg.changes ≤ ROOM) }
+        requires chunks { IfSome (at trans self.old.transactions) (λ t. HaveChunks self.old.items.cil t.leg.changes) }
         requires legs { IfSome (at trans self.old.transactions) (λ t. 1 ≤ t.legs) }
         requires paid { IfSome (at trans self.old.transactions) (λ t. cost self.old.form.ends (with_marks t.leg.changes self.old.items.cil) ≤ cost self.old.form.ends self.old.items.cil + t.unit) }
         requires room { IfSome (at trans self.old.transactions) (λ t. is_no_room (grant_of t) (cost self.old.form.ends (with_marks t.leg.changes self.old.items.cil)) (ledger self.old.form.ends self.old.log_bytes self.old.transactions self.old.items) ≡ false) }

@@ -4,6 +4,7 @@ ghost use Rattle.std.specs.Prelude.{◌≡◌, ◌≤◌, ◌<◌, true, All, le
 ghost use Rattle.xt_base.specs.Alone.{has_begun};
 ghost use Rattle.xt_base.specs.Calls.{gives};
 ghost use Rattle.xt_base.specs.Jobs.{begin as begin_step, begun as begun_step, end as end_step, failed as failed_step, flight_pieces, is_ok, landed as landed_step, next_pieces};
+ghost use Rattle.xt_base.specs.Sized.{IsSized, IsWithin};
 ghost use Rattle.xt_base.specs.Sound.{IsSound};
 ghost use Rattle.xt_base.specs.Text.{item_text};
 ghost use Rattle.xt_ckpt.specs.Items.{item_bytes, HasForm};
@@ -26,10 +27,12 @@ use xt_vectors::vector::LogVector;
 impl Machine {
     /// The committed items with their log vectors, on a live mount.
     fn items_now(&self) -> Result<Vec<Item>, AllocError>
-        requires { is_none self.now.accounts.shut ≡ true }
+        requires live { is_none self.now.accounts.shut ≡ true }
+        requires sized { IsSized (state_of self.now) }
         ensures text { IfOk result (λ items. flat_map item_bytes items.items ≡ flat_map (entry_bytes self.now.accounts.form.size self.now.accounts.frames.committed) self.now.accounts.items.cil) }
         ensures blocks { IfOk result (λ items. map entry_block self.now.accounts.items.cil ≡ map (λ (i : AnItem). i.block) items.items) }
         ensures form { IfOk result (λ items. All HasForm items.items) }
+        ensures within { IfOk result (λ items. All (λ (i : AnItem). IsWithin self.now.accounts.form.size i.chunks) items.items) }
     {
         let mut items = Vec::new(self.alloc);
         for v in self.accounts.vectors() {
@@ -42,6 +45,7 @@ impl Machine {
     /// The pieces of a checkpoint of the committed items, as they are now, on a live mount.
     fn pieces_now(&self) -> Result<Vec<Bytes>, AllocError>
         requires sound { IsSound (state_of self.now) }
+        requires sized { IsSized (state_of self.now) }
         requires live { is_none self.now.accounts.shut ≡ true }
         requires worth { 0 < length self.now.accounts.items.cil }
         ensures pieces { IfOk result (λ pieces. pieces.items ≡ next_pieces (state_of self.now)) }
@@ -59,6 +63,7 @@ impl Machine {
     /// nothing to do.
     pub fn begin(&mut self) -> Result<Reply, AllocError>
         requires sound { IsSound (state_of self.old) }
+        requires sized { IsSized (state_of self.old) }
         requires outstanding { is_some (state_of self.old).jobs.ckpt ≡ true }
         requires waiting { is_none self.old.accounts.items.flight ≡ true }
         ensures ok { IfOk result (λ reply. gives reply (state_of self.new) ≡ begin_step (state_of self.old)) }
@@ -78,6 +83,7 @@ impl Machine {
     /// changed only where a checkpoint is begun.
     pub fn begin_shared(&mut self, copies: &mut Vec<Bytes>) -> Result<Reply, AllocError>
         requires sound { IsSound (state_of self.old) }
+        requires sized { IsSized (state_of self.old) }
         requires outstanding { is_some (state_of self.old).jobs.ckpt ≡ true }
         requires waiting { is_none self.old.accounts.items.flight ≡ true }
         ensures ok { IfOk result (λ reply. gives reply (state_of self.new) ≡ begin_step (state_of self.old)) }
@@ -166,6 +172,7 @@ impl Machine {
 fn item_of(alloc: Global, block: u64, vector: &LogVector) -> Result<Item, AllocError>
     ensures text { IfOk result (λ item. item_bytes item ≡ item_text block vector.now.chunks vector.now.bytes) }
     ensures block { IfOk result (λ item. item.block ≡ block) }
+    ensures chunks { IfOk result (λ item. item.chunks ≡ vector.now.chunks) }
     ensures form { IfOk result HasForm }
 {
     let content = copies_of(alloc, vector.bytes())?;

@@ -4,6 +4,7 @@ ghost use Rattle.std.specs.Prelude.{◌≡◌, ◌&&◌, [], is_some, true, IfOk
 ghost use Rattle.xt_base.specs.Alone.{names_held};
 ghost use Rattle.xt_base.specs.Calls.{commit as commit_step, committed_of, gives, io_of, with_trans};
 ghost use Rattle.xt_base.specs.Maps.{at};
+ghost use Rattle.xt_base.specs.Sized.{IsSized};
 ghost use Rattle.xt_base.specs.Sound.{IsSound};
 ghost use Rattle.xt_mount.specs.Machines.{state_of};
 
@@ -35,7 +36,8 @@ impl Machine {
     /// Ends a transaction. Its changes are committed under the open number; on a shut mount a dirty leg is
     /// given up, which is EIO. The one error is want of memory to name the held blocks, and then nothing changes.
     pub fn commit(&mut self, trans: TransNo) -> Result<Reply, AllocError>
-        requires { IsSound (state_of self.old) }
+        requires sound { IsSound (state_of self.old) }
+        requires sized { IsSized (state_of self.old) }
         ensures ok { IfOk result (λ reply. gives reply (state_of self.new) ≡ with_trans (at trans self.old.accounts.transactions) (state_of self.old) (commit_step [] trans (state_of self.old))) }
         ensures err { OnErr result (state_of self.new ≡ state_of self.old) }
         ensures want { OnErr result (names_held (with_trans (at trans self.old.accounts.transactions) (state_of self.old) (commit_step [] trans (state_of self.old))).reply ≡ true) }

@@ -4,6 +4,7 @@ ghost use Rattle.std.specs.Prelude.{◌≡◌, ◌&&◌, false, is_none, is_some
 ghost use Rattle.xt_base.specs.Calls.{closed, is_no_room, legs_after, with_legs};
 ghost use Rattle.xt_base.specs.Legs.{aborted, ended, is_dirty, owner_aborted, owner_after};
 ghost use Rattle.xt_base.specs.Maps.{at, is_in};
+ghost use Rattle.xt_base.specs.Sized.{IsSized};
 ghost use Rattle.xt_base.specs.Sound.{IsSound};
 ghost use Rattle.xt_mount.specs.Ending.{owner_kept, owner_left};
 ghost use Rattle.xt_mount.specs.Machines.{state_of};
@@ -18,6 +19,7 @@ impl Machine {
     /// A transaction ends, and its leg is committed. It takes no memory.
     pub fn close(&mut self, trans: TransNo)
         requires sound { IsSound (state_of self.old) }
+        requires sized { IsSized (state_of self.old) }
         requires there { is_in trans self.old.accounts.transactions ≡ true }
         requires kept { IfSome (at trans self.old.accounts.transactions) (λ t. (is_dirty t.leg && is_some self.old.accounts.shut) ≡ false) }
         ensures { IfSome (at trans self.old.accounts.transactions) (λ t. state_of self.new ≡ closed trans (ended trans t.leg (state_of self.old))) }
@@ -37,6 +39,7 @@ impl Machine {
     /// A leg is committed, and the next one of its transaction begins. It takes no memory.
     pub fn next_leg(&mut self, trans: TransNo)
         requires sound { IsSound (state_of self.old) }
+        requires sized { IsSized (state_of self.old) }
         requires there { is_in trans self.old.accounts.transactions ≡ true }
         requires live { is_none self.old.accounts.shut ≡ true }
         requires room { IfSome (at trans self.old.accounts.transactions) (λ t. is_no_room trans t (state_of self.old) ≡ false) }

@@ -2,10 +2,11 @@
 
 ghost use Rattle.std.specs.Prelude.{◌≡◌, ◌+◌, ◌<◌, ◌≤◌, ◌||◌, [], None, false, true, length, IfOk, OnErr, OnOk, IfSome};
 ghost use Rattle.xt_base.specs.Alone.{is_refusal};
-ghost use Rattle.xt_base.specs.Calls.{edited, first_of, gives, is_fresh, is_own, log as log_step, log_refusals, logged_leg, not_fresh, with_leg, with_trans};
+ghost use Rattle.xt_base.specs.Calls.{edited, first_of, gives, is_fresh, is_own, log as log_step, log_refusals, logged_leg, not_fresh, seen, with_leg, with_trans};
 ghost use Rattle.xt_base.specs.Chunks.{marks};
 ghost use Rattle.xt_base.specs.Legs.{is_stale};
 ghost use Rattle.xt_base.specs.Maps.{at, is_in};
+ghost use Rattle.xt_base.specs.Sized.{IsSized};
 ghost use Rattle.xt_base.specs.Sound.{IsRising, IsSound};
 ghost use Rattle.xt_base.specs.Space.{charge};
 ghost use Rattle.xt_mount.specs.Accounts.{IsAlone};
@@ -40,6 +41,7 @@ impl Machine {
         ensures refusal { result ≡ first_of (log_refusals trans block first bytes.now opened.now (state_of self.now)) }
         ensures some { result ≡ None → 0 < length bytes.now }
         ensures room { result ≡ None → first + length bytes.now ≤ BLOCK_BYTES }
+        ensures size { result ≡ None → first + length bytes.now ≤ self.now.accounts.form.size }
         ensures own { result ≡ None → is_own (state_of self.now) trans block ≡ true }
         ensures fits { result ≡ None → charge self.now.accounts.form.ends (edited block [] (marks first (length bytes.now)) opened.now.leg).changes ≤ opened.now.unit }
     {
@@ -75,6 +77,7 @@ impl Machine {
         requires alone { IsAlone trans block self.old.accounts.transactions }
         requires some { 0 < length bytes.now }
         requires within { first + length bytes.now ≤ BLOCK_BYTES }
+        requires seen { IfSome (at trans self.old.accounts.transactions) (λ t. first + length bytes.now ≤ length (seen self.old.accounts.form.size block t.leg self.old.accounts.frames)) }
         requires few { IfSome (at trans self.old.accounts.transactions) (λ t. is_in block t.leg.changes ≡ false → length t.leg.changes + length t.leg.holds < ROOM) }
         requires fits { IfSome (at trans self.old.accounts.transactions) (λ t. charge self.old.accounts.form.ends (edited block [] (marks first (length bytes.now)) t.leg).changes ≤ t.unit) }
         ensures ok { OnOk result (IfSome (at trans self.old.accounts.transactions) (λ t. state_of self.new ≡ not_fresh block (with_leg trans t (logged_leg self.old.accounts.form.size block first bytes.now self.old.accounts.frames t.leg) (state_of self.old)))) }
@@ -95,7 +98,8 @@ impl Machine {
         first: u32,
         bytes: &Data,
     ) -> Result<Reply, AllocError>
-        requires { IsSound (state_of self.old) }
+        requires sound { IsSound (state_of self.old) }
+        requires sized { IsSized (state_of self.old) }
         ensures ok { IfOk result (λ reply. gives reply (state_of self.new) ≡ with_trans (at trans self.old.accounts.transactions) (state_of self.old) (log_step trans block first bytes.now (state_of self.old))) }
         ensures err { OnErr result (state_of self.new ≡ state_of self.old) }
         ensures want { OnErr result (is_refusal (with_trans (at trans self.old.accounts.transactions) (state_of self.old) (log_step trans block first bytes.now (state_of self.old))).reply ≡ false) }

@@ -6,8 +6,8 @@ ghost use Rattle.xt_base.specs.Calls.{alone_with, asks, first_of, gives};
 ghost use Rattle.xt_base.specs.Form.{form_one};
 ghost use Rattle.xt_base.specs.Jobs.{begin as begin_step, end as end_step, fits_pieces, fits_plan, flight_pieces, flush as flush_step, flush_plan, is_begun, is_ckpt, is_waiting, posted as posted_state};
 ghost use Rattle.xt_base.specs.Maps.{at, is_in};
-ghost use Rattle.xt_base.specs.Order.{is_there};
-ghost use Rattle.xt_base.specs.State.{mount_of};
+ghost use Rattle.xt_base.specs.Order.{has_size, is_there};
+ghost use Rattle.xt_base.specs.State.{State as AnyState, mount_of};
 ghost use Rattle.xt_base.specs.declared.steps.Errno.TheVariants.{NoMemory};
 ghost use Rattle.xt_frames.specs.Shares.{no_contents};
 ghost use Rattle.xt_mount.specs.Accounts.{IsUnchanged};
@@ -37,7 +37,8 @@ pub enum Stage {
 }
 
 /// One life of a slot. Clauses see the state of the slot; in every state the log space in use is within the
-/// log, at most 64 blocks are busy, and the pieces in flight are such as a log device takes.
+/// log, at most 64 blocks are busy, contents and marks are those of blocks of the mount's size, and the pieces in flight are such
+/// as a log device takes.
 #[derive(Debug, Drop)]
 pub struct Mount {
     machine: Machine,
@@ -46,6 +47,7 @@ pub struct Mount {
 impl Model for Mount {
     ghost use Rattle.xt_base.specs.Jobs.{flight_pieces};
     ghost use Rattle.xt_base.specs.State.{State};
+    ghost use Rattle.xt_base.specs.Sized.{IsSized};
     ghost use Rattle.xt_base.specs.Sound.{IsSound};
     ghost use Rattle.xt_mount.specs.Texts.{ArePieces};
 
@@ -55,7 +57,7 @@ impl Model for Mount {
 
     ghost view = { λ m. state_of m.machine };
 
-    ghost invariant = { λ m. IsSound (state_of m.machine) × ArePieces (flight_pieces m.machine.accounts.items.flight) };
+    ghost invariant = { λ m. IsSound (state_of m.machine) × IsSized (state_of m.machine) × ArePieces (flight_pieces m.machine.accounts.items.flight) };
 }
 
 impl Mount {
@@ -177,6 +179,7 @@ impl Mount {
         ensures served { IsCallUnlessMemory (may_want_memory request.now) (alone_with [] request.now answer.now self.old) result self.new self.old }
         ensures same { IsSameMount self.new self.old }
     {
+        answered_in_size(self.machine.accounts.form(), answer);
         match self.machine.serve(request, answer) {
             Ok(reply) => reply,
             Err(_) => Reply::Refused(Errno::NoMemory),
@@ -286,6 +289,7 @@ impl Mount {
     pub fn committed(&self, block: Block) -> Option<&[u8]>
         requires { IsUnchanged block self.now.transactions }
         ensures value { option_copied result ≡ at block self.now.frames.committed }
+        ensures size { IfSome result (λ bytes. length bytes.now ≡ self.now.form.size) }
         ensures whole { IfSome result (λ bytes. length bytes.now ≡ BLOCK_BYTES) }
     {
         match self.machine.accounts.committed(block.0) {
@@ -306,5 +310,18 @@ impl Mount {
     {
         let _name = name;
         self.machine.flush(&answers)
+    }
+}
+
+/// A content that a device answers has the size of a mount's blocks, since both have one size today. For a proof, at run time nothing.
+fn answered_in_size(form: Form, answer: &Answer)
+    ensures { (s : AnyState) → s.form ≡ form → has_size answer.now (Some s) ≡ true }
+{
+    let _today = form.block_bytes();
+    match answer {
+        Answer::Content(content) => {
+            let _whole = content.bytes();
+        }
+        Answer::None | Answer::Failed => {}
     }
 }

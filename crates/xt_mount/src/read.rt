@@ -5,7 +5,7 @@ ghost use Rattle.xt_base.specs.Alone.{is_refusal};
 ghost use Rattle.xt_base.specs.Calls.{answered, asks, at_end, busied, first_of, gives, is_absent, is_elsewhere, is_fresh, is_own, is_resident, read as read_step, read_asks, read_refusals, with_owner, with_trans};
 ghost use Rattle.xt_base.specs.Legs.{is_dirty, is_stale, own_count};
 ghost use Rattle.xt_base.specs.Maps.{at, is_in};
-ghost use Rattle.xt_base.specs.Order.{is_there};
+ghost use Rattle.xt_base.specs.Order.{has_size};
 ghost use Rattle.xt_base.specs.Sound.{IsSound};
 ghost use Rattle.xt_base.specs.declared.steps.Owner.TheVariants.{Trans as OwnedBy};
 ghost use Rattle.xt_mount.specs.Come.{read_block};
@@ -87,18 +87,19 @@ impl Machine {
         }
     }
 
-    /// A block that nobody has is the transaction's, with the content that the device gave.
+    /// A block that nobody has is the transaction's, with the content that the device gave, which has the mount's size.
     fn take_content(&mut self, trans: TransNo, block: Block, content: Content)
         requires sound { IsSound (state_of self.old) }
         requires absent { is_absent trans block (state_of self.old) ≡ true }
         requires free { is_in block self.old.locks ≡ false }
+        requires size { length content ≡ self.old.accounts.form.size }
         ensures { state_of self.new ≡ with_owner block (OwnedBy trans 0) (busied block content (state_of self.old)) }
     {
         self.accounts.bring_content(block.0, content);
         let _locked = self.locks.try_lock(trans, block);
     }
 
-    /// What the device answered to a read. A failure is EIO, and shuts the mount where the leg is dirty.
+    /// What the device answered to a read, where a content has the mount's size. A failure is EIO, and shuts the mount where the leg is dirty.
     fn take_answer(
         &mut self,
         trans: TransNo,
@@ -109,6 +110,7 @@ impl Machine {
         requires sound { IsSound (state_of self.old) }
         requires absent { is_absent trans block (state_of self.old) ≡ true }
         requires free { is_elsewhere (state_of self.old) trans block ≡ false }
+        requires size { has_size answer.now (Some (state_of self.old)) ≡ true }
         ensures ok { IfOk result (λ reply. IsAnswered trans block dirty answer.now reply (state_of self.new) (state_of self.old)) }
         ensures err { OnErr result (state_of self.new ≡ state_of self.old) }
         ensures want { OnErr result (is_given answer.now ≡ true) }
@@ -132,7 +134,8 @@ impl Machine {
         block: Block,
         answer: &Answer,
     ) -> Result<Reply, AllocError>
-        requires { IsSound (state_of self.old) }
+        requires sound { IsSound (state_of self.old) }
+        requires size { has_size answer.now (Some (state_of self.old)) ≡ true }
         ensures ok { IfOk result (λ reply. gives reply (state_of self.new) ≡ with_trans (at trans self.old.accounts.transactions) (state_of self.old) (read_step trans block answer.now (state_of self.old))) }
         ensures err { OnErr result (state_of self.new ≡ state_of self.old) }
         ensures want { OnErr result (is_refusal (with_trans (at trans self.old.accounts.transactions) (state_of self.old) (read_step trans block answer.now (state_of self.old))).reply ≡ false) }

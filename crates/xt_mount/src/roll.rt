@@ -6,6 +6,7 @@ ghost use Rattle.xt_base.specs.Calls.{gives, held_of, io_of as io_reply, roll as
 ghost use Rattle.xt_base.specs.Legs.{aborted};
 ghost use Rattle.xt_base.specs.Maps.{at, is_in};
 ghost use Rattle.xt_base.specs.Settle.{settled};
+ghost use Rattle.xt_base.specs.Sized.{IsSized};
 ghost use Rattle.xt_base.specs.Sound.{IsSound};
 ghost use Rattle.xt_mount.specs.Machines.{state_of};
 
@@ -20,7 +21,8 @@ impl Machine {
     /// where no space is left, and then a checkpoint and a flush are asked, and nothing is committed. The one error is want
     /// of memory to name the held blocks, and then nothing changes.
     pub fn roll(&mut self, trans: TransNo) -> Result<Reply, AllocError>
-        requires { IsSound (state_of self.old) }
+        requires sound { IsSound (state_of self.old) }
+        requires sized { IsSized (state_of self.old) }
         ensures ok { IfOk result (λ reply. gives reply (state_of self.new) ≡ with_trans (at trans self.old.accounts.transactions) (state_of self.old) (roll_step [] trans (state_of self.old))) }
         ensures err { OnErr result (state_of self.new ≡ state_of self.old) }
         ensures want { OnErr result (names_held (with_trans (at trans self.old.accounts.transactions) (state_of self.old) (roll_step [] trans (state_of self.old))).reply ≡ true) }

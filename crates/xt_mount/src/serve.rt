@@ -1,9 +1,11 @@
 //! Requests and jobs, each to the method that serves it.
 
-ghost use Rattle.std.specs.Prelude.{◌≡◌, ◌/◌, [], true, if◌then◌else◌, IfOk, OnErr};
+ghost use Rattle.std.specs.Prelude.{◌≡◌, ◌/◌, [], Some, true, if◌then◌else◌, IfOk, OnErr};
 ghost use Rattle.xt_base.specs.Alone.{may_want_memory};
 ghost use Rattle.xt_base.specs.Calls.{alone_with, gives};
 ghost use Rattle.xt_base.specs.Jobs.{is_owed, is_wanted, is_worth};
+ghost use Rattle.xt_base.specs.Order.{has_size};
+ghost use Rattle.xt_base.specs.Sized.{IsSized};
 ghost use Rattle.xt_base.specs.Sound.{IsSound};
 ghost use Rattle.xt_base.specs.declared.steps.Answer.{Answer as AnyAnswer};
 ghost use Rattle.xt_mount.specs.Come.{is_of_mount, owed_name};
@@ -17,9 +19,12 @@ use xt_base::names::{JobKind, JobName};
 use xt_base::steps::{Answer, Reply, Request};
 
 impl Machine {
-    /// Serves a request, with the home device's answer where it asks one. Where memory is refused nothing changes.
+    /// Serves a request, with the home device's answer where it asks one: a content of the mount's size, or none. Where memory is refused nothing
+    /// changes.
     pub fn serve(&mut self, request: &Request, answer: &Answer) -> Result<Reply, AllocError>
         requires sound { IsSound (state_of self.old) }
+        requires sized { IsSized (state_of self.old) }
+        requires size { has_size answer.now (Some (state_of self.old)) ≡ true }
         ensures ok { IfOk result (λ reply. gives reply (state_of self.new) ≡ alone_with [] request.now answer.now (state_of self.old)) }
         ensures err { OnErr result (state_of self.new ≡ state_of self.old) }
         ensures want { OnErr result (may_want_memory request.now (alone_with [] request.now answer.now (state_of self.old)).reply ≡ true) }

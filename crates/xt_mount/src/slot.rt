@@ -211,6 +211,7 @@ impl MountSlot {
     pub fn committed(&self, block: Block) -> Option<&[u8]>
         requires { IsUnchangedIn block self.now.mounted }
         ensures value { option_copied result ≡ at block (contents_in self.now.mounted) }
+        ensures size { IfSome result (λ bytes. length bytes.now ≡ (form_in self.now.mounted).size) }
         ensures whole { IfSome result (λ bytes. length bytes.now ≡ BLOCK_BYTES) }
     {
         match &self.mount {

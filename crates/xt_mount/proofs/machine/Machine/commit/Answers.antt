@@ -12,7 +12,7 @@ use Rattle.xt_base.specs.Calls.{closed}
 use Rattle.xt_mount.proofs.machine.Machine.commit.Goals as goal
 
 pub held-requires : goal.held-requires
-held-requires c = omega (arith, few_holds (state_of c.args.self.now) c.requires c.args.trans c.in-Some.opened (sym (named (state_of c.args.self.now).transactions c.in-Some.ensures c.trans.view_is)), ap (λ (l : Leg). length l.holds) c.leg.ensures)
+held-requires c = omega (arith, few_holds (state_of c.args.self.now) c.requires.sound c.args.trans c.in-Some.opened (sym (named (state_of c.args.self.now).transactions c.in-Some.ensures c.trans.view_is)), ap (λ (l : Leg). length l.holds) c.leg.ensures)
 
 pub close_aborted-requires-clause-kept : goal.close_aborted-requires-clause-kept
 close_aborted-requires-clause-kept c =
@@ -23,18 +23,18 @@ close_aborted-requires-clause-kept c =
 
 pub settle_unless-requires-clause-rising : goal.settle_unless-requires-clause-rising
 settle_unless-requires-clause-rising c =
-    rising_committed (state_of c.args.self.now) (state_of c.close.new.self) c.args.trans c.in-Some.opened (λ u x. closed c.args.trans x) c.changes_all-stays.result c.requires
+    rising_committed (state_of c.args.self.now) (state_of c.close.new.self) c.args.trans c.in-Some.opened (λ u x. closed c.args.trans x) c.changes_all-stays.result c.requires.sound
     (named (state_of c.args.self.now).transactions c.in-Some.ensures c.trans.view_is) c.close.ensures (λ u x. refl)
 
 pub settle_unless-requires-clause-others : goal.settle_unless-requires-clause-others
 settle_unless-requires-clause-others c stays =
-    others_committed (state_of c.args.self.now) (state_of c.close.new.self) c.args.trans c.in-Some.opened (λ u x. closed c.args.trans x) c.changes_all-stays.result c.requires
+    others_committed (state_of c.args.self.now) (state_of c.close.new.self) c.args.trans c.in-Some.opened (λ u x. closed c.args.trans x) c.changes_all-stays.result c.requires.sound
     (named (state_of c.args.self.now).transactions c.in-Some.ensures c.trans.view_is) c.close.ensures (λ u x others. others) c.changes_all-stays.ensures stays
 
 pub settle-requires : goal.settle-requires
 settle-requires c =
-    busy_aborted (state_of c.args.self.now) c.requires c.args.trans c.in-Some.opened (named (state_of c.args.self.now).transactions c.in-Some.ensures c.trans.view_is) (state_of c.close_aborted.new.self) c.close_aborted.ensures
+    busy_aborted (state_of c.args.self.now) c.requires.sound c.args.trans c.in-Some.opened (named (state_of c.args.self.now).transactions c.in-Some.ensures c.trans.view_is) (state_of c.close_aborted.new.self) c.close_aborted.ensures
 
 pub settle_unless-requires-clause-changed : goal.settle_unless-requires-clause-changed
 settle_unless-requires-clause-changed c =
-    busy_ended (state_of c.args.self.now) c.requires c.args.trans c.in-Some.opened (named (state_of c.args.self.now).transactions c.in-Some.ensures c.trans.view_is) (state_of c.close.new.self) c.close.ensures
+    busy_ended (state_of c.args.self.now) c.requires.sound c.args.trans c.in-Some.opened (named (state_of c.args.self.now).transactions c.in-Some.ensures c.trans.view_is) (state_of c.close.new.self) c.close.ensures

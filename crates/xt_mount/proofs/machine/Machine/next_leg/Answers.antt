@@ -3,6 +3,7 @@ use Rattle.xt_mount.proofs.RollLemmas.{contents_room, leg_left, list_room, paid_
 use Rattle.xt_mount.specs.Machines.{state_of}
 use Rattle.xt_mount.proofs.EndLemmas.{as_named, named}
 use Rattle.std.proofs.Common.{sym}
+use Rattle.xt_mount.proofs.SizeLemmas.{chunks_there}
 use Rattle.xt_mount.proofs.machine.Machine.next_leg.Goals as goal
 
 pub roll-requires-clause-contents : goal.roll-requires-clause-contents
@@ -33,3 +34,8 @@ roll-requires-clause-room c =
 pub roll-requires-clause-alone : goal.roll-requires-clause-alone
 roll-requires-clause-alone c =
     leg_alone (state_of c.args.self.now) c.requires.sound c.args.trans _ c.in-Some.opened (named (state_of c.args.self.now).transactions c.in-Some.ensures c.trans.view_is) (sym c.trans-2.view_is)
+
+pub roll-requires-clause-chunks : goal.roll-requires-clause-chunks
+roll-requires-clause-chunks c =
+    as_named (state_of c.args.self.now).transactions _ (sym c.trans-2.view_is)
+    (chunks_there (state_of c.args.self.now) c.args.trans c.in-Some.opened c.requires.sized (named (state_of c.args.self.now).transactions c.in-Some.ensures c.trans.view_is))
