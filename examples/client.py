@@ -4,13 +4,17 @@
     examples/client.py PORT LINE..      says each line, and prints what it is told
 
 As a module: `Client(port)` is one session; `ask(line)` says a line and gives the reply, and the other methods are
-requests to one mount. A reply that is an errno name is raised as `Refused`, whose `errno` is that name.
+requests to one mount. A reply that is an errno name is raised as `Refused`, whose `errno` is that name, and whose `held` are the
+blocks that stay held behind it.
 """
 import re
 import socket
 import sys
+import time
 
 ERRNO = re.compile(r'E[A-Z]+')
+# seconds between two times that the same is asked: twice as long each time, up to the most
+LEAST_PAUSE, MOST_PAUSE = 0.001, 0.1
 
 
 def spell(data):
@@ -25,12 +29,22 @@ def spell(data):
     return '.'.join(parts + [short] * bool(short)) or '-'
 
 
-class Refused(Exception):
-    """A request was refused: EAGAIN, EBUSY, EINVAL, EIO, ENOBUFS, ENODEV, ENOMEM, ENOSPC, ESTALE, or `bad line`."""
+def pauses():
+    """How long to wait each time before the same is asked again."""
+    pause = LEAST_PAUSE
+    while True:
+        yield pause
+        pause = min(2 * pause, MOST_PAUSE)
 
-    def __init__(self, errno):
-        super().__init__(errno)
-        self.errno = errno
+
+class Refused(Exception):
+    """A request was refused: `errno` is EAGAIN, EBUSY, EINVAL, EIO, ENOBUFS, ENODEV, ENOMEM, ENOSPC, ESTALE, or `bad line`. A commit or a
+    roll that gives its leg up tells the blocks that it leaves held: `held`, ascending, which are still this session's to give back."""
+
+    def __init__(self, reply):
+        super().__init__(reply)
+        self.errno, _, blocks = reply.partition(' held ')
+        self.held = [int(block) for block in blocks.split()]
 
 
 class Client:
@@ -75,13 +89,14 @@ class Client:
         return reply
 
     def again(self, line):
-        """The same, again while it is EAGAIN or ENOMEM: what others have may be given back."""
-        while True:
+        """The same, again after a pause while it is EAGAIN or ENOMEM: what others have may be given back."""
+        for pause in pauses():
             try:
                 return self.request(line)
             except Refused as refused:
                 if refused.errno not in ('EAGAIN', 'ENOMEM'):
                     raise
+            time.sleep(pause)
 
     def begin(self, mount, unit, count=1, rolls=False):
         """Opens a transaction of a mount, as '0.1': its name, as 't1'."""
@@ -96,8 +111,10 @@ class Client:
 
     def force(self, mount):
         """Waits until all that is committed is in the log."""
-        while self.again(f'{mount} force') != 'done':
-            pass
+        for pause in pauses():
+            if self.again(f'{mount} force') == 'done':
+                return
+            time.sleep(pause)
 
 
 def main(words):
