@@ -1,0 +1,3 @@
+pub mod ElementLemmas
+mod LooseSteps
+pub mod WorkedLemmas

@@ -1,0 +1,139 @@
+-- What becomes of a mount whose jobs a caller does.
+use Rattle.std.specs.Prelude.{Bool, List, MatchBool, None, Option, Some, [], bit_and, drop, if◌then◌else◌, length, nat_le, nat_lt, not, pos, slice_get, ℕ, ℤ, ◌++◌, ◌==◌, ◌∷◌, ◌≡◌, ◌⊎◌}
+use Rattle.xt_base.specs.Calls.{Outcome, gives}
+use Rattle.xt_base.specs.Jobs.{begin, end, flight_pieces, flush, flush_plan, is_begun, is_waiting, posted}
+use Rattle.xt_base.specs.Maps.{at}
+use Rattle.xt_base.specs.State.{State}
+use Rattle.xt_base.specs.declared.names.JobKind.{JobKind}
+use Rattle.xt_base.specs.declared.names.JobKind.TheVariants.{Ckpt, Flush}
+use Rattle.xt_base.specs.declared.names.JobName.{JobName}
+use Rattle.xt_base.specs.declared.sizes.TheConstants.{BLOCK_BYTES}
+use Rattle.xt_base.specs.declared.steps.Errno.TheVariants.{Invalid, NoDevice, NoMemory}
+use Rattle.xt_base.specs.declared.steps.HomeAnswers.{HomeAnswers}
+use Rattle.xt_base.specs.declared.steps.LogAnswers.{LogAnswers}
+use Rattle.xt_base.specs.declared.steps.Reply.TheVariants.{Refused}
+use Rattle.xt_c.specs.Replies.{Shows, StandsIn}
+use Rattle.xt_c.specs.Status.{refusal, status_of}
+use Rattle.xt_c.specs.declared.words.PlanWords.{PlanWords}
+use Rattle.xt_c.specs.declared.words.ReplyWords.{ReplyWords}
+use Rattle.xt_mount.specs.Come.{owed_name}
+
+-- ---- jobs
+-- the kind of a job: 0 a checkpoint, 1 a flush
+abbrev pub kind_of : ℕ → Option JobKind
+kind_of word = if word == 0 then Some Ckpt else (if word == 1 then Some Flush else None)
+
+-- the name of a mount's job
+abbrev pub name_in : JobKind → ℕ → State → JobName
+name_in kind serial m = record { slot = m.slot; life = m.life; kind = kind; serial = serial }
+
+-- what a caller sees of a job step: the reply's words, and the mount that the handle holds
+pub record Worked : Type 0 where
+  pub reply : ReplyWords
+  pub mount : Option State
+
+-- these, side by side
+abbrev pub worked : ReplyWords → Option State → Worked
+worked reply mount = record { reply = reply; mount = mount }
+
+-- the reply is told, and the mount goes on
+pub record Goes (o : Outcome) (returned : ℤ) (new : Worked) : Type 0 where
+  pub status : returned ≡ status_of o.reply
+  pub reply : Shows o.reply new.reply
+  pub mount : new.mount ≡ Some o.state
+
+-- a step that may come: what the definitions give, or ENOMEM with the mount as it was
+abbrev pub IsStep : State → Option Outcome → ℤ → Worked → Worked → Type 0
+IsStep m None status new old = (status ≡ refusal Invalid) × (new ≡ old)
+IsStep m (Some o) status new old = Goes o status new ⊎ Goes (gives (Refused NoMemory) m) status new
+
+-- the same of a handle; one that holds no mount is refused
+abbrev pub IsWorked : (State → Option Outcome) → Option State → ℤ → Worked → Worked → Type 0
+IsWorked step None status new old = (status ≡ refusal NoDevice) × (new ≡ old)
+IsWorked step (Some m) status new old = IsStep m (step m) status new old
+
+-- ---- take
+-- a job is owed: 1, its serial, and it is posted. None is: 0, and nothing is changed
+abbrev pub IsPosted : JobKind → Option JobName → State → ℤ → ℕ → ℕ → Option State → Type 0
+IsPosted kind None m status new_serial old_serial new = (status ≡ pos 0) × (new_serial ≡ old_serial) × (new ≡ Some m)
+IsPosted kind (Some name) m status new_serial old_serial new = (status ≡ pos 1) × (new_serial ≡ name.serial) × (new ≡ Some (posted kind m))
+
+-- the same of a kind that is one, and of a handle that holds a mount
+abbrev pub IsTaken : Option JobKind → ℤ → ℕ → ℕ → Option State → Option State → Type 0
+IsTaken kind status new_serial old_serial new None = (status ≡ refusal NoDevice) × (new_serial ≡ old_serial) × (new ≡ None)
+IsTaken None status new_serial old_serial new (Some m) = (status ≡ refusal Invalid) × (new_serial ≡ old_serial) × (new ≡ Some m)
+IsTaken (Some kind) status new_serial old_serial new (Some m) = IsPosted kind (owed_name kind m) m status new_serial old_serial new
+
+-- ---- checkpoints
+-- the begin of a checkpoint that waits
+abbrev pub begin_of : ℕ → State → Option Outcome
+begin_of serial m = if is_waiting (name_in Ckpt serial m) m then Some (begin m) else None
+
+-- what the log answered: how many pieces it took, and where these are all, whether its sync was good; none where they are more
+abbrev pub log_answers : ℕ → ℕ → ℕ → Option LogAnswers
+log_answers taken synced pieces =
+    if taken == pieces then Some (record { taken = taken; sync = Some (not (synced == 0)) })
+    else (if nat_lt taken pieces then Some (record { taken = taken; sync = None }) else None)
+
+-- the end by these answers
+abbrev pub end_by : State → Option LogAnswers → Option Outcome
+end_by m None = None
+end_by m (Some answers) = Some (end [] answers m)
+
+-- the end of a checkpoint that is begun
+abbrev pub end_of : ℕ → ℕ → ℕ → State → Option Outcome
+end_of serial taken synced m =
+    if is_begun (name_in Ckpt serial m) m then end_by m (log_answers taken synced (length (flight_pieces m.items.flight))) else None
+
+-- a piece that is there and fits goes to the front of the room: its length; else nothing is written
+abbrev pub IsPiece : Option (List ℕ) → ℤ → List ℕ → List ℕ → Type 0
+IsPiece None status new old = (status ≡ refusal Invalid) × (new ≡ old)
+IsPiece (Some piece) status new old =
+    MatchBool (nat_le (length piece) (length old)) ((status ≡ pos (length piece)) × (new ≡ piece ++ drop (length piece) old)) ((status ≡ refusal Invalid) × (new ≡ old))
+
+-- the piece at a place of the checkpoint in flight
+abbrev pub IsPieceOf : ℕ → Option State → ℤ → List ℕ → List ℕ → Type 0
+IsPieceOf index None status new old = (status ≡ refusal NoDevice) × (new ≡ old)
+IsPieceOf index (Some m) status new old = IsPiece (slice_get (flight_pieces m.items.flight) index) status new old
+
+-- ---- flushes
+-- the words say these blocks; the places behind them say nothing
+pub record ShowsPlan (plan : List ℕ) (w : PlanWords) : Type 0 where
+  pub count : w.count ≡ length plan
+  pub blocks : StandsIn plan w.blocks
+
+-- the blocks that a flush writes home now, and how many
+abbrev pub IsPlanOf : Option State → ℤ → PlanWords → PlanWords → Type 0
+IsPlanOf None status new old = (status ≡ refusal NoDevice) × (new ≡ old)
+IsPlanOf (Some m) status new old = (status ≡ pos (length (flush_plan m))) × ShowsPlan (flush_plan m) new
+
+-- the content of a block of the plan fills a room of its length; else nothing is written
+abbrev pub IsHome : Option ℕ → State → ℤ → List ℕ → List ℕ → Type 0
+IsHome None m status new old = (status ≡ refusal Invalid) × (new ≡ old)
+IsHome (Some block) m status new old =
+    MatchBool (length old == BLOCK_BYTES) ((status ≡ pos 0) × (at block m.frames.committed ≡ Some new)) ((status ≡ refusal Invalid) × (new ≡ old))
+
+-- the block at a place of the plan
+abbrev pub IsHomeOf : ℕ → Option State → ℤ → List ℕ → List ℕ → Type 0
+IsHomeOf index None status new old = (status ≡ refusal NoDevice) × (new ≡ old)
+IsHomeOf index (Some m) status new old = IsHome (slice_get (flush_plan m) index) m status new old
+
+-- whether the bit of a number is set
+abbrev pub has_bit : ℕ → ℕ → Bool
+has_bit bits bit = not (bit_and bits bit == 0)
+
+-- what the home device answered: to the write at a place k of the plan by the bit 2 to the k, and to the sync
+abbrev pub home_answers : ℕ → ℕ → ℕ → HomeAnswers
+home_answers count written synced = record {
+  count = count;
+  writes = has_bit written 1 ∷ has_bit written 2 ∷ has_bit written 4 ∷ has_bit written 8 ∷ has_bit written 16 ∷ has_bit written 32 ∷ has_bit written 64 ∷ has_bit written 128 ∷ [];
+  sync = not (synced == 0);
+}
+
+-- the flush of a plan of so many blocks, where it has as many
+abbrev pub flush_by : ℕ → ℕ → ℕ → List ℕ → State → Option Outcome
+flush_by count written synced plan m = if count == length plan then Some (flush [] (home_answers (length plan) written synced) m) else None
+
+-- the flush of a job that waits
+abbrev pub flush_of : ℕ → ℕ → ℕ → ℕ → State → Option Outcome
+flush_of serial count written synced m = if is_waiting (name_in Flush serial m) m then flush_by count written synced (flush_plan m) m else None

@@ -1,0 +1,129 @@
+//! Mounts made and ended.
+
+ghost use Rattle.std.specs.Prelude.{◌≡◌, ◌+◌, ◌⊎◌, IfErr, IfOk, None, Some, pos};
+ghost use Rattle.xt_base.specs.Calls.{first_of};
+ghost use Rattle.xt_base.specs.Form.{form_one};
+ghost use Rattle.xt_base.specs.State.{mount_of};
+ghost use Rattle.xt_base.specs.declared.steps.Errno.TheVariants.{NoMemory};
+ghost use Rattle.xt_c.specs.Calling.{IsOpened, reason_status, shut_status};
+ghost use Rattle.xt_c.specs.Holding.{held};
+ghost use Rattle.xt_frames.specs.Shares.{no_contents};
+ghost use Rattle.xt_mount.specs.Come.{new_refusals};
+
+use crate::handle::Handle;
+use crate::status::refusal;
+use std::alloc::Global;
+use xt_base::names::{Life, Slot};
+use xt_base::steps::{Errno, Reason};
+use xt_frames::share::FrameShare;
+use xt_frames::table::FrameTable;
+use xt_mount::mount::Mount;
+
+/// What an export of this library promises: it goes up with each change of what C sees.
+const VERSION: u32 = 1;
+
+/// The version of what C sees.
+#[unsafe(no_mangle)]
+pub extern "C" fn refskold_abi_version() -> u32
+    ensures { result ≡ VERSION }
+{
+    VERSION
+}
+
+/// The first slot.
+pub fn first_slot() -> Slot
+    ensures { result ≡ 0 }
+{
+    match Slot::new(0) {
+        Some(slot) => slot,
+        None => unreachable!(),
+    }
+}
+
+/// The frames of a mount, without contents. The one error is `NoMemory`.
+fn share_of_one(alloc: Global) -> Result<FrameShare, Errno>
+    ensures ok { IfOk result (λ share. share ≡ no_contents 0) }
+    ensures err { IfErr result (λ errno. errno ≡ NoMemory) }
+{
+    let Ok(mut table) = FrameTable::new(alloc, 1) else {
+        return Err(Errno::NoMemory);
+    };
+    match table.take_share(first_slot()) {
+        Some(share) => Ok(share),
+        None => unreachable!(),
+    }
+}
+
+/// A new mount of the life after `last`.
+fn new_mount(alloc: Global, last: u32, log_bytes: u32, blocks: u64) -> Result<Box<Mount>, Errno>
+    ensures ok { IfOk result (λ mount. (first_of (new_refusals last log_bytes blocks) ≡ None) × (mount.value ≡ mount_of 0 (last + 1) log_bytes blocks form_one)) }
+    ensures err { IfErr result (λ errno. (first_of (new_refusals last log_bytes blocks) ≡ Some errno) ⊎ (errno ≡ NoMemory)) }
+{
+    let share = share_of_one(alloc)?;
+    match Mount::new(alloc, share, Life(last), log_bytes, blocks) {
+        Ok(mount) => match Box::new(alloc, mount) {
+            Ok(mount) => Ok(mount),
+            Err(_) => Err(Errno::NoMemory),
+        },
+        Err((errno, _share)) => Err(errno),
+    }
+}
+
+/// Makes a mount, which a handle that holds none then holds; or an errno, and nothing is changed.
+#[unsafe(no_mangle)]
+pub extern "C" fn refskold_abi_open(
+    alloc: Global,
+    handle: &mut Handle,
+    last: u32,
+    log_bytes: u32,
+    blocks: u64,
+) -> i32
+    ensures { IsOpened last log_bytes blocks result (held handle.new) (held handle.old) }
+{
+    if let Some(mount) = handle.take(alloc) {
+        handle.put(mount);
+        return refusal(Errno::Busy);
+    }
+    match new_mount(alloc, last, log_bytes, blocks) {
+        Ok(mount) => {
+            handle.put(mount);
+            0
+        }
+        Err(errno) => refusal(errno),
+    }
+}
+
+/// Ends a mount, whatever is left of it, and gives its memory back; the handle then holds none.
+#[unsafe(no_mangle)]
+pub extern "C" fn refskold_abi_close(alloc: Global, handle: &mut Handle)
+    ensures { held handle.new ≡ None }
+{
+    let _mount = handle.take(alloc);
+}
+
+/// The number of the reason why a mount is shut, from 1; 0 of a live one.
+fn reason_status(reason: Option<Reason>) -> i32
+    ensures { result ≡ reason_status reason }
+{
+    match reason {
+        None => 0,
+        Some(Reason::MetaIoError) => 1,
+        Some(Reason::LogIoError) => 2,
+        Some(Reason::ForceUmount) => 3,
+        Some(Reason::CorruptIncore) => 4,
+    }
+}
+
+/// Why the mount is shut, from 1; 0 while it is live.
+#[unsafe(no_mangle)]
+pub extern "C" fn refskold_abi_shut(alloc: Global, handle: &mut Handle) -> i32
+    ensures status { result ≡ shut_status (held handle.old) }
+    ensures same { held handle.new ≡ held handle.old }
+{
+    let Some(mount) = handle.take(alloc) else {
+        return refusal(Errno::NoDevice);
+    };
+    let status = reason_status(mount.shut());
+    handle.put(mount);
+    status
+}
