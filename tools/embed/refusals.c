@@ -1,0 +1,166 @@
+/* What bad callers get, and what want of memory leaves: each allocation of a run is refused in turn, and then the call is made again. */
+#define _GNU_SOURCE
+#include "refskold.h"
+#include <stdio.h>
+#include <stdlib.h>
+#include <string.h>
+
+/* ---- the program's memory, which can be refused ---- */
+static long until_refused = -1, asked, living;
+void *__real_malloc(size_t);
+void *__real_realloc(void *, size_t);
+void __real_free(void *);
+static int refuses(void) { return asked++, until_refused >= 0 && until_refused-- == 0; }
+void *__wrap_malloc(size_t n) {
+    void *p = refuses() ? NULL : __real_malloc(n);
+    living += p != NULL;
+    return p;
+}
+void *__wrap_realloc(void *old, size_t n) {
+    void *p = refuses() ? NULL : __real_realloc(old, n);
+    living += p != NULL && old == NULL;
+    return p;
+}
+void __wrap_free(void *p) {
+    living -= p != NULL;
+    __real_free(p);
+}
+
+static int failures;
+static void wants(const char *what, long got, long wanted) {
+    if (got != wanted) failures++, printf("FAILED %s: %ld, wanted %ld\n", what, got, wanted);
+}
+
+static uint8_t block[4097], room[4097];
+
+/* a call that was refused memory changes nothing, and is made again */
+#define AGAIN(status, call)                                        \
+    do {                                                           \
+        refskold before = m;                                       \
+        status = (call);                                           \
+        if (status != -ENOMEM) break;                              \
+        if (memcmp(&before, &m, sizeof m)) wants("handle", 1, 0);  \
+        refused++;                                                 \
+    } while (1)
+
+/* one run, in which the allocation of this number is refused: how many calls were */
+static long run(long number) {
+    refskold m = REFSKOLD_NONE;
+    refskold_reply reply;
+    refskold_plan plan;
+    uint64_t trans = 0, serial = 0, waits = 0;
+    uint32_t pieces, k;
+    long refused = 0;
+    int status;
+    until_refused = number;
+    AGAIN(status, refskold_open(&m, 0, 65536, 64)); wants("open", status, 0);
+    AGAIN(status, refskold_alloc(&m, 30000, 2, 1, &trans)); wants("alloc", status, 0);
+    AGAIN(status, refskold_read_content(&m, trans, 7, block)); wants("read", status, 0);
+    AGAIN(status, refskold_log(&m, trans, 7, 100, "hello", 5)); wants("log", status, 0);
+    AGAIN(status, refskold_get(&m, trans, 8)); wants("get", status, 0);
+    AGAIN(status, refskold_log(&m, trans, 8, 0, block, 4096)); wants("log whole", status, 0);
+    AGAIN(status, refskold_hold(&m, trans, 8)); wants("hold", status, 0);
+    AGAIN(status, refskold_view(&m, trans, 7, room)); wants("view", status, 0);
+    wants("view's bytes", memcmp(room + 100, "hello", 5), 0);
+    AGAIN(status, refskold_roll(&m, trans, &reply)); wants("roll", status, 0);
+    wants("held", (long)reply.held[0], 8);
+    AGAIN(status, refskold_release(&m, 8)); wants("release", status, 0);
+    AGAIN(status, refskold_commit(&m, trans, &reply)); wants("commit", status, 0);
+    AGAIN(status, refskold_force(&m, &waits)); wants("force", (long)waits, 1);
+    AGAIN(status, refskold_take(&m, REFSKOLD_CHECKPOINT, &serial)); wants("take", status, REFSKOLD_TAKEN);
+    AGAIN(status, refskold_begin(&m, serial, &reply)); wants("begin", status, 0);
+    pieces = reply.pieces;
+    for (k = 0; k < pieces; k++) wants("piece", refskold_piece(&m, k, room, 4096) > 0, 1);
+    AGAIN(status, refskold_end(&m, serial, pieces, 1, &reply)); wants("end", reply.word, REFSKOLD_LANDED);
+    AGAIN(status, refskold_push(&m)); wants("push", status, 0);
+    AGAIN(status, refskold_take(&m, REFSKOLD_FLUSH, &serial)); wants("take a flush", status, REFSKOLD_TAKEN);
+    wants("plan", refskold_flush_plan(&m, &plan), 2);
+    wants("home", refskold_home(&m, 0, room), 0), wants("home's bytes", memcmp(room + 100, "hello", 5), 0);
+    AGAIN(status, refskold_flush(&m, serial, 2, 3, 1, &reply)); wants("flush", (long)reply.number, 2);
+    AGAIN(status, refskold_unmount(&m)); wants("unmount", status, 0);
+    wants("gone", refskold_push(&m), -ENODEV);
+    until_refused = -1;
+    return refused;
+}
+
+static void memory(void) {
+    long all, number, refused = 0;
+    asked = 0, run(-1), all = asked;
+    for (number = 0; number < all; number++) refused += run(number);
+    wants("refused calls", refused, all);
+    wants("what is not given back", living, 0);
+    printf("%ld allocations, each refused in turn: %ld calls said ENOMEM and were made again\n", all, refused);
+}
+
+/* ---- bad words ---- */
+static void bad_callers(void) {
+    refskold m = REFSKOLD_NONE;
+    refskold_request q = {0};
+    refskold_reply reply, before;
+    refskold_plan plan;
+    uint64_t trans = 0, serial = 77;
+    wants("no mount: call", refskold_push(&m), -ENODEV);
+    wants("no mount: shut", refskold_shut(&m), -ENODEV);
+    wants("no mount: take", refskold_take(&m, 0, &serial), -ENODEV);
+    wants("no mount: begin", refskold_begin(&m, 1, &reply), -ENODEV);
+    wants("no mount: piece", refskold_piece(&m, 0, room, 4096), -ENODEV);
+    wants("no mount: end", refskold_end(&m, 1, 0, 1, &reply), -ENODEV);
+    wants("no mount: plan", refskold_flush_plan(&m, &plan), -ENODEV);
+    wants("no mount: home", refskold_home(&m, 0, room), -ENODEV);
+    wants("no mount: flush", refskold_flush(&m, 1, 0, 0, 1, &reply), -ENODEV);
+    wants("no mount: close", refskold_close(&m), 0);
+    wants("NULL handle", refskold_open(NULL, 0, 65536, 1), -EINVAL);
+    wants("log too small", refskold_open(&m, 0, 65535, 1), -EINVAL);
+    wants("log too great", refskold_open(&m, 0, 16777217, 1), -EINVAL);
+    wants("no blocks", refskold_open(&m, 0, 65536, 0), -EINVAL);
+    wants("too many blocks", refskold_open(&m, 0, 65536, REFSKOLD_MOST_BLOCKS + 1), -EINVAL);
+    wants("last life", refskold_open(&m, UINT32_MAX, 65536, 1), -ENOSPC);
+    wants("open", refskold_open(&m, UINT32_MAX - 1, 65536, 64), 0);
+    wants("open again", refskold_open(&m, 0, 65536, 64), -EBUSY);
+    wants("alloc", refskold_alloc(&m, 5000, 1, 0, &trans), 0);
+    memset(&reply, 0x5a, sizeof reply), before = reply;
+#define UNTOUCHED(what) wants(what ": reply untouched", memcmp(&reply, &before, sizeof reply), 0)
+    q.word = 21, wants("no word", refskold_call(&m, &q, NULL, 0, 0, NULL, 0, &reply, NULL, 0), -EINVAL), UNTOUCHED("no word");
+    q.word = REFSKOLD_LOG, q.trans = trans, q.block = 7;
+    wants("too many bytes", refskold_call(&m, &q, block, 4097, 0, NULL, 0, &reply, NULL, 0), -EINVAL), UNTOUCHED("too many bytes");
+    wants("NULL with a length", refskold_call(&m, &q, NULL, 1, 0, NULL, 0, &reply, NULL, 0), -EINVAL), UNTOUCHED("NULL with a length");
+    q.word = REFSKOLD_READ;
+    wants("asks", refskold_call(&m, &q, NULL, 0, 0, NULL, 0, &reply, NULL, 0), REFSKOLD_ASKS), wants("asks for", (long)reply.number, 7);
+    before = reply;
+    wants("no answer", refskold_call(&m, &q, NULL, 0, (enum refskold_answer)3, NULL, 0, &reply, NULL, 0), -EINVAL), UNTOUCHED("no answer");
+    wants("short content", refskold_call(&m, &q, NULL, 0, REFSKOLD_CONTENT, block, 4095, &reply, NULL, 0), -EINVAL), UNTOUCHED("short content");
+    wants("read", refskold_read_content(&m, trans, 7, block), 0);
+    wants("not asked for", refskold_call(&m, &q, NULL, 0, REFSKOLD_CONTENT, block, 4096, &reply, NULL, 0), -EINVAL), UNTOUCHED("not asked for");
+    q.word = REFSKOLD_VIEW;
+    wants("short room", refskold_call(&m, &q, NULL, 0, 0, NULL, 0, &reply, room, 4095), -EINVAL), UNTOUCHED("short room");
+    wants("no room", refskold_call(&m, &q, NULL, 0, 0, NULL, 0, &reply, NULL, 0), -EINVAL), UNTOUCHED("no room");
+    wants("no kind", refskold_take(&m, 2, &serial), -EINVAL), wants("serial untouched", (long)serial, 77);
+    wants("none owed", refskold_take(&m, 0, &serial), 0), wants("serial untouched", (long)serial, 77);
+    wants("no such begin", refskold_begin(&m, 1, &reply), -EINVAL), UNTOUCHED("no such begin");
+    wants("no such end", refskold_end(&m, 1, 0, 1, &reply), -EINVAL), UNTOUCHED("no such end");
+    wants("no such flush", refskold_flush(&m, 1, 0, 0, 1, &reply), -EINVAL), UNTOUCHED("no such flush");
+    wants("no such piece", refskold_piece(&m, 0, room, 4096), -EINVAL);
+    wants("log", refskold_log(&m, trans, 7, 0, "x", 1), 0), wants("commit", refskold_commit(&m, trans, &reply), 0);
+    wants("force", refskold_force(&m, &trans), 0);
+    wants("take", refskold_take(&m, 0, &serial), REFSKOLD_TAKEN);
+    wants("begin another", refskold_begin(&m, serial + 1, &reply), -EINVAL);
+    wants("begin", refskold_begin(&m, serial, &reply), 0);
+    wants("begin twice", refskold_begin(&m, serial, &before), -EINVAL);
+    wants("short room for a piece", refskold_piece(&m, 0, room, 3), -EINVAL);
+    wants("past the pieces", refskold_piece(&m, reply.pieces, room, 4096), -EINVAL);
+    wants("more than there are", refskold_end(&m, serial, reply.pieces + 1, 1, &before), -EINVAL);
+    wants("another serial", refskold_end(&m, serial + 1, reply.pieces, 1, &before), -EINVAL);
+    wants("end", refskold_end(&m, serial, reply.pieces, 1, &reply), 0), wants("landed", reply.word, REFSKOLD_LANDED);
+    wants("push", refskold_push(&m), 0), wants("take", refskold_take(&m, 1, &serial), REFSKOLD_TAKEN);
+    wants("another count", refskold_flush(&m, serial, 2, 3, 1, &reply), -EINVAL);
+    wants("past the plan", refskold_home(&m, 1, room), -EINVAL);
+    wants("flush", refskold_flush(&m, serial, 1, 1, 1, &reply), 0);
+    wants("version", (long)refskold_version(), REFSKOLD_VERSION);
+    refskold_close(&m), wants("closed", (long)m.holds, 0);
+}
+
+int main(void) {
+    bad_callers();
+    memory();
+    return failures != 0;
+}
