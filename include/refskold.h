@@ -1,46 +1,85 @@
-/* refskold.h: one mount of Refskold inside a program, driven by the program.
+/* refskold.h: one mount of Refskold inside your program, driven by your calls.
  *
- * A mount keeps metadata blocks in transactions, as XFS does: a transaction locks blocks, changes them, and commits; checkpoints bring what
- * was committed to a log, all of it or nothing; flushes write it home. What a mount answers, and what it asks to be written, is
- * proved; what the devices answer is what the program says.
+ * Refskold is the transaction layer of a journaling file system: lock blocks, log changes to them, commit, force the log.
+ * The library does no input and no output, starts no thread and takes no lock. You own two devices: a home device of
+ * `blocks` blocks of 4,096 bytes, counted from 0, and a log, to which you only append. You ask a mount by calls; where it
+ * needs a block, it says which one; where it owes a job (a checkpoint into the log, a flush of blocks home), you fetch
+ * what is to be written, write it, and say what your device answered.
  *
- * The library does no input or output, starts no thread, and keeps nothing outside its mounts. The program owns two devices: a home device
- * of blocks of 4,096 bytes, counted from 0, and a log, to whose end bytes are added. It asks by calls; where a mount needs a block
- * it says which; where it owes a job, the program fetches what to write, writes it, and says what its device answered.
+ * That each call does what the definitions say of it is proved, of the library's code as it was before it was compiled.
+ * Nothing is proved of the few lines in this header, which are tested, nor of your devices.
  *
+ * An example: one change to block 7, and its checkpoint into a log.
+ *
+ *     #include <fcntl.h>
  *     #include <refskold.h>
  *     #include <stdio.h>
- *     int main(void) {
- *         refskold m = REFSKOLD_NONE;
- *         uint64_t trans, job, waits;
- *         static unsigned char home[REFSKOLD_BLOCK], room[REFSKOLD_BLOCK];
+ *     #include <unistd.h>
+ *
+ *     static int write_checkpoint(refskold *mount, int log) {
+ *         static unsigned char piece[REFSKOLD_BLOCK];
  *         refskold_reply reply;
- *         if (refskold_open(&m, 0, 65536, 1024) || refskold_alloc(&m, 5000, 1, 0, &trans)) return 1;
- *         if (refskold_read(&m, trans, 7) == REFSKOLD_ASKS && refskold_read_content(&m, trans, 7, home)) return 1;
- *         if (refskold_log(&m, trans, 7, 100, "hello", 5) || refskold_commit(&m, trans, &reply) || refskold_force(&m, &waits)) return 1;
- *         if (refskold_take(&m, REFSKOLD_CHECKPOINT, &job) == REFSKOLD_TAKEN && !refskold_begin(&m, job, &reply)) {
- *             uint32_t pieces = reply.pieces, k;
- *             for (k = 0; k < pieces; k++) printf("append %d bytes\n", refskold_piece(&m, k, room, sizeof room));
- *             if (refskold_end(&m, job, pieces, 1, &reply)) return 1;
+ *         uint64_t serial;
+ *         uint32_t taken = 0;
+ *         if (refskold_take(mount, REFSKOLD_CHECKPOINT, &serial) != REFSKOLD_TAKEN) return 0; // none is owed
+ *         int status = refskold_begin(mount, serial, &reply);
+ *         if (status < 0 || reply.word == REFSKOLD_NOTHING) return status;
+ *         for (; taken < reply.pieces; taken++) {
+ *             int length = refskold_piece(mount, taken, piece, sizeof piece);
+ *             if (write(log, piece, (size_t)length) != length) break;
  *         }
- *         return refskold_close(&m);
+ *         return refskold_end(mount, serial, taken, taken == reply.pieces && fsync(log) == 0, &reply);
  *     }
  *
- * What every function returns: 0, or more where it says so; or an errno of Linux, negative:
- *   -EINVAL    a pointer is NULL that may not be, a length is too great, a word or a job does not exist, or an answer came that was not
- *              asked for; or the mount refuses the request so
- *   -ENODEV    the handle holds no mount
- *   -ENOMEM    there was no memory; nothing has changed, and the call may be made again
- *   others     the mount refuses the request: -EIO it is shut, or a device failed; -EAGAIN locked elsewhere, no log space, 32 open
- *              transactions, or frozen; -EBUSY something keeps it from an unmount; -ENOSPC a charge over the transaction's unit, or a counter at its
- *              end; -ENOBUFS a 65th busy block
- * After an error nothing has changed, but that -EAGAIN of `alloc` and `roll` asks a checkpoint and a flush, that a failed read shuts a mount whose
- * transaction has changes, and that a commit and a roll of a shut mount give the changes up.
+ *     int main(void) {
+ *         static unsigned char block[REFSKOLD_BLOCK]; // what your home device has of block 7
+ *         refskold mount = REFSKOLD_NONE;
+ *         uint64_t trans, waits;
+ *         int log = open("example.log", O_CREAT | O_TRUNC | O_WRONLY, 0600);
+ *         int status = refskold_open(&mount, 0, REFSKOLD_LEAST_LOG, 1024);
+ *         if (status == 0) status = refskold_alloc(&mount, 5000, 1, 0, &trans);
+ *         if (status == 0) status = refskold_read(&mount, trans, 7);
+ *         if (status == REFSKOLD_ASKS) status = refskold_read_content(&mount, trans, 7, block);
+ *         if (status == 0) status = refskold_log(&mount, trans, 7, 100, "hello", 5);
+ *         if (status == 0) status = refskold_commit(&mount, trans, NULL);
+ *         if (status == 0) status = refskold_force(&mount, &waits); // asks for a checkpoint
+ *         if (status == 0) status = write_checkpoint(&mount, log);
+ *         if (status == 0) status = refskold_force(&mount, &waits);
+ *         printf(status == 0 && waits == 0 ? "on the log\n" : "status %d\n", status);
+ *         refskold_close(&mount);
+ *         return status != 0;
+ *     }
  *
- * Threads: one call at a time for each mount; there is no lock inside. Two mounts share nothing, so two threads may work at two of them, and
- * a mount may be handed to another thread. No call from a signal handler, nor in the forked child of a process with threads.
+ * What functions return
  *
- * Memory is the program's `malloc`, `realloc` and `free`. Pointers are to the program's own; none is kept after a call.
+ *   0 or more is well, as each function says. Below 0 is an error, an errno of Linux with a minus in front:
+ *
+ *     -EINVAL   what the function says; also a NULL pointer, except where NULL is said to be allowed
+ *     -ENODEV   the handle holds no mount
+ *     -ENOMEM   there was no memory: at the functions that say so. Nothing has changed, and the call may be made again
+ *     -EIO      the mount is shut, or a device failed
+ *     -EAGAIN, -EBUSY, -ENOBUFS, -ENOSPC as each function says
+ *
+ *   After an error nothing has changed, and nothing was written through your pointers but a reply, except where the
+ *   function says what is left. Refusals are tested in the order in which they are listed.
+ *
+ * Who owns what
+ *
+ *   A handle is yours: 16 bytes, all zeros where it holds no mount. Memory behind it is the library's, from malloc, and
+ *   refskold_close gives it back. Do not copy a handle that holds a mount: of two copies only one may be used. What you
+ *   hand in is copied; the library keeps none of your pointers. In one call no two arguments may overlap.
+ *
+ * Threads, signals, forks
+ *
+ *   One call at a time for each mount: between threads you order the calls of one mount by a lock, or by starting and
+ *   joining threads. Two mounts share nothing, so two threads may be at two mounts at once, and a mount may go from one
+ *   thread to another. Call nothing from a signal handler, nor in the child of a fork of a process with several threads.
+ *   A mount that lives in parent and child is two mounts with one log: use one of them alone.
+ *
+ * Numbers
+ *
+ *   Lengths and offsets are in bytes. Blocks, pieces and places of a plan count from 0; transactions, checkpoints, serials
+ *   and lives from 1. `malloc` has to align blocks to 16 bytes, as that of each C library on Linux does.
  */
 #ifndef REFSKOLD_H
 #define REFSKOLD_H
@@ -53,344 +92,541 @@
 extern "C" {
 #endif
 
-#define REFSKOLD_BLOCK 4096u       /* bytes of a block, and of the longest piece */
-#define REFSKOLD_PIECES 65u        /* the most pieces of a checkpoint */
-#define REFSKOLD_PLAN 8u           /* the most blocks of a flush */
-#define REFSKOLD_HELD 64u          /* the most blocks that a reply names */
-#define REFSKOLD_LEAST_LOG 65536u  /* bytes of the least and of the greatest log */
-#define REFSKOLD_MOST_LOG 16777216u
-#define REFSKOLD_MOST_BLOCKS 1099511627776u
-#define REFSKOLD_VERSION 1u        /* of this header; `refskold_version` has the library's */
+/* ---- Sizes and limits ---------------------------------------------------------------------------------------------- */
 
-/* What a program holds of a mount. Never copy it while it holds one, and change no field. All zeros hold none. */
-typedef struct {
+/* What this header says. The library says its own by refskold_version(): they must be equal. It goes up with each change
+ * that a program that was compiled earlier would notice. */
+#define REFSKOLD_VERSION 1u
+
+#define REFSKOLD_BLOCK 4096u                       /* bytes of a block, and of the longest piece */
+#define REFSKOLD_LEAST_LOG 65536u                  /* bytes of the smallest log */
+#define REFSKOLD_MOST_LOG 16777216u                /* bytes of the largest log */
+#define REFSKOLD_MOST_BLOCKS UINT64_C(1099511627776) /* blocks of the largest home device */
+#define REFSKOLD_MOST_TRANS 32u                    /* transactions that are open at once */
+#define REFSKOLD_MOST_LEGS 8u                      /* legs that a transaction is given at once */
+#define REFSKOLD_HELD 64u                     /* blocks that are busy at once, and most that a reply says are held */
+#define REFSKOLD_PIECES 65u                   /* pieces of the longest checkpoint */
+#define REFSKOLD_PLAN 8u                      /* blocks of a flush */
+
+/* ---- A mount ------------------------------------------------------------------------------------------------------- */
+
+/* A handle: a mount, or none. Both fields are the library's. */
+typedef struct refskold {
     void *at;
     uint64_t holds;
 } refskold;
-#define REFSKOLD_NONE {NULL, 0}
 
-/* What a reply says. */
-enum refskold_told {
-    REFSKOLD_OK, REFSKOLD_OK_HELD, REFSKOLD_LIFE, REFSKOLD_TRANS, REFSKOLD_COMMITTED, REFSKOLD_COMMITTED_HELD, REFSKOLD_ABORTED,
-    REFSKOLD_WAIT, REFSKOLD_DONE, REFSKOLD_KEPT, REFSKOLD_FREE, REFSKOLD_DATA, REFSKOLD_NOTHING, REFSKOLD_BEGUN, REFSKOLD_LANDED,
-    REFSKOLD_FAILED, REFSKOLD_FLUSHED, REFSKOLD_SEEN, REFSKOLD_REFUSED
+/* A handle that holds no mount. */
+#define REFSKOLD_NONE { NULL, 0 }
+
+/* Why a mount is shut: the first reason is kept. */
+enum refskold_reason {
+    REFSKOLD_LIVE = 0,            /* it is not */
+    REFSKOLD_META_IO_ERROR = 1,   /* a read failed in a transaction that had changed something */
+    REFSKOLD_LOG_IO_ERROR = 2,    /* a checkpoint failed */
+    REFSKOLD_FORCE_UMOUNT = 3,    /* refskold_shutdown */
+    REFSKOLD_CORRUPT_INCORE = 4   /* a transaction that had changed something was cancelled */
 };
 
-/* A reply. Where a function returned an error that the mount gave, `word` is REFUSED or ABORTED and `error` is its errno, positive. */
-typedef struct {
-    uint32_t word;                 /* enum refskold_told */
-    uint32_t error;
-    uint64_t number;               /* of the transaction, of the checkpoint, or how many blocks were flushed */
-    uint32_t pieces;               /* BEGUN: how many pieces the checkpoint has */
-    uint32_t held_count;           /* OK_HELD, COMMITTED_HELD, ABORTED: how many blocks stay locked with no transaction, */
-    uint64_t held[REFSKOLD_HELD];  /* and which, ascending; the places behind them say nothing */
+/* What a reply tells. */
+enum refskold_told {
+    REFSKOLD_OK = 0,
+    REFSKOLD_OK_HELD = 1,         /* cancel: `held`, `held_count` of them */
+    REFSKOLD_LIFE = 2,
+    REFSKOLD_TRANS = 3,           /* alloc: `number` */
+    REFSKOLD_COMMITTED = 4,       /* commit, roll: `number`, 0 where nothing was changed */
+    REFSKOLD_COMMITTED_HELD = 5,  /* the same: `number`, `held` */
+    REFSKOLD_ABORTED = 6,         /* commit, roll: given up, with `error`; `held` */
+    REFSKOLD_WAIT = 7,            /* force: `number` */
+    REFSKOLD_DONE = 8,            /* force */
+    REFSKOLD_KEPT = 9,            /* relse: the block is still the transaction's */
+    REFSKOLD_FREE = 10,           /* relse: it is unlocked */
+    REFSKOLD_DATA = 11,           /* view: the room is filled */
+    REFSKOLD_NOTHING = 12,        /* begin, flush: there is nothing to do; the job is finished */
+    REFSKOLD_BEGUN = 13,          /* begin: `number`, `pieces` */
+    REFSKOLD_LANDED = 14,         /* end: `number` */
+    REFSKOLD_FAILED = 15,         /* end: `number` */
+    REFSKOLD_FLUSHED = 16,        /* flush: `number`, how many blocks are home */
+    REFSKOLD_SEEN = 17,
+    REFSKOLD_REFUSED = 18         /* `error` */
+};
+
+/* A reply. Fields that its word does not name are 0; of `held` only the first `held_count` say something. */
+typedef struct refskold_reply {
+    uint32_t word;                /* enum refskold_told */
+    uint32_t error;               /* an errno, without a minus */
+    uint64_t number;
+    uint32_t pieces;
+    uint32_t held_count;
+    uint64_t held[64];            /* blocks that stay locked, ascending */
 } refskold_reply;
 
-/* The blocks of a flush, in the order of their writes; the places behind `count` say nothing. */
-typedef struct {
-    uint32_t count, unused;
-    uint64_t blocks[REFSKOLD_PLAN];
+/* The blocks that a flush writes home: the first `count`, in the order in which they are to be written. */
+typedef struct refskold_plan {
+    uint32_t count;
+    uint32_t unused;
+    uint64_t blocks[8];
 } refskold_plan;
 
-/* ---- the form for bindings: one struct for every request ---- */
+/* The kinds of jobs. */
+enum refskold_job { REFSKOLD_CHECKPOINT = 0, REFSKOLD_FLUSH = 1 };
+
+/* What refskold_read returns where the home device must be asked, and refskold_take where a job was owed. */
+#define REFSKOLD_ASKS 1
+#define REFSKOLD_TAKEN 1
+
+/* ---- The struct form ----------------------------------------------------------------------------------------------- */
+
+/* What the library exports: for bindings of other languages. In C use the functions below this part, which refuse NULL.
+ *
+ * Here no pointer may be NULL, also where its length is 0, and each is to as many bytes as is said. A function below says
+ * what its export does, with the differences that are named here. */
+
+/* The words of requests, with the fields of a refskold_request that each reads. */
 enum refskold_word {
-    REFSKOLD_ALLOC, REFSKOLD_GET, REFSKOLD_READ, REFSKOLD_VIEW, REFSKOLD_LOG, REFSKOLD_HOLD, REFSKOLD_UNHOLD, REFSKOLD_RELSE,
-    REFSKOLD_JOIN, REFSKOLD_RELEASE, REFSKOLD_INVAL, REFSKOLD_COMMIT, REFSKOLD_ROLL, REFSKOLD_CANCEL, REFSKOLD_FORCE,
-    REFSKOLD_FORCE_TO, REFSKOLD_PUSH, REFSKOLD_SHUTDOWN, REFSKOLD_FREEZE, REFSKOLD_THAW, REFSKOLD_UNMOUNT
+    REFSKOLD_ALLOC = 0,           /* unit, count, perm */
+    REFSKOLD_GET = 1,             /* trans, block, as the others up to 10, but 9 */
+    REFSKOLD_READ = 2,
+    REFSKOLD_VIEW = 3,
+    REFSKOLD_LOG = 4,             /* first beside these, and the bytes of `data` */
+    REFSKOLD_HOLD = 5,
+    REFSKOLD_UNHOLD = 6,
+    REFSKOLD_RELSE = 7,
+    REFSKOLD_JOIN = 8,
+    REFSKOLD_RELEASE = 9,         /* block */
+    REFSKOLD_INVAL = 10,
+    REFSKOLD_COMMIT = 11,         /* trans */
+    REFSKOLD_ROLL = 12,           /* trans */
+    REFSKOLD_CANCEL = 13,         /* trans */
+    REFSKOLD_FORCE = 14,
+    REFSKOLD_FORCE_TO = 15,       /* number */
+    REFSKOLD_PUSH = 16,
+    REFSKOLD_SHUTDOWN = 17,
+    REFSKOLD_FREEZE = 18,
+    REFSKOLD_THAW = 19,
+    REFSKOLD_UNMOUNT = 20
 };
 
-/* A request: its word, and the fields that the word reads; the others are not looked at. */
-typedef struct {
-    uint32_t word;                 /* enum refskold_word */
-    uint32_t perm;                 /* ALLOC: 1 where it may roll, else 0 */
-    uint32_t unit, count;          /* ALLOC */
-    uint32_t first, unused;        /* LOG */
-    uint64_t trans, block;
-    uint64_t number;               /* FORCE_TO */
+/* What the home device answered to a read: nothing yet, the block, or a failure. */
+enum refskold_answer { REFSKOLD_UNASKED = 0, REFSKOLD_CONTENT = 1, REFSKOLD_FAILED_READ = 2 };
+
+/* A request: fields that its word does not name are not looked at. */
+typedef struct refskold_request {
+    uint32_t word;                /* enum refskold_word */
+    uint32_t perm;
+    uint32_t unit;
+    uint32_t count;
+    uint32_t first;
+    uint32_t unused;
+    uint64_t trans;
+    uint64_t block;
+    uint64_t number;
 } refskold_request;
 
-/* What was answered for a block that a read asks for. */
-enum refskold_answer { REFSKOLD_UNASKED, REFSKOLD_CONTENT, REFSKOLD_FAILED_READ };
-
-/* What the library has. These take no NULL: use the functions below, or pass what they pass. A slice is a pointer and then its length. */
 uint32_t refskold_abi_version(void);
-int32_t refskold_abi_open(refskold *m, uint32_t last_life, uint32_t log_bytes, uint64_t blocks);
-void refskold_abi_close(refskold *m);
-int32_t refskold_abi_shut(refskold *m);
-int32_t refskold_abi_call(refskold *m, const refskold_request *request, const uint8_t *bytes, size_t bytes_len, uint32_t answered,
-                          const uint8_t *content, size_t content_len, refskold_reply *reply, uint8_t *room, size_t room_len);
-int32_t refskold_abi_take(refskold *m, uint32_t kind, uint64_t *serial);
-int32_t refskold_abi_begin(refskold *m, uint64_t serial, refskold_reply *reply);
-int32_t refskold_abi_piece(refskold *m, uint32_t index, uint8_t *room, size_t room_len);
-int32_t refskold_abi_end(refskold *m, uint64_t serial, uint32_t taken, uint32_t synced, refskold_reply *reply);
-int32_t refskold_abi_plan(refskold *m, refskold_plan *plan);
-int32_t refskold_abi_home(refskold *m, uint32_t index, uint8_t *room, size_t room_len);
-int32_t refskold_abi_flush(refskold *m, uint64_t serial, uint32_t count, uint32_t written, uint32_t synced, refskold_reply *reply);
+int32_t refskold_abi_open(refskold *mount, uint32_t last, uint32_t log_bytes, uint64_t blocks);
+void refskold_abi_close(refskold *mount);
+int32_t refskold_abi_shut(refskold *mount);
 
-/* Serves a request. `bytes` are a LOG's, at most 4,096; `content` is a block of 4,096 bytes where `answered` is CONTENT; `room` is 4,096 bytes for a
- * VIEW. Each may be NULL where its length is 0.
- * 0: the reply is written, and a VIEW's content into the room. REFSKOLD_ASKS: read the block `reply->number` from the home device, and call again
- * with CONTENT and its bytes, or with FAILED_READ; nothing has changed. After UNMOUNT was answered 0 the handle holds no mount. */
-#define REFSKOLD_ASKS 1
-static inline int refskold_call(refskold *m, const refskold_request *request, const void *bytes, size_t bytes_len, enum refskold_answer answered,
-                                const void *content, size_t content_len, refskold_reply *reply, void *room, size_t room_len)
+/* Serves a request. `data` are the bytes of a LOG, for other words of length 0. `answered` (enum refskold_answer) is what
+ * the home device answered, with the block in `content`. `room` is filled by a VIEW, and has then 4,096 bytes.
+ *
+ * Returns 0 with the reply; REFSKOLD_ASKS where the home device must be asked for block reply->number, and the call be
+ * made again with its answer; or an error. The mount's own refusals come with a reply (REFUSED, ABORTED). Without one, and
+ * with nothing changed: -EINVAL where the words spell no request, `data` has more than 4,096 bytes, `content` is no whole
+ * block, `room` is of another length than 4,096 at a VIEW, or an answer has come that was not asked for; -ENODEV;
+ * -ENOMEM. */
+int32_t refskold_abi_call(refskold *mount, const refskold_request *request, const uint8_t *data, size_t data_len,
+                          uint32_t answered, const uint8_t *content, size_t content_len, refskold_reply *reply,
+                          uint8_t *room, size_t room_len);
+int32_t refskold_abi_take(refskold *mount, uint32_t kind, uint64_t *serial);
+int32_t refskold_abi_begin(refskold *mount, uint64_t serial, refskold_reply *reply);
+int32_t refskold_abi_piece(refskold *mount, uint32_t index, uint8_t *room, size_t room_len);
+
+/* It returns 0 also where the checkpoint failed: the reply's word says which. */
+int32_t refskold_abi_end(refskold *mount, uint64_t serial, uint32_t taken, uint32_t synced, refskold_reply *reply);
+int32_t refskold_abi_plan(refskold *mount, refskold_plan *plan);
+int32_t refskold_abi_home(refskold *mount, uint32_t index, uint8_t *room, size_t room_len);
+int32_t refskold_abi_flush(refskold *mount, uint64_t serial, uint32_t count, uint32_t written, uint32_t synced,
+                           refskold_reply *reply);
+
+/* The same with pointers that may be NULL: `data`, `content` and `room` where their length is 0, and `reply`. Other NULLs
+ * are -EINVAL. The functions below are made of it. */
+static inline int refskold_call(refskold *mount, const refskold_request *request, const void *data, size_t data_len,
+                                uint32_t answered, const void *content, size_t content_len, refskold_reply *reply,
+                                void *room, size_t room_len)
 {
-    static const uint8_t nothing[1] = {0};
+    static const uint8_t none[1] = { 0 };
     uint8_t no_room[1];
-    if (!m || !request || !reply || (!bytes && bytes_len) || (!content && content_len) || (!room && room_len)) return -EINVAL;
-    return refskold_abi_call(m, request, bytes ? (const uint8_t *)bytes : nothing, bytes_len, (uint32_t)answered,
-                             content ? (const uint8_t *)content : nothing, content_len, reply, room ? (uint8_t *)room : no_room, room_len);
+    refskold_reply told;
+    if (mount == NULL || request == NULL) return -EINVAL;
+    if ((data == NULL && data_len != 0) || (content == NULL && content_len != 0)) return -EINVAL;
+    if (room == NULL && room_len != 0) return -EINVAL;
+    return refskold_abi_call(mount, request, data == NULL ? none : (const uint8_t *)data, data_len, answered,
+                             content == NULL ? none : (const uint8_t *)content, content_len, reply == NULL ? &told : reply,
+                             room == NULL ? no_room : (uint8_t *)room, room_len);
 }
 
-/* ---- a mount is made and ended ---- */
-/* The version of the library that is linked: REFSKOLD_VERSION where it is this header's. */
-static inline uint32_t refskold_version(void) { return refskold_abi_version(); }
-
-/* Makes a mount, of no content. `last_life` is the last life that this volume had, 0 where it is new: keep it, and one more for each open.
- * `log_bytes`: how many bytes of log there are, 65,536 to 16,777,216. `blocks`: how many blocks the home device has, 1 to 1,099,511,627,776.
- * -EINVAL: one of these is out of its range. -ENOSPC: the last life is the greatest. -EBUSY: the handle holds a mount. */
-static inline int refskold_open(refskold *m, uint32_t last_life, uint32_t log_bytes, uint64_t blocks)
+/* A request of this word, with no other field; and one of a block of a transaction. For the functions below. */
+static inline refskold_request refskold_request_of(uint32_t word, uint64_t trans, uint64_t block)
 {
-    return m ? refskold_abi_open(m, last_life, log_bytes, blocks) : -EINVAL;
+    refskold_request request = { 0, 0, 0, 0, 0, 0, 0, 0, 0 };
+    request.word = word;
+    request.trans = trans;
+    request.block = block;
+    return request;
 }
 
-/* Ends a mount, whatever is left of it, and gives its memory back: what was not written is lost, as in a crash. The handle holds none then. 0,
- * also where it held none. */
-static inline int refskold_close(refskold *m)
+/* Asks a request that carries no bytes and fills no room. For the functions below. */
+static inline int refskold_ask(refskold *mount, refskold_request request, refskold_reply *reply)
 {
-    if (!m) return -EINVAL;
-    refskold_abi_close(m);
+    return refskold_call(mount, &request, NULL, 0, REFSKOLD_UNASKED, NULL, 0, reply, NULL, 0);
+}
+
+/* The same of a block of a transaction. For the functions below. */
+static inline int refskold_ask_of(refskold *mount, uint32_t word, uint64_t trans, uint64_t block)
+{
+    return refskold_ask(mount, refskold_request_of(word, trans, block), NULL);
+}
+
+/* ---- Made and ended ------------------------------------------------------------------------------------------------ */
+
+/* The version of the library: REFSKOLD_VERSION of the header that it belongs to. */
+static inline uint32_t refskold_version(void)
+{
+    return refskold_abi_version();
+}
+
+/* Makes a mount, which the handle then holds: with nothing committed, and over a home device that has all that earlier
+ * lives committed. So after a crash first lay the log over the home device (`xth recover`), and begin with an empty log.
+ *
+ * `last` is the last life of this volume, 0 at first; the mount's own is one more. `log_bytes` is the space that the
+ * log's checkpoints may take, REFSKOLD_LEAST_LOG to REFSKOLD_MOST_LOG: more than that is never in use, though the log
+ * itself grows until you empty it, while nothing that it says is wanted any more. `blocks` is the size of the home device,
+ * 1 to REFSKOLD_MOST_BLOCKS.
+ *
+ * -EBUSY: the handle holds a mount. -EINVAL: a size out of its range. -ENOSPC: `last` is 4,294,967,295. -ENOMEM. */
+static inline int refskold_open(refskold *mount, uint32_t last, uint32_t log_bytes, uint64_t blocks)
+{
+    return mount == NULL ? -EINVAL : refskold_abi_open(mount, last, log_bytes, blocks);
+}
+
+/* Ends a mount, whatever is left of it, and gives its memory back; the handle then holds none. 0, also where it held none.
+ * What is committed and not on the log is lost, as in a crash: refskold_unmount is the orderly end. */
+static inline int refskold_close(refskold *mount)
+{
+    if (mount == NULL) return -EINVAL;
+    refskold_abi_close(mount);
     return 0;
 }
 
-/* Why the mount is shut: 0 it is live; 1 a read failed under changes; 2 the log failed; 3 a shutdown; 4 a transaction with changes was cancelled. */
-static inline int refskold_shut(refskold *m) { return m ? refskold_abi_shut(m) : -EINVAL; }
-
-/* ---- transactions ---- */
-/* The struct of a request; its other fields are 0. */
-static inline refskold_request refskold_request_of(uint32_t word, uint64_t trans, uint64_t block)
+/* Why the mount is shut: REFSKOLD_LIVE, or another enum refskold_reason. */
+static inline int refskold_shut(refskold *mount)
 {
-    refskold_request request;
-    request.word = word, request.perm = 0, request.unit = 0, request.count = 0, request.first = 0, request.unused = 0;
-    request.trans = trans, request.block = block, request.number = 0;
-    return request;
-}
-static inline int refskold_ask(refskold *m, refskold_request request, refskold_reply *reply)
-{
-    return refskold_call(m, &request, NULL, 0, REFSKOLD_UNASKED, NULL, 0, reply, NULL, 0);
-}
-static inline int refskold_ask_of(refskold *m, uint32_t word, uint64_t trans, uint64_t block, refskold_reply *reply)
-{
-    return refskold_ask(m, refskold_request_of(word, trans, block), reply);
+    return mount == NULL ? -EINVAL : refskold_abi_shut(mount);
 }
 
-/* Opens a transaction: `unit` bytes of log for each of `count` legs, 1 to 8; `perm`: it may roll. Its number, from 1, is written. */
-static inline int refskold_alloc(refskold *m, uint32_t unit, uint32_t count, int perm, uint64_t *trans)
+/* ---- Transactions -------------------------------------------------------------------------------------------------- */
+
+/* Opens a transaction, and writes its number. It may log `unit` bytes in each of `count` legs, 1 to REFSKOLD_MOST_LEGS;
+ * `perm` not 0 means that it may be rolled. A leg that changes something costs 32 bytes, 16 for each block and 128 for
+ * each of a block's 32 chunks that a change touches.
+ *
+ * -EINVAL: `unit` is 0, `count` is out of its range or above 1 without `perm`, or unit * count is over the log.
+ * -EIO: shut. -EAGAIN: frozen. -ENOSPC: no number is left. -EAGAIN: REFSKOLD_MOST_TRANS are open. -EAGAIN: there is no log
+ * space, which asks a checkpoint and a flush: do the jobs that are owed, and try again. -ENOMEM. */
+static inline int refskold_alloc(refskold *mount, uint32_t unit, uint32_t count, int perm, uint64_t *trans)
 {
     refskold_request request = refskold_request_of(REFSKOLD_ALLOC, 0, 0);
     refskold_reply reply;
     int status;
-    if (!trans) return -EINVAL;
-    request.unit = unit, request.count = count, request.perm = perm != 0;
-    status = refskold_ask(m, request, &reply);
+    if (trans == NULL) return -EINVAL;
+    request.unit = unit;
+    request.count = count;
+    request.perm = perm != 0;
+    status = refskold_ask(mount, request, &reply);
     if (status == 0) *trans = reply.number;
     return status;
 }
 
-/* Locks a block, unread: it shows zeros, and must be logged whole before a part of it is. */
-static inline int refskold_get(refskold *m, uint64_t trans, uint64_t block)
+/* Locks a block for a transaction without its content: it shows zeros, and must first be written whole, unless its content
+ * is in memory. One that the transaction has already is locked once more.
+ *
+ * -EINVAL: the transaction is not open, or the block is past the end. -EIO: shut. -EINVAL: it is locked 4,294,967,295
+ * times. -EAGAIN: locked elsewhere. -ENOBUFS: it would be the 65th busy block. */
+static inline int refskold_get(refskold *mount, uint64_t trans, uint64_t block)
 {
-    refskold_reply reply;
-    return refskold_ask_of(m, REFSKOLD_GET, trans, block, &reply);
+    return refskold_ask_of(mount, REFSKOLD_GET, trans, block);
 }
 
-/* Locks a block with its content. REFSKOLD_ASKS: the home device must be read; then call `refskold_read_content`, or `refskold_read_failed`. */
-static inline int refskold_read(refskold *m, uint64_t trans, uint64_t block)
+/* Locks a block for a transaction with its content. REFSKOLD_ASKS: nothing has changed, and the home device must be asked:
+ * read the block, and call refskold_read_content or refskold_read_failed, with no other call of this mount between.
+ *
+ * -EINVAL: the transaction is not open, or the block is past the end. -EIO: shut. -EINVAL: it is locked 4,294,967,295
+ * times, or the transaction has it by a get and has not written it whole, or has invalidated it. -EAGAIN: locked elsewhere.
+ * -ENOBUFS: it would be the 65th busy block. -ENOMEM. */
+static inline int refskold_read(refskold *mount, uint64_t trans, uint64_t block)
 {
-    refskold_reply reply;
-    return refskold_ask_of(m, REFSKOLD_READ, trans, block, &reply);
-}
-/* The same, with the block's 4,096 bytes as the home device has them. -EINVAL where they were not asked for. */
-static inline int refskold_read_content(refskold *m, uint64_t trans, uint64_t block, const void *content)
-{
-    refskold_request request = refskold_request_of(REFSKOLD_READ, trans, block);
-    refskold_reply reply;
-    return refskold_call(m, &request, NULL, 0, REFSKOLD_CONTENT, content, content ? REFSKOLD_BLOCK : 0, &reply, NULL, 0);
-}
-/* The same, where the home device failed: -EIO. */
-static inline int refskold_read_failed(refskold *m, uint64_t trans, uint64_t block)
-{
-    refskold_request request = refskold_request_of(REFSKOLD_READ, trans, block);
-    refskold_reply reply;
-    return refskold_call(m, &request, NULL, 0, REFSKOLD_FAILED_READ, NULL, 0, &reply, NULL, 0);
+    return refskold_ask_of(mount, REFSKOLD_READ, trans, block);
 }
 
-/* Copies what the transaction sees of its block into 4,096 bytes. */
-static inline int refskold_view(refskold *m, uint64_t trans, uint64_t block, void *room)
+/* The same with the REFSKOLD_BLOCK bytes that the home device gave. -EINVAL also where it need not be asked. */
+static inline int refskold_read_content(refskold *mount, uint64_t trans, uint64_t block, const void *content)
+{
+    refskold_request request = refskold_request_of(REFSKOLD_READ, trans, block);
+    if (content == NULL) return -EINVAL;
+    return refskold_call(mount, &request, NULL, 0, REFSKOLD_CONTENT, content, REFSKOLD_BLOCK, NULL, NULL, 0);
+}
+
+/* The same where the home device failed: -EIO, and the block is not locked; the mount is shut for REFSKOLD_META_IO_ERROR
+ * where the transaction has changed something. -EINVAL also where the home device need not be asked. */
+static inline int refskold_read_failed(refskold *mount, uint64_t trans, uint64_t block)
+{
+    refskold_request request = refskold_request_of(REFSKOLD_READ, trans, block);
+    return refskold_call(mount, &request, NULL, 0, REFSKOLD_FAILED_READ, NULL, 0, NULL, NULL, 0);
+}
+
+/* Copies what the transaction sees of its block into a room of REFSKOLD_BLOCK bytes.
+ *
+ * -EINVAL: the transaction is not open, or does not have the block. -ENOMEM. */
+static inline int refskold_view(refskold *mount, uint64_t trans, uint64_t block, void *room)
 {
     refskold_request request = refskold_request_of(REFSKOLD_VIEW, trans, block);
-    refskold_reply reply;
-    return refskold_call(m, &request, NULL, 0, REFSKOLD_UNASKED, NULL, 0, &reply, room, room ? REFSKOLD_BLOCK : 0);
+    if (room == NULL) return -EINVAL;
+    return refskold_call(mount, &request, NULL, 0, REFSKOLD_UNASKED, NULL, 0, NULL, room, REFSKOLD_BLOCK);
 }
 
-/* Writes `len` bytes into the transaction's block, from `first` on: 1 to 4,096, none past the block's end. -EINVAL where a block that was only
- * got, or was invalidated, is not written whole. */
-static inline int refskold_log(refskold *m, uint64_t trans, uint64_t block, uint32_t first, const void *bytes, size_t len)
+/* Writes `length` bytes of `data` in a block of the transaction, from the offset `first` on. They are seen by this
+ * transaction alone until it commits.
+ *
+ * -EINVAL: the transaction is not open, or does not have the block. -EINVAL: `length` is 0, or first + length is past
+ * REFSKOLD_BLOCK. -EINVAL: the transaction has the block by refskold_get alone, or has invalidated it, and this is not the
+ * whole block: read it (refskold_read) before you write a part of it, or write all of it first. -ENOSPC: the leg would
+ * cost more than its `unit`. -ENOMEM. */
+static inline int refskold_log(refskold *mount, uint64_t trans, uint64_t block, uint32_t first, const void *data,
+                               size_t length)
 {
     refskold_request request = refskold_request_of(REFSKOLD_LOG, trans, block);
-    refskold_reply reply;
     request.first = first;
-    return refskold_call(m, &request, bytes, len, REFSKOLD_UNASKED, NULL, 0, &reply, NULL, 0);
+    return refskold_call(mount, &request, data, length, REFSKOLD_UNASKED, NULL, 0, NULL, NULL, 0);
 }
 
-/* The block stays locked when the transaction's leg ends, with no transaction; `join` takes it over, `release` gives it up. `unhold` takes the mark back. */
-static inline int refskold_hold(refskold *m, uint64_t trans, uint64_t block)
+/* Lets a block stay locked when the leg ends, for a transaction to join; refskold_unhold takes that back.
+ *
+ * -EINVAL: the transaction is not open, does not have the block, or has invalidated it; of unhold: or does not hold it. */
+static inline int refskold_hold(refskold *mount, uint64_t trans, uint64_t block)
 {
-    refskold_reply reply;
-    return refskold_ask_of(m, REFSKOLD_HOLD, trans, block, &reply);
-}
-static inline int refskold_unhold(refskold *m, uint64_t trans, uint64_t block)
-{
-    refskold_reply reply;
-    return refskold_ask_of(m, REFSKOLD_UNHOLD, trans, block, &reply);
-}
-static inline int refskold_join(refskold *m, uint64_t trans, uint64_t block)
-{
-    refskold_reply reply;
-    return refskold_ask_of(m, REFSKOLD_JOIN, trans, block, &reply);
-}
-static inline int refskold_release(refskold *m, uint64_t block)
-{
-    refskold_reply reply;
-    return refskold_ask_of(m, REFSKOLD_RELEASE, 0, block, &reply);
-}
-/* Gives one lock of the block back. `reply->word` is KEPT where the block is still the transaction's, FREE where it is not. */
-static inline int refskold_relse(refskold *m, uint64_t trans, uint64_t block, refskold_reply *reply)
-{
-    return refskold_ask_of(m, REFSKOLD_RELSE, trans, block, reply);
-}
-/* Gives a block up for good: what was written to it is forgotten, and it is not written home. */
-static inline int refskold_inval(refskold *m, uint64_t trans, uint64_t block)
-{
-    refskold_reply reply;
-    return refskold_ask_of(m, REFSKOLD_INVAL, trans, block, &reply);
+    return refskold_ask_of(mount, REFSKOLD_HOLD, trans, block);
 }
 
-/* Ends the transaction and commits its changes. `reply->number`: the checkpoint that they will be in, 0 where nothing was changed. -EIO: the
- * mount is shut, the changes are given up, and the transaction has ended. */
-static inline int refskold_commit(refskold *m, uint64_t trans, refskold_reply *reply)
+static inline int refskold_unhold(refskold *mount, uint64_t trans, uint64_t block)
 {
-    return refskold_ask_of(m, REFSKOLD_COMMIT, trans, 0, reply);
-}
-/* Commits the changes of a transaction that may roll, which goes on with its next leg and no block. */
-static inline int refskold_roll(refskold *m, uint64_t trans, refskold_reply *reply)
-{
-    return refskold_ask_of(m, REFSKOLD_ROLL, trans, 0, reply);
-}
-/* Ends the transaction and gives its changes up; where there are some this shuts the mount. */
-static inline int refskold_cancel(refskold *m, uint64_t trans, refskold_reply *reply)
-{
-    return refskold_ask_of(m, REFSKOLD_CANCEL, trans, 0, reply);
+    return refskold_ask_of(mount, REFSKOLD_UNHOLD, trans, block);
 }
 
-/* ---- the mount as a whole ---- */
-/* Asks that all that is committed reach the log. The checkpoint to wait for is written, 0 where nothing is left to be written. */
-static inline int refskold_force(refskold *m, uint64_t *waits_for)
+/* Gives one lock of a block back, and writes whether it is unlocked (1), or still the transaction's (0), because it is
+ * locked more than once or the leg has changed it. `unlocked` may be NULL.
+ *
+ * -EINVAL: the transaction is not open, or does not have the block. */
+static inline int refskold_relse(refskold *mount, uint64_t trans, uint64_t block, int *unlocked)
 {
     refskold_reply reply;
-    int status;
-    if (!waits_for) return -EINVAL;
-    status = refskold_ask_of(m, REFSKOLD_FORCE, 0, 0, &reply);
-    if (status == 0) *waits_for = reply.word == REFSKOLD_WAIT ? reply.number : 0;
+    int status = refskold_ask(mount, refskold_request_of(REFSKOLD_RELSE, trans, block), &reply);
+    if (status == 0 && unlocked != NULL) *unlocked = reply.word == REFSKOLD_FREE;
     return status;
 }
-/* The same for one checkpoint, from 1. */
-static inline int refskold_force_to(refskold *m, uint64_t number, uint64_t *waits_for)
+
+/* Takes a held block into a transaction. -EINVAL: the transaction is not open, or the block is not held. -EIO: shut. */
+static inline int refskold_join(refskold *mount, uint64_t trans, uint64_t block)
+{
+    return refskold_ask_of(mount, REFSKOLD_JOIN, trans, block);
+}
+
+/* Gives a held block up. -EINVAL: it is not held. */
+static inline int refskold_release(refskold *mount, uint64_t block)
+{
+    return refskold_ask_of(mount, REFSKOLD_RELEASE, 0, block);
+}
+
+/* Gives a block up for good, as a freed one: what was written to it is forgotten, and the log will say so. It stays locked
+ * until the checkpoint of that has landed.
+ *
+ * -EINVAL: the transaction is not open, or does not have the block. -ENOSPC: the leg would cost more than its `unit`. */
+static inline int refskold_inval(refskold *mount, uint64_t trans, uint64_t block)
+{
+    return refskold_ask_of(mount, REFSKOLD_INVAL, trans, block);
+}
+
+/* Ends a transaction and commits its changes. The reply, which may be NULL, tells the checkpoint that they will be in
+ * (`number`; 0 where nothing was changed) and the blocks that stay held. Committed is not yet on the log: refskold_force.
+ *
+ * -EINVAL: the transaction is not open. -EIO: it has changed something and the mount is shut: the transaction has ended,
+ * its changes are given up, and the reply (ABORTED) tells the blocks that stay held. -ENOMEM: only where some would stay
+ * held. */
+static inline int refskold_commit(refskold *mount, uint64_t trans, refskold_reply *reply)
+{
+    return refskold_ask(mount, refskold_request_of(REFSKOLD_COMMIT, trans, 0), reply);
+}
+
+/* Commits the changes of a transaction that may roll, which goes on with its next leg. The reply is as that of a commit.
+ *
+ * -EINVAL: the transaction is not open, or may not roll. -EIO: shut: the leg is given up, and the transaction stays open.
+ * -EAGAIN: it was the last leg and there is no log space for one more, which asks a checkpoint and a flush. -ENOMEM: as of
+ * a commit. */
+static inline int refskold_roll(refskold *mount, uint64_t trans, refskold_reply *reply)
+{
+    return refskold_ask(mount, refskold_request_of(REFSKOLD_ROLL, trans, 0), reply);
+}
+
+/* Ends a transaction and gives its changes up; the reply, which may be NULL, tells the blocks that stay held. Where it has
+ * changed something, that shuts a live mount for REFSKOLD_CORRUPT_INCORE: cancel before the first change.
+ *
+ * -EINVAL: the transaction is not open. -ENOMEM: as of a commit. */
+static inline int refskold_cancel(refskold *mount, uint64_t trans, refskold_reply *reply)
+{
+    return refskold_ask(mount, refskold_request_of(REFSKOLD_CANCEL, trans, 0), reply);
+}
+
+/* ---- The mount as a whole ------------------------------------------------------------------------------------------ */
+
+/* Writes 0 where all that is committed is on the log; else it asks a checkpoint, and writes the number of the one to be
+ * waited for. So: do the checkpoints that are owed, and force again, until that is 0. `waits` may be NULL. -EIO: shut. */
+static inline int refskold_force(refskold *mount, uint64_t *waits)
+{
+    refskold_reply reply;
+    int status = refskold_ask(mount, refskold_request_of(REFSKOLD_FORCE, 0, 0), &reply);
+    if (status == 0 && waits != NULL) *waits = reply.word == REFSKOLD_WAIT ? reply.number : 0;
+    return status;
+}
+
+/* The same for one checkpoint. -EINVAL: `number` is 0 or above that of the checkpoint to come. -EIO: shut. */
+static inline int refskold_force_to(refskold *mount, uint64_t number, uint64_t *waits)
 {
     refskold_request request = refskold_request_of(REFSKOLD_FORCE_TO, 0, 0);
     refskold_reply reply;
     int status;
-    if (!waits_for) return -EINVAL;
     request.number = number;
-    status = refskold_ask(m, request, &reply);
-    if (status == 0) *waits_for = reply.word == REFSKOLD_WAIT ? reply.number : 0;
+    status = refskold_ask(mount, request, &reply);
+    if (status == 0 && waits != NULL) *waits = reply.word == REFSKOLD_WAIT ? reply.number : 0;
     return status;
 }
-/* Asks that blocks be written home. */
-static inline int refskold_push(refskold *m)
+
+/* Asks a flush, of blocks whose checkpoints are on the log. -EIO: shut. */
+static inline int refskold_push(refskold *mount)
 {
-    refskold_reply reply;
-    return refskold_ask_of(m, REFSKOLD_PUSH, 0, 0, &reply);
-}
-/* Opens no transaction from here on; those that are open go on. `thaw` takes it back. */
-static inline int refskold_freeze(refskold *m)
-{
-    refskold_reply reply;
-    return refskold_ask_of(m, REFSKOLD_FREEZE, 0, 0, &reply);
-}
-static inline int refskold_thaw(refskold *m)
-{
-    refskold_reply reply;
-    return refskold_ask_of(m, REFSKOLD_THAW, 0, 0, &reply);
-}
-/* Shuts the mount: it commits nothing more. */
-static inline int refskold_shutdown(refskold *m)
-{
-    refskold_reply reply;
-    return refskold_ask_of(m, REFSKOLD_SHUTDOWN, 0, 0, &reply);
-}
-/* Ends a mount of which nothing is left to do, and the handle holds none then. -EBUSY: a transaction is open, a block is held, a job is taken and not
- * ended, or the mount is live and not all that was committed is home. */
-static inline int refskold_unmount(refskold *m)
-{
-    refskold_reply reply;
-    return refskold_ask_of(m, REFSKOLD_UNMOUNT, 0, 0, &reply);
+    return refskold_ask_of(mount, REFSKOLD_PUSH, 0, 0);
 }
 
-/* ---- jobs ---- */
-/* Takes the job of a kind that the mount owes. REFSKOLD_TAKEN: its serial is written, and it is the caller's to do. 0: none is owed. */
-#define REFSKOLD_CHECKPOINT 0u
-#define REFSKOLD_FLUSH 1u
-#define REFSKOLD_TAKEN 1
-static inline int refskold_take(refskold *m, uint32_t kind, uint64_t *serial)
+/* Shuts the mount for REFSKOLD_FORCE_UMOUNT. It takes no more changes; what is on the log stays there. */
+static inline int refskold_shutdown(refskold *mount)
 {
-    return m && serial ? refskold_abi_take(m, kind, serial) : -EINVAL;
+    return refskold_ask_of(mount, REFSKOLD_SHUTDOWN, 0, 0);
 }
 
-/* Begins a checkpoint that was taken. BEGUN: `reply->pieces` are to be appended to the log, in order, and then the log synced, and the job ended.
- * NOTHING: the mount is shut, and the job is over. */
-static inline int refskold_begin(refskold *m, uint64_t serial, refskold_reply *reply)
+/* Freezes the mount: it opens no transaction until refskold_thaw; those that are open, and jobs, go on.
+ *
+ * -EIO: shut. -EBUSY: frozen already. Of thaw: -EINVAL: not frozen. */
+static inline int refskold_freeze(refskold *mount)
 {
-    return m && reply ? refskold_abi_begin(m, serial, reply) : -EINVAL;
-}
-/* Copies a piece of the checkpoint that is begun to the front of a room: its length, 1 to 4,096. -EINVAL: there is none at this place, counted from 0,
- * or the room is shorter. */
-static inline int refskold_piece(refskold *m, uint32_t index, void *room, size_t len)
-{
-    return m && room ? refskold_abi_piece(m, index, (uint8_t *)room, len) : -EINVAL;
-}
-/* Ends a checkpoint: the log took the first `taken` pieces, and where these are all, `synced` says whether its sync was good. LANDED, or FAILED, and
- * then the mount is shut. -EINVAL: another serial, or more pieces than there are. */
-static inline int refskold_end(refskold *m, uint64_t serial, uint32_t taken, int synced, refskold_reply *reply)
-{
-    return m && reply ? refskold_abi_end(m, serial, taken, synced != 0, reply) : -EINVAL;
+    return refskold_ask_of(mount, REFSKOLD_FREEZE, 0, 0);
 }
 
-/* The blocks that a flush writes home now: how many, 0 to 8. No other request may come between this and `refskold_flush`, or the plan is another. */
-static inline int refskold_flush_plan(refskold *m, refskold_plan *plan) { return m && plan ? refskold_abi_plan(m, plan) : -EINVAL; }
-/* Copies the content of the block at a place of the plan into 4,096 bytes. */
-static inline int refskold_home(refskold *m, uint32_t index, void *room)
+static inline int refskold_thaw(refskold *mount)
 {
-    return m && room ? refskold_abi_home(m, index, (uint8_t *)room, REFSKOLD_BLOCK) : -EINVAL;
+    return refskold_ask_of(mount, REFSKOLD_THAW, 0, 0);
 }
-/* Ends a flush that was taken, whose plan had `count` blocks: bit k of `written` says whether the write k was good, `synced` whether the sync behind them
- * was. FLUSHED and how many left, or NOTHING. -EINVAL: another serial, or the plan has another count. */
-static inline int refskold_flush(refskold *m, uint64_t serial, uint32_t count, uint32_t written, int synced, refskold_reply *reply)
+
+/* Ends a mount in order; the handle then holds none, and its memory is given back.
+ *
+ * -EBUSY: a transaction is open, a block is held, a job is outstanding, or the mount is live and not all that was committed
+ * is home: force, push and do the jobs that are owed until none is. */
+static inline int refskold_unmount(refskold *mount)
 {
-    return m && reply ? refskold_abi_flush(m, serial, count, written, synced != 0, reply) : -EINVAL;
+    return refskold_ask_of(mount, REFSKOLD_UNMOUNT, 0, 0);
+}
+
+/* ---- Jobs ---------------------------------------------------------------------------------------------------------- */
+
+/* Takes the job of a kind (enum refskold_job) that the mount owes: REFSKOLD_TAKEN, and its serial is written; it is then
+ * yours to do. 0 where none is owed. A mount owes at most one of each kind at a time. Ask after each force, push and
+ * commit, and after -EAGAIN: a mount owes a checkpoint also where what is committed costs an eighth of the log.
+ *
+ * -EINVAL: there is no such kind. */
+static inline int refskold_take(refskold *mount, uint32_t kind, uint64_t *serial)
+{
+    return mount == NULL || serial == NULL ? -EINVAL : refskold_abi_take(mount, kind, serial);
+}
+
+/* Begins a checkpoint that was taken: what is committed now will be on the log when it has landed. The reply's word is
+ * REFSKOLD_BEGUN, with its number and how many pieces it has, 1 to REFSKOLD_PIECES; or REFSKOLD_NOTHING, and the job
+ * is finished.
+ *
+ * Then append each piece to your log, in order, sync it, and call refskold_end. Other calls may come between.
+ *
+ * -EINVAL: no checkpoint of this serial waits to begin. -ENOMEM: it still waits. */
+static inline int refskold_begin(refskold *mount, uint64_t serial, refskold_reply *reply)
+{
+    return mount == NULL || reply == NULL ? -EINVAL : refskold_abi_begin(mount, serial, reply);
+}
+
+/* Copies a piece of the checkpoint that is begun to the front of a room of `length` bytes, and returns the piece's length:
+ * 1 to REFSKOLD_BLOCK; only the last is shorter than that.
+ *
+ * -EINVAL: there is no such piece, no checkpoint is begun, or the room is too short. */
+static inline int refskold_piece(refskold *mount, uint32_t index, void *room, size_t length)
+{
+    return mount == NULL || room == NULL ? -EINVAL : refskold_abi_piece(mount, index, (uint8_t *)room, length);
+}
+
+/* Ends a checkpoint by what your log answered: it has taken so many pieces, and where these were all, `synced` not 0 says
+ * that its sync was good. 0: it has landed. The reply may be NULL.
+ *
+ * -EINVAL: no checkpoint of this serial is begun, or it has fewer pieces. -EIO: it has failed (the reply's word is
+ * REFSKOLD_FAILED): the mount is shut for REFSKOLD_LOG_IO_ERROR, and what it had begun to write counts for nothing. */
+static inline int refskold_end(refskold *mount, uint64_t serial, uint32_t taken, int synced, refskold_reply *reply)
+{
+    refskold_reply told;
+    int status;
+    if (mount == NULL) return -EINVAL;
+    if (reply == NULL) reply = &told;
+    status = refskold_abi_end(mount, serial, taken, synced != 0, reply);
+    return status == 0 && reply->word == REFSKOLD_FAILED ? -EIO : status;
+}
+
+/* Writes which blocks a flush writes home now, and returns how many, 0 to REFSKOLD_PLAN. */
+static inline int refskold_flush_plan(refskold *mount, refskold_plan *plan)
+{
+    return mount == NULL || plan == NULL ? -EINVAL : refskold_abi_plan(mount, plan);
+}
+
+/* Copies what is to be written home of the block at a place of the plan into a room of REFSKOLD_BLOCK bytes.
+ *
+ * -EINVAL: the plan has no such place. -ENODEV. */
+static inline int refskold_home(refskold *mount, uint32_t index, void *room)
+{
+    return mount == NULL || room == NULL ? -EINVAL : refskold_abi_home(mount, index, (uint8_t *)room, REFSKOLD_BLOCK);
+}
+
+/* Ends a flush that was taken, by what your home device answered to the writes of the plan: `count` as in the plan, bit k
+ * of `written` set where the write at place k was good, `synced` not 0 where the sync after them was. Write each block of
+ * the plan, also where one fails. No other call of this mount may come between the plan and the flush: else the plan may be
+ * another.
+ *
+ * The reply, which may be NULL, tells how many blocks are home now (REFSKOLD_FLUSHED), or that there was nothing to do
+ * (REFSKOLD_NOTHING). Blocks whose write failed, and all where the sync failed, are planned again at the next flush, which
+ * refskold_push asks.
+ *
+ * -EINVAL: no flush of this serial waits, or the plan has not `count` blocks. */
+static inline int refskold_flush(refskold *mount, uint64_t serial, uint32_t count, uint32_t written, int synced,
+                                 refskold_reply *reply)
+{
+    refskold_reply told;
+    if (mount == NULL) return -EINVAL;
+    return refskold_abi_flush(mount, serial, count, written, synced != 0, reply == NULL ? &told : reply);
 }
 
 #ifdef __cplusplus
 }
 #endif
+
 #endif
