@@ -1,5 +1,5 @@
 -- Job steps: which one is due, and what a handle makes of one.
-use Rattle.std.proofs.Common.{None, Option, Some, [], ap, cond, eq-eqb, inl, length, subst, sym, true, ℕ, ℤ, ◌∙◌, ◌≡◌, refl}
+use Rattle.std.proofs.Common.{Bool, None, Option, Some, [], ap, cond, eq-eqb, inl, length, subst, sym, true, ℕ, ℤ, ◌∙◌, ◌≡◌, refl}
 use Rattle.xt_base.specs.Calls.{Outcome, gives}
 use Rattle.xt_base.specs.Jobs.{flush, flush_plan, is_waiting}
 use Rattle.xt_base.specs.State.{State}
@@ -11,10 +11,10 @@ use Rattle.xt_c.specs.Working.{IsStep, IsWorked, flush_by, flush_of, home_answer
 use Rattle.xt_c.specs.declared.words.ReplyWords.{ReplyWords}
 
 -- a step that was taken is told
-pub goes : (m new : State) (o : Outcome) (told : Reply) (status : ℤ) (w old : ReplyWords)
-    → gives told new ≡ o → status ≡ status_of told → Shows told w → IsStep m (Some o) status (worked w (Some new)) (worked old (Some m))
-goes m new o told status w old e same shows =
-    subst (λ (x : Outcome). IsStep m (Some x) status (worked w (Some new)) (worked old (Some m))) e (inl (record { status = same; reply = shows; mount = refl }))
+pub goes : (wants : Reply → Bool) (m new : State) (o : Outcome) (told : Reply) (status : ℤ) (w old : ReplyWords)
+    → gives told new ≡ o → status ≡ status_of told → Shows told w → IsStep wants m (Some o) status (worked w (Some new)) (worked old (Some m))
+goes wants m new o told status w old e same shows =
+    subst (λ (x : Outcome). IsStep wants m (Some x) status (worked w (Some new)) (worked old (Some m))) e (inl (record { status = same; reply = shows; mount = refl }))
 
 -- the flush of a job that waits, by answers to as many writes as its plan has
 pub due : (serial count written synced : ℕ) (m : State) → is_waiting (name_in Flush serial m) m ≡ true → count ≡ length (flush_plan m)
@@ -24,8 +24,8 @@ due serial count written synced m waits same =
     ∙ ap (λ b. cond b (Some (flush [] (home_answers (length (flush_plan m)) written synced) m)) None) (eq-eqb count (length (flush_plan m)) same)
 
 -- a step of a mount is one of the handle that holds it
-pub moved : (step : State → Option Outcome) (old new : Option State) (m m' : State) (status : ℤ) (w w' : ReplyWords)
-    → old ≡ Some m → new ≡ Some m' → IsWorked step (Some m) status (worked w' (Some m')) (worked w (Some m)) → IsWorked step old status (worked w' new) (worked w old)
-moved step old new m m' status w w' e f x =
-    subst (λ (o : Option State). IsWorked step o status (worked w' new) (worked w o)) (sym e)
-    (subst (λ (n : Option State). IsWorked step (Some m) status (worked w' n) (worked w (Some m))) (sym f) x)
+pub moved : (wants : Reply → Bool) (step : State → Option Outcome) (old new : Option State) (m m' : State) (status : ℤ) (w w' : ReplyWords)
+    → old ≡ Some m → new ≡ Some m' → IsWorked wants step (Some m) status (worked w' (Some m')) (worked w (Some m)) → IsWorked wants step old status (worked w' new) (worked w old)
+moved wants step old new m m' status w w' e f x =
+    subst (λ (o : Option State). IsWorked wants step o status (worked w' new) (worked w o)) (sym e)
+    (subst (λ (n : Option State). IsWorked wants step (Some m) status (worked w' n) (worked w (Some m))) (sym f) x)

@@ -1,6 +1,6 @@
 -- What becomes of a mount that a caller opens, calls and closes.
-use Rattle.std.specs.Prelude.{List, [], None, Option, Some, if◌then◌else◌, is_some, not, pos, true, unwrap_or, Bool, ℕ, ℤ, ◌+◌, ◌==◌, ◌∷◌, ◌≡◌, ◌⊎◌, ⊤}
-use Rattle.xt_base.specs.Alone.{mount_after}
+use Rattle.std.specs.Prelude.{List, [], None, Option, Some, if◌then◌else◌, is_some, not, pos, true, unwrap_or, Bool, ℕ, ℤ, ◌+◌, ◌==◌, ◌||◌, ◌∷◌, ◌≡◌, ◌⊎◌, ⊤}
+use Rattle.xt_base.specs.Alone.{mount_after, may_want_memory}
 use Rattle.xt_base.specs.Calls.{Outcome, alone_with, asks, first_of, gives}
 use Rattle.xt_base.specs.Form.{form_one}
 use Rattle.xt_base.specs.Order.{is_answer, is_there}
@@ -17,6 +17,7 @@ use Rattle.xt_base.specs.declared.steps.Request.TheVariants.{View}
 use Rattle.xt_c.specs.Replies.{Shows, room_after}
 use Rattle.xt_c.specs.Status.{refusal, status_of}
 use Rattle.xt_c.specs.declared.words.ReplyWords.{ReplyWords}
+use Rattle.xt_c.specs.declared.words.RequestWords.{RequestWords}
 use Rattle.xt_mount.specs.Come.{new_refusals, read_block}
 
 -- ---- open
@@ -85,10 +86,12 @@ pub record Leaves (request : Request) (o : Outcome) (returned : ℤ) (new old : 
   pub room : new.room ≡ room_after o.reply old.room
   pub mount : new.mount ≡ mount_after request o
 
--- the step that the definitions give; or ENOMEM, and the mount is as it was
+-- the step that the definitions give; or ENOMEM, where its reply may want memory, and the mount is as it was
 abbrev pub IsServed : Request → Answer → ℤ → Seen → Seen → Option State → Type 0
 IsServed request answer status new old None = ⊤
-IsServed request answer status new old (Some m) = Leaves request (alone_with [] request answer m) status new old ⊎ Leaves request (gives (Refused NoMemory) m) status new old
+IsServed request answer status new old (Some m) =
+    Leaves request (alone_with [] request answer m) status new old
+    ⊎ ((may_want_memory request (alone_with [] request answer m).reply ≡ true) × Leaves request (gives (Refused NoMemory) m) status new old)
 
 -- barred: nothing is changed. Asked: 1, and the block is the reply's number
 abbrev pub IsAsJudged : Verdict → ℤ → Seen → Seen → Type 0
@@ -96,9 +99,13 @@ IsAsJudged (Barred e) status new old = (status ≡ refusal e) × (new ≡ old)
 IsAsJudged (Asks block) status new old = (status ≡ pos 1) × (new ≡ record old { reply = record old.reply { number = block } })
 IsAsJudged (Serves request answer) status new old = IsServed request answer status new old old.mount
 
--- a call: as judged; or ENOMEM before it was, and nothing is changed
-abbrev pub IsCalled : Verdict → ℤ → Seen → Seen → Type 0
-IsCalled v status new old = IsAsJudged v status new old ⊎ ((status ≡ refusal NoMemory) × (new ≡ old))
+-- whether words carry bytes or a content, which are copied before the call is judged
+abbrev pub carries : RequestWords → ℕ → Bool
+carries words answered = (words.word == 4) || (answered == 1)
+
+-- a call: as judged; or ENOMEM before it was, where its words carry bytes, and nothing is changed
+abbrev pub IsCalled : Bool → Verdict → ℤ → Seen → Seen → Type 0
+IsCalled carried v status new old = IsAsJudged v status new old ⊎ ((carried ≡ true) × (status ≡ refusal NoMemory) × (new ≡ old))
 
 -- ---- shut
 -- the number of a reason, from 1

@@ -1,5 +1,5 @@
 -- What becomes of a mount whose jobs a caller does.
-use Rattle.std.specs.Prelude.{Bool, List, MatchBool, None, Option, Some, [], bit_and, drop, if◌then◌else◌, length, nat_le, nat_lt, not, pos, slice_get, ℕ, ℤ, ◌++◌, ◌==◌, ◌∷◌, ◌≡◌, ◌⊎◌}
+use Rattle.std.specs.Prelude.{Bool, List, MatchBool, None, Option, Some, [], bit_and, drop, false, if◌then◌else◌, length, nat_le, nat_lt, not, pos, slice_get, true, ℕ, ℤ, ◌++◌, ◌==◌, ◌∷◌, ◌≡◌, ◌⊎◌}
 use Rattle.xt_base.specs.Calls.{Outcome, gives}
 use Rattle.xt_base.specs.Jobs.{begin, end, flight_pieces, flush, flush_plan, is_begun, is_waiting, posted}
 use Rattle.xt_base.specs.Maps.{at}
@@ -11,6 +11,7 @@ use Rattle.xt_base.specs.declared.sizes.TheConstants.{BLOCK_BYTES}
 use Rattle.xt_base.specs.declared.steps.Errno.TheVariants.{Invalid, NoDevice, NoMemory}
 use Rattle.xt_base.specs.declared.steps.HomeAnswers.{HomeAnswers}
 use Rattle.xt_base.specs.declared.steps.LogAnswers.{LogAnswers}
+use Rattle.xt_base.specs.declared.steps.Reply.{Reply}
 use Rattle.xt_base.specs.declared.steps.Reply.TheVariants.{Refused}
 use Rattle.xt_c.specs.Replies.{Shows, StandsIn}
 use Rattle.xt_c.specs.Status.{refusal, status_of}
@@ -42,15 +43,19 @@ pub record Goes (o : Outcome) (returned : ℤ) (new : Worked) : Type 0 where
   pub reply : Shows o.reply new.reply
   pub mount : new.mount ≡ Some o.state
 
--- a step that may come: what the definitions give, or ENOMEM with the mount as it was
-abbrev pub IsStep : State → Option Outcome → ℤ → Worked → Worked → Type 0
-IsStep m None status new old = (status ≡ refusal Invalid) × (new ≡ old)
-IsStep m (Some o) status new old = Goes o status new ⊎ Goes (gives (Refused NoMemory) m) status new
+-- no job but a begin wants memory
+abbrev pub wants_none : Reply → Bool
+wants_none r = false
+
+-- a step that may come: what the definitions give; or ENOMEM, where its reply may want memory, and the mount is as it was
+abbrev pub IsStep : (Reply → Bool) → State → Option Outcome → ℤ → Worked → Worked → Type 0
+IsStep wants m None status new old = (status ≡ refusal Invalid) × (new ≡ old)
+IsStep wants m (Some o) status new old = Goes o status new ⊎ ((wants o.reply ≡ true) × Goes (gives (Refused NoMemory) m) status new)
 
 -- the same of a handle; one that holds no mount is refused
-abbrev pub IsWorked : (State → Option Outcome) → Option State → ℤ → Worked → Worked → Type 0
-IsWorked step None status new old = (status ≡ refusal NoDevice) × (new ≡ old)
-IsWorked step (Some m) status new old = IsStep m (step m) status new old
+abbrev pub IsWorked : (Reply → Bool) → (State → Option Outcome) → Option State → ℤ → Worked → Worked → Type 0
+IsWorked wants step None status new old = (status ≡ refusal NoDevice) × (new ≡ old)
+IsWorked wants step (Some m) status new old = IsStep wants m (step m) status new old
 
 -- ---- take
 -- a job is owed: 1, its serial, and it is posted. None is: 0, and nothing is changed

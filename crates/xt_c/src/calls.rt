@@ -4,7 +4,7 @@ ghost use Rattle.std.specs.Prelude.{◌≡◌, ◌&&◌, Some, None, false, true
 ghost use Rattle.xt_base.specs.Alone.{is_okay};
 ghost use Rattle.xt_base.specs.Calls.{asks, is_unmount};
 ghost use Rattle.xt_base.specs.Order.{is_there};
-ghost use Rattle.xt_c.specs.Calling.{IsAsJudged, IsCalled, Serves, has_room, judged, seen, seen_after, spelled, verdict};
+ghost use Rattle.xt_c.specs.Calling.{IsAsJudged, IsCalled, Serves, carries, has_room, judged, seen, seen_after, spelled, verdict};
 ghost use Rattle.xt_c.specs.Holding.{held};
 ghost use Rattle.xt_c.specs.Requests.{answer_of, request_of};
 ghost use Rattle.xt_c.specs.Verdicts.{verdict_of};
@@ -122,7 +122,7 @@ fn call(
     reply: &mut ReplyWords,
     room: &mut [u8],
 ) -> Called
-    ensures called { IsCalled (spelled (length room.old) mount.old (request_of request.now bytes.now) (answer_of answered content.now)) result.status (seen_after reply.new room.new result.gone mount.new) (seen_after reply.old room.old false mount.old) }
+    ensures called { IsCalled (carries request.now answered) (spelled (length room.old) mount.old (request_of request.now bytes.now) (answer_of answered content.now)) result.status (seen_after reply.new room.new result.gone mount.new) (seen_after reply.old room.old false mount.old) }
     ensures slot { mount.new.slot ≡ mount.old.slot }
 {
     let request = match request_of(alloc, *request, bytes) {
@@ -150,7 +150,7 @@ pub extern "C" fn refskold_abi_call(
     reply: &mut ReplyWords,
     room: &mut [u8],
 ) -> i32
-    ensures { IsCalled (verdict (length room.old) (held handle.old) (request_of request.now bytes.now) (answer_of answered content.now)) result (seen reply.new room.new (held handle.new)) (seen reply.old room.old (held handle.old)) }
+    ensures { IsCalled (carries request.now answered) (verdict (length room.old) (held handle.old) (request_of request.now bytes.now) (answer_of answered content.now)) result (seen reply.new room.new (held handle.new)) (seen reply.old room.old (held handle.old)) }
 {
     let Some(mut mount) = handle.take(alloc) else {
         return refusal(Errno::NoDevice);

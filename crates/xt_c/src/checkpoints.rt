@@ -1,9 +1,10 @@
 //! Checkpoints: their pieces, and what the log answered.
 
 ghost use Rattle.std.specs.Prelude.{◌≡◌, ◌≤◌, IfSome, None, Some, length, option_copied, slice_get, true};
+ghost use Rattle.xt_base.specs.Alone.{has_begun};
 ghost use Rattle.xt_base.specs.Jobs.{fits_pieces, flight_pieces};
 ghost use Rattle.xt_c.specs.Holding.{held};
-ghost use Rattle.xt_c.specs.Working.{IsPiece, IsPieceOf, IsWorked, begin_of, end_of, log_answers, worked};
+ghost use Rattle.xt_c.specs.Working.{IsPiece, IsPieceOf, IsWorked, begin_of, end_of, log_answers, wants_none, worked};
 
 use crate::handle::Handle;
 use crate::jobs::{begun, waiting};
@@ -20,7 +21,7 @@ use xt_mount::mount::Mount;
 /// Begins a checkpoint that waits.
 fn begin(mount: &mut Mount, serial: u64, reply: &mut ReplyWords) -> i32
     requires { mount.old.slot ≡ 0 }
-    ensures begun { IsWorked (begin_of serial) (Some mount.old) result (worked reply.new (Some mount.new)) (worked reply.old (Some mount.old)) }
+    ensures begun { IsWorked has_begun (begin_of serial) (Some mount.old) result (worked reply.new (Some mount.new)) (worked reply.old (Some mount.old)) }
     ensures slot { mount.new.slot ≡ 0 }
 {
     let Some(name) = waiting(mount, JobKind::Ckpt, serial) else {
@@ -39,7 +40,7 @@ pub extern "C" fn refskold_abi_begin(
     serial: u64,
     reply: &mut ReplyWords,
 ) -> i32
-    ensures { IsWorked (begin_of serial) (held handle.old) result (worked reply.new (held handle.new)) (worked reply.old (held handle.old)) }
+    ensures { IsWorked has_begun (begin_of serial) (held handle.old) result (worked reply.new (held handle.new)) (worked reply.old (held handle.old)) }
 {
     let Some(mut mount) = handle.take(alloc) else {
         return refusal(Errno::NoDevice);
@@ -116,7 +117,7 @@ fn log_answers(taken: u32, synced: u32, pieces: usize) -> Option<LogAnswers>
 /// Ends the checkpoint that is begun.
 fn end(mount: &mut Mount, serial: u64, taken: u32, synced: u32, reply: &mut ReplyWords) -> i32
     requires { mount.old.slot ≡ 0 }
-    ensures ended { IsWorked (end_of serial taken synced) (Some mount.old) result (worked reply.new (Some mount.new)) (worked reply.old (Some mount.old)) }
+    ensures ended { IsWorked wants_none (end_of serial taken synced) (Some mount.old) result (worked reply.new (Some mount.new)) (worked reply.old (Some mount.old)) }
     ensures slot { mount.new.slot ≡ 0 }
 {
     let Some(name) = begun(mount, serial) else {
@@ -140,7 +141,7 @@ pub extern "C" fn refskold_abi_end(
     synced: u32,
     reply: &mut ReplyWords,
 ) -> i32
-    ensures { IsWorked (end_of serial taken synced) (held handle.old) result (worked reply.new (held handle.new)) (worked reply.old (held handle.old)) }
+    ensures { IsWorked wants_none (end_of serial taken synced) (held handle.old) result (worked reply.new (held handle.new)) (worked reply.old (held handle.old)) }
 {
     let Some(mut mount) = handle.take(alloc) else {
         return refusal(Errno::NoDevice);

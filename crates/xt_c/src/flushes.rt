@@ -7,7 +7,7 @@ ghost use Rattle.xt_base.specs.declared.sizes.TheConstants.{BLOCK_BYTES};
 ghost use Rattle.xt_base.specs.declared.steps.Errno.TheVariants.{Invalid};
 ghost use Rattle.xt_c.specs.Holding.{held};
 ghost use Rattle.xt_c.specs.Status.{refusal};
-ghost use Rattle.xt_c.specs.Working.{IsHome, IsHomeOf, IsPlanOf, IsWorked, ShowsPlan, flush_of, has_bit, home_answers, worked};
+ghost use Rattle.xt_c.specs.Working.{IsHome, IsHomeOf, IsPlanOf, IsWorked, ShowsPlan, flush_of, has_bit, home_answers, wants_none, worked};
 ghost use Rattle.xt_mount.specs.Accounts.{IsUnchanged};
 
 use crate::handle::Handle;
@@ -154,7 +154,7 @@ fn flush(
     reply: &mut ReplyWords,
 ) -> i32
     requires { mount.old.slot ≡ 0 }
-    ensures flushed { IsWorked (flush_of serial count written synced) (Some mount.old) result (worked reply.new (Some mount.new)) (worked reply.old (Some mount.old)) }
+    ensures flushed { IsWorked wants_none (flush_of serial count written synced) (Some mount.old) result (worked reply.new (Some mount.new)) (worked reply.old (Some mount.old)) }
     ensures slot { mount.new.slot ≡ 0 }
 {
     let Some(name) = waiting(mount, JobKind::Flush, serial) else {
@@ -181,7 +181,7 @@ pub extern "C" fn refskold_abi_flush(
     synced: u32,
     reply: &mut ReplyWords,
 ) -> i32
-    ensures { IsWorked (flush_of serial count written synced) (held handle.old) result (worked reply.new (held handle.new)) (worked reply.old (held handle.old)) }
+    ensures { IsWorked wants_none (flush_of serial count written synced) (held handle.old) result (worked reply.new (held handle.new)) (worked reply.old (held handle.old)) }
 {
     let Some(mut mount) = handle.take(alloc) else {
         return refusal(Errno::NoDevice);

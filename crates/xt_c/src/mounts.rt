@@ -55,7 +55,7 @@ fn share_of_one(alloc: Global) -> Result<FrameShare, Errno>
 }
 
 /// A new mount of the life after `last`.
-fn new_mount(alloc: Global, last: u32, log_bytes: u32, blocks: u64) -> Result<Box<Mount>, Errno>
+pub fn new_mount(alloc: Global, last: u32, log_bytes: u32, blocks: u64) -> Result<Box<Mount>, Errno>
     ensures ok { IfOk result (λ mount. (first_of (new_refusals last log_bytes blocks) ≡ None) × (mount.value ≡ mount_of 0 (last + 1) log_bytes blocks form_one)) }
     ensures err { IfErr result (λ errno. (first_of (new_refusals last log_bytes blocks) ≡ Some errno) ⊎ (errno ≡ NoMemory)) }
 {

@@ -1,6 +1,6 @@
 //! Requests, read from a caller's words.
 
-ghost use Rattle.std.specs.Prelude.{◌≡◌, ◌⊎◌, ◌≤◌, None, Some, IfErr, IfOk, length};
+ghost use Rattle.std.specs.Prelude.{◌≡◌, ◌==◌, ◌⊎◌, None, Some, IfErr, IfOk, true};
 ghost use Rattle.xt_base.specs.declared.steps.Errno.TheVariants.{Invalid, NoMemory};
 ghost use Rattle.xt_c.specs.Requests.{answer_of, of_block, of_mount, request_of, logged};
 
@@ -77,7 +77,7 @@ fn of_mount(from: RequestWords) -> Option<Request>
 /// The request that words spell, with the bytes of a change. `Invalid` where they spell none.
 pub fn request_of(alloc: Global, from: RequestWords, bytes: &[u8]) -> Result<Request, Errno>
     ensures ok { IfOk result (λ request. request_of from bytes.now ≡ Some request) }
-    ensures err { IfErr result (λ errno. ((errno ≡ Invalid) × (request_of from bytes.now ≡ None)) ⊎ (errno ≡ NoMemory)) }
+    ensures err { IfErr result (λ errno. ((errno ≡ Invalid) × (request_of from bytes.now ≡ None)) ⊎ ((errno ≡ NoMemory) × ((from.word == 4) ≡ true))) }
 {
     if from.word == 4 {
         return logged(alloc, from, bytes);
@@ -97,7 +97,7 @@ pub fn request_of(alloc: Global, from: RequestWords, bytes: &[u8]) -> Result<Req
 /// is no whole block.
 pub fn answer_of(alloc: Global, word: u32, content: &[u8]) -> Result<Answer, Errno>
     ensures ok { IfOk result (λ answer. answer_of word content.now ≡ Some answer) }
-    ensures err { IfErr result (λ errno. ((errno ≡ Invalid) × (answer_of word content.now ≡ None)) ⊎ (errno ≡ NoMemory)) }
+    ensures err { IfErr result (λ errno. ((errno ≡ Invalid) × (answer_of word content.now ≡ None)) ⊎ ((errno ≡ NoMemory) × ((word == 1) ≡ true))) }
 {
     match word {
         0 => Ok(Answer::None),
