@@ -352,7 +352,7 @@ static inline int refskold_alloc(refskold *mount, uint32_t unit, uint32_t count,
 /* Locks a block for a transaction without its content: it shows zeros, and must first be written whole, unless its content
  * is in memory. One that the transaction has already is locked once more.
  *
- * -EINVAL: the transaction is not open, or the block is past the end. -EIO: shut. -EINVAL: it is locked 4,294,967,295
+ * -EINVAL: the transaction is not open, or the block is past the end. -EIO: shut. -EINVAL: it is locked 4,294,967,296
  * times. -EAGAIN: locked elsewhere. -ENOBUFS: it would be the 65th busy block. */
 static inline int refskold_get(refskold *mount, uint64_t trans, uint64_t block)
 {
@@ -362,7 +362,7 @@ static inline int refskold_get(refskold *mount, uint64_t trans, uint64_t block)
 /* Locks a block for a transaction with its content. REFSKOLD_ASKS: nothing has changed, and the home device must be asked:
  * read the block, and call refskold_read_content or refskold_read_failed, with no other call of this mount between.
  *
- * -EINVAL: the transaction is not open, or the block is past the end. -EIO: shut. -EINVAL: it is locked 4,294,967,295
+ * -EINVAL: the transaction is not open, or the block is past the end. -EIO: shut. -EINVAL: it is locked 4,294,967,296
  * times, or the transaction has it by a get and has not written it whole, or has invalidated it. -EAGAIN: locked elsewhere.
  * -ENOBUFS: it would be the 65th busy block. -ENOMEM. */
 static inline int refskold_read(refskold *mount, uint64_t trans, uint64_t block)
