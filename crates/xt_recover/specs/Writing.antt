@@ -1,5 +1,5 @@
 -- What is written of what was gathered over a home device.
-use Rattle.std.specs.Prelude.{Bool, List, Option, Some, [], length, true, unwrap_or, ℕ, ◌++◌, ◌∷◌, ◌≡◌}
+use Rattle.std.specs.Prelude.{Bool, List, None, Option, Some, [], length, true, unwrap_or, ℕ, ◌++◌, ◌∷◌, ◌≡◌}
 use Rattle.xt_base.specs.Maps.{at}
 use Rattle.xt_base.specs.declared.sizes.TheConstants.{BLOCK_BYTES}
 use Rattle.xt_base.specs.declared.steps.HomeOffer.{HomeOffer}
@@ -11,6 +11,15 @@ use Rattle.xt_recover.specs.Chunks.{merged}
 -- the chunks that were gathered of a block
 abbrev pub chunks_at : Overlaid → ℕ → List ℕ
 chunks_at l b = unwrap_or (at b l.chunks) []
+
+-- the bytes of a block with what was gathered of it in the place of its own
+abbrev pub laid_with : Option (List ℕ) → List ℕ → List ℕ → List ℕ
+laid_with None set home = home
+laid_with (Some content) set home = merged set content home
+
+-- the same, of any block
+abbrev pub laid_over : Overlaid → ℕ → List ℕ → List ℕ
+laid_over l b home = laid_with (at b l.contents) (chunks_at l b) home
 
 -- a block is read, and written with what was gathered of it in the place of its own
 abbrev pub block_calls : Overlaid → ℕ × List ℕ → List ℕ → List HomeCall

@@ -40,7 +40,7 @@ pub struct LogCounts {
 }
 
 /// Gathers the texts of a log, from the first on, up to bytes that are no text yet, as a crash leaves them. None may say the size of a block.
-pub(crate) fn gather<L: Read>(
+pub fn gather<L: Read>(
     alloc: Global,
     log: &mut L,
     overlay: &mut Overlay,

@@ -7,8 +7,9 @@ ghost use Rattle.xt_base.specs.declared.sizes.TheConstants.{BLOCK_BYTES};
 ghost use Rattle.xt_ckpt.specs.Grammar.{entries, entry};
 ghost use Rattle.xt_ckpt.specs.Items.{HasForm};
 ghost use Rattle.xt_recover.specs.Overlaid.{overlaid, with_item, with_items};
+ghost use Rattle.xt_recover.specs.Writing.{laid_over};
 
-use crate::places::lay_marked;
+use crate::places::{copy_chunks, lay_marked};
 use std::alloc::{AllocError, Global};
 use std::collections::BTreeMap;
 use xt_base::chunks::Chunks;
@@ -100,6 +101,16 @@ impl Overlay {
         match self.contents.remove(&block) {
             Some(content) => Ok(content),
             None => Content::zeros(self.alloc, Form::one()),
+        }
+    }
+
+    /// Lays what the texts say of a block over the bytes that a home device has of it; where they say nothing, these stay.
+    pub fn lay_over(&self, block: u64, home: &mut [u8])
+        requires { length home.old ≡ BLOCK_BYTES }
+        ensures { home.new ≡ laid_over (overlaid self.now) block home.old }
+    {
+        if let Some(content) = self.contents.get(&block) {
+            copy_chunks(home, self.chunks_of(block), content);
         }
     }
 
