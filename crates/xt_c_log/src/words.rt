@@ -1,0 +1,23 @@
+//! What is told of logs, as plain numbers.
+
+/// A checkpoint that was found at the beginning of some bytes: its number, how many bytes its text has, how many items, and the size of a block that
+/// it says; 0 where it says none, and then a block has 4,096 bytes.
+#[repr(C)]
+#[derive(Drop)]
+pub struct FoundWords {
+    pub number: u64,
+    pub bytes: u64,
+    pub items: u64,
+    pub size: u64,
+}
+
+/// A log: how many texts it has, how many bytes behind them are no text yet, and of how many blocks the texts say something. Where it is broken, at
+/// which byte.
+#[repr(C)]
+#[derive(Drop)]
+pub struct LogWords {
+    pub texts: u64,
+    pub rest: u64,
+    pub blocks: u64,
+    pub at: u64,
+}
