@@ -1,0 +1,58 @@
+//! What a handle holds, taken out and put in.
+
+ghost use Rattle.std.specs.Prelude.{◌≡◌, ◌==◌, not, false, Some, None, IfSome, IfNone};
+ghost use Rattle.xt_c_host.specs.Holding.{held};
+
+use crate::handle::Handle;
+use crate::loose::Loose;
+use crate::told::ToldHost;
+use std::alloc::Global;
+
+impl Handle {
+    /// Whether it holds something.
+    fn is_open(&mut self) -> bool
+        ensures holds { result ≡ not (self.old.holds == 0) }
+        ensures same { self.new ≡ self.old }
+    {
+        self.holds != 0
+    }
+
+    /// What it holds, in a box again.
+    fn take_box(&mut self, alloc: Global) -> Box<ToldHost>
+        requires { (self.old.holds == 0) ≡ false }
+        ensures taken { Some result.value ≡ held self.old }
+        ensures left { held self.new ≡ None }
+    {
+        self.holds = 0;
+        unsafe { Box::from_raw(alloc, self.at as *mut ToldHost) }
+    }
+
+    /// Keeps what is given.
+    fn keep(&mut self, host: Loose<ToldHost, Global>)
+        ensures { held self.new ≡ Some host.value }
+    {
+        let Loose { at, alloc: _alloc } = host;
+        self.at = at as *mut u8;
+        self.holds = 1;
+    }
+
+    /// What it holds, and then holds no more; None where it holds nothing.
+    pub fn take(&mut self, alloc: Global) -> Option<Box<ToldHost>>
+        ensures taken { IfSome result (λ host. held self.old ≡ Some host.value) }
+        ensures left { held self.new ≡ None }
+        ensures none { IfNone result (held self.old ≡ None) }
+    {
+        if self.is_open() {
+            Some(self.take_box(alloc))
+        } else {
+            None
+        }
+    }
+
+    /// Puts something in.
+    pub fn put(&mut self, host: Box<ToldHost>)
+        ensures { held self.new ≡ Some host.value }
+    {
+        self.keep(Loose::of(host));
+    }
+}
