@@ -1,4 +1,4 @@
-/* refskold.h: one mount of Refskold inside your program, driven by your calls.
+/* refskold.h: a mount of Refskold inside your program, driven by your calls.
  *
  * Refskold is the transaction layer of a journaling file system: lock blocks, log changes to them, commit, force the log.
  * The library does no input and no output, starts no thread and takes no lock. You own two devices: a home device of
@@ -58,7 +58,7 @@
  *     -ENODEV   the handle holds no mount
  *     -ENOMEM   there was no memory: at the functions that say so. Nothing has changed, and the call may be made again
  *     -EIO      the mount is shut, or a device failed
- *     -EAGAIN, -EBUSY, -ENOBUFS, -ENOSPC as each function says
+ *     -EAGAIN, -EBUSY, -EILSEQ, -ENOBUFS, -ENOSPC as each function says
  *
  *   After an error nothing has changed, and nothing was written through your pointers but a reply, except where the
  *   function says what is left. Refusals are tested in the order in which they are listed.
@@ -298,7 +298,8 @@ static inline uint32_t refskold_version(void)
 }
 
 /* Makes a mount, which the handle then holds: with nothing committed, and over a home device that has all that earlier
- * lives committed. So after a crash first lay the log over the home device (`xth recover`), and begin with an empty log.
+ * lives committed. So after a crash first lay the log over the home device (refskold_recovery_open), and begin with an
+ * empty log.
  *
  * `last` is the last life of this volume, 0 at first; the mount's own is one more. `log_bytes` is the space that the
  * log's checkpoints may take, REFSKOLD_LEAST_LOG to REFSKOLD_MOST_LOG: more than that is never in use, though the log
@@ -623,6 +624,105 @@ static inline int refskold_flush(refskold *mount, uint64_t serial, uint32_t coun
     refskold_reply told;
     if (mount == NULL) return -EINVAL;
     return refskold_abi_flush(mount, serial, count, written, synced != 0, reply == NULL ? &told : reply);
+}
+
+/* ---- Logs ---------------------------------------------------------------------------------------------------------- */
+
+/* What the texts of a log say, gathered: a handle as that of a mount, by the same rules, with REFSKOLD_NONE for nothing. */
+typedef struct refskold_recovery {
+    void *at;
+    uint64_t holds;
+} refskold_recovery;
+
+/* What is told of a log. */
+typedef struct refskold_log_told {
+    uint64_t texts;               /* whole texts, one for each checkpoint */
+    uint64_t rest;                /* bytes behind them, which are no whole text, as a crash leaves them */
+    uint64_t blocks;              /* blocks of which the texts say something */
+    uint64_t at;                  /* where the log is broken: at which byte */
+} refskold_log_told;
+
+/* What is told of a checkpoint's text. */
+typedef struct refskold_found {
+    uint64_t number;              /* of the checkpoint, from 1 */
+    uint64_t bytes;               /* of its text; where that is broken, before the field that is */
+    uint64_t items;
+    uint64_t size;                /* of a block, where the text says it; else 0, and a block has 4,096 bytes */
+} refskold_found;
+
+/* How a log or a text ends that is not as a checkpoint writes it. */
+enum refskold_log_end {
+    REFSKOLD_BROKEN = 1,          /* a field breaks its rule */
+    REFSKOLD_SIZED = 2            /* a text is of blocks of another size than 4,096 bytes */
+};
+
+/* The struct form, as above. */
+int32_t refskold_abi_log_open(refskold_recovery *recovery, const uint8_t *log, size_t log_len, refskold_log_told *told);
+void refskold_abi_log_close(refskold_recovery *recovery);
+int32_t refskold_abi_log_block(refskold_recovery *recovery, uint64_t index, uint64_t *block);
+int32_t refskold_abi_log_lay(refskold_recovery *recovery, uint64_t block, uint8_t *content, size_t content_len);
+
+/* 1 where a text was found, 0 where the input ends before it does, 2 where it is broken. */
+int32_t refskold_abi_read_checkpoint(const uint8_t *input, size_t input_len, refskold_found *found);
+
+/* Gathers what the texts of a whole log say, the later over the earlier; the log may then be forgotten. 0, with the counts.
+ * Then lay it over your home device, sync that, and empty the log:
+ *
+ *     for (uint64_t k = 0; k < told.blocks; k++) {
+ *         refskold_recovery_block(&recovery, k, &block);
+ *         // read the block into `content`, then
+ *         refskold_recovery_lay(&recovery, block, content);
+ *         // and write it
+ *     }
+ *
+ * Broken off and done again, from the first block on, it gives the same. What refskold_force said was on the log is then
+ * home, and of each checkpoint all or nothing.
+ *
+ * REFSKOLD_BROKEN, REFSKOLD_SIZED: at the byte told.at; no crash leaves that, and nothing is gathered. -EBUSY: the handle
+ * holds something. -ENOMEM. */
+static inline int refskold_recovery_open(refskold_recovery *recovery, const void *log, size_t length,
+                                         refskold_log_told *told)
+{
+    static const uint8_t none[1] = { 0 };
+    if (recovery == NULL || told == NULL || (log == NULL && length != 0)) return -EINVAL;
+    return refskold_abi_log_open(recovery, log == NULL ? none : (const uint8_t *)log, length, told);
+}
+
+/* Gives the memory of what was gathered back; the handle then holds nothing. 0. */
+static inline int refskold_recovery_close(refskold_recovery *recovery)
+{
+    if (recovery == NULL) return -EINVAL;
+    refskold_abi_log_close(recovery);
+    return 0;
+}
+
+/* Writes which block it is at a place, from 0, of those of which the texts say something, ascending.
+ *
+ * -EINVAL: there is no such place. -ENODEV. */
+static inline int refskold_recovery_block(refskold_recovery *recovery, uint64_t index, uint64_t *block)
+{
+    return recovery == NULL || block == NULL ? -EINVAL : refskold_abi_log_block(recovery, index, block);
+}
+
+/* Lays what the texts say of a block over the REFSKOLD_BLOCK bytes that the home device has of it, in place; where they say
+ * nothing, these stay. -ENODEV. */
+static inline int refskold_recovery_lay(refskold_recovery *recovery, uint64_t block, void *content)
+{
+    if (recovery == NULL || content == NULL) return -EINVAL;
+    return refskold_abi_log_lay(recovery, block, (uint8_t *)content, REFSKOLD_BLOCK);
+}
+
+/* Reads the text of a checkpoint that begins the input. REFSKOLD_FOUND, and what is told of it is written; the next text
+ * begins behind its bytes. 0: the input ends before the text does. -EILSEQ: the text is broken, at the field that begins at
+ * found->bytes. -ENOMEM. */
+#define REFSKOLD_FOUND 1
+static inline int refskold_read_checkpoint(const void *input, size_t length, refskold_found *found)
+{
+    static const uint8_t none[1] = { 0 };
+    int status;
+    if (found == NULL || (input == NULL && length != 0)) return -EINVAL;
+    status = refskold_abi_read_checkpoint(input == NULL ? none : (const uint8_t *)input, length, found);
+    return status == 2 ? -EILSEQ : status;
 }
 
 #ifdef __cplusplus

@@ -1,22 +1,21 @@
 /* A daemon that keeps lines of text in the blocks of one volume, and loses none that it has answered.
  *
- *     daemon HOMEFILE LOGFILE PORT XTH
+ *     daemon HOMEFILE LOGFILE PORT
  *
- * HOMEFILE and LOGFILE are the volume's two devices; XTH is the program `xth`, by which it recovers them as it starts. On this port of this machine
- * it answers each line by a line: `put BLOCK TEXT` by `ok` once the text is on the log, `get BLOCK` by the text; else by `error N`. All that came in
- * at once is committed together: one checkpoint, and one sync of the log, for all of it. */
+ * HOMEFILE and LOGFILE are the volume's two devices, which it recovers as it starts. On this port of this machine it answers each line by a line:
+ * `put BLOCK TEXT` by `ok` once the text is on the log, `get BLOCK` by the text; else by `error N`. All that came in at once is committed together: one
+ * checkpoint, and one sync of the log, for all of it. */
 #define _GNU_SOURCE
 #include <arpa/inet.h>
 #include <fcntl.h>
 #include <poll.h>
 #include <refskold.h>
 #include <signal.h>
-#include <spawn.h>
 #include <stdbool.h>
 #include <stdio.h>
 #include <stdlib.h>
 #include <string.h>
-#include <sys/wait.h>
+#include <sys/mman.h>
 #include <unistd.h>
 
 enum { BLOCKS = 1024, CLIENTS = 16, LINE = 4096 };
@@ -178,17 +177,36 @@ static bool take_lines(struct client *client, int from)
 
 /* ---- The daemon ---- */
 
-/* Opens the volume, and lays over its home device what its log says; the log is then empty. */
-static void recover(char **words)
+static void open_volume(const char *home_file, const char *log_file)
 {
-    char *recover[] = { words[4], "recover", "--cut", words[1], words[2], NULL };
-    pid_t child;
-    int ended = 1;
-    home = open(words[1], O_RDWR | O_CREAT | O_CLOEXEC, 0600);
-    journal = open(words[2], O_WRONLY | O_CREAT | O_APPEND | O_CLOEXEC, 0600);
+    home = open(home_file, O_RDWR | O_CREAT | O_CLOEXEC, 0600);
+    journal = open(log_file, O_RDWR | O_CREAT | O_APPEND | O_CLOEXEC, 0600);
     if (home < 0 || journal < 0 || ftruncate(home, (off_t)BLOCKS * REFSKOLD_BLOCK) != 0) stop("the volume", 0);
-    if (posix_spawnp(&child, words[4], NULL, NULL, recover, environ) != 0 || waitpid(child, &ended, 0) != child || ended != 0)
-        stop("the volume can't be recovered", -EIO);
+}
+
+/* Lays over the home device what the log says, and then empties the log. */
+static void recover(void)
+{
+    uint8_t content[REFSKOLD_BLOCK];
+    refskold_recovery recovery = REFSKOLD_NONE;
+    refskold_log_told told;
+    uint64_t block;
+    size_t length = (size_t)lseek(journal, 0, SEEK_END);
+    void *text = length == 0 ? NULL : mmap(NULL, length, PROT_READ, MAP_PRIVATE, journal, 0);
+    if (text == MAP_FAILED) stop("the log", 0);
+    int status = refskold_recovery_open(&recovery, text, length, &told);
+    if (status != 0) stop("the log", status > 0 ? -EILSEQ : status);
+    for (uint64_t k = 0; k < told.blocks; k++) {
+        refskold_recovery_block(&recovery, k, &block);
+        if (pread(home, content, sizeof content, (off_t)(block * sizeof content)) != sizeof content) stop("the home device", 0);
+        refskold_recovery_lay(&recovery, block, content);
+        if (pwrite(home, content, sizeof content, (off_t)(block * sizeof content)) != sizeof content) stop("the home device", 0);
+    }
+    refskold_recovery_close(&recovery);
+    if (text != NULL) munmap(text, length);
+    if (fdatasync(home) != 0 || ftruncate(journal, 0) != 0 || fdatasync(journal) != 0) stop("the volume", 0);
+    printf("recovered %llu texts %llu blocks\n", (unsigned long long)told.texts, (unsigned long long)told.blocks);
+    fflush(stdout);
 }
 
 static int listen_at(const char *port)
@@ -220,8 +238,9 @@ static void turn(struct pollfd *polled)
 int main(int argc, char **argv)
 {
     struct pollfd polled[CLIENTS + 1];
-    if (argc != 5) stop("HOMEFILE LOGFILE PORT XTH", -EINVAL);
-    recover(argv);
+    if (argc != 4) stop("HOMEFILE LOGFILE PORT", -EINVAL);
+    open_volume(argv[1], argv[2]);
+    recover();
     int status = refskold_open(&mount, 0, REFSKOLD_LEAST_LOG, BLOCKS);
     if (status != 0) stop("the mount", status);
     signal(SIGPIPE, SIG_IGN);

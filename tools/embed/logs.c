@@ -1,0 +1,73 @@
+/* Reads a log by the library, and tells of it what `xth logdump` does, but for the items: of each checkpoint its number, its items, and the size that it
+ * says; then the bytes behind the last, or the field that breaks its rule. What a recovery makes of the same log must agree. */
+#define _GNU_SOURCE
+#include <refskold.h>
+#include <stdio.h>
+#include <stdlib.h>
+#include <string.h>
+
+enum { LOG_BYTES = 1 << 20 };
+
+static uint8_t text[LOG_BYTES];
+
+static void want(int is_well, const char *what)
+{
+    if (is_well) return;
+    fprintf(stderr, "logs: %s\n", what);
+    exit(1);
+}
+
+/* What calls that no caller should make get. */
+static void bad_calls(refskold_recovery *recovery, refskold_log_told *told, int wanted)
+{
+    uint8_t content[REFSKOLD_BLOCK] = { 0 };
+    uint64_t block = 77;
+    want(refskold_recovery_block(recovery, UINT64_MAX, &block) == wanted && block == 77, "a place behind the last");
+    want(refskold_abi_log_lay(recovery, 7, content, REFSKOLD_BLOCK - 1) == wanted, "a content too short");
+    want(refskold_recovery_block(recovery, 0, NULL) == -EINVAL && refskold_recovery_lay(recovery, 7, NULL) == -EINVAL, "NULL");
+    want(refskold_recovery_open(recovery, NULL, 1, told) == -EINVAL && refskold_recovery_open(NULL, text, 1, told) == -EINVAL, "NULL with a length");
+    want(refskold_recovery_close(NULL) == -EINVAL && refskold_read_checkpoint(NULL, 1, NULL) == -EINVAL, "NULL");
+}
+
+/* Gathers the log, and lays it over blocks of zeros. */
+static void recover(size_t length, uint64_t texts, uint64_t rest, uint64_t broken_at, int is_broken)
+{
+    refskold_recovery recovery = REFSKOLD_NONE;
+    refskold_log_told told = { 0 };
+    uint8_t content[REFSKOLD_BLOCK];
+    uint64_t block, before = 0;
+    bad_calls(&recovery, &told, -ENODEV);
+    int status = refskold_recovery_open(&recovery, text, length, &told);
+    want(status >= 0, "memory");
+    if (status == REFSKOLD_BROKEN) want(is_broken && told.at == broken_at, "another place is broken");
+    if (status != 0) return;
+    want(!is_broken && told.texts == texts && told.rest == rest, "other counts");
+    want(refskold_recovery_open(&recovery, text, length, &told) == -EBUSY, "an open of what is open");
+    for (uint64_t k = 0; k < told.blocks; k++, before = block) {
+        memset(content, 0, sizeof content);
+        want(refskold_recovery_block(&recovery, k, &block) == 0 && (k == 0 || block > before), "blocks that do not ascend");
+        want(refskold_recovery_lay(&recovery, block, content) == 0, "lay");
+    }
+    bad_calls(&recovery, &told, -EINVAL);
+    want(refskold_recovery_close(&recovery) == 0 && recovery.holds == 0, "close");
+}
+
+int main(void)
+{
+    size_t length = fread(text, 1, sizeof text, stdin), at = 0;
+    refskold_found found;
+    uint64_t texts = 0;
+    int status;
+    while ((status = refskold_read_checkpoint(text + at, length - at, &found)) == REFSKOLD_FOUND) {
+        printf("c%llu %llu", (unsigned long long)found.number, (unsigned long long)found.items);
+        if (found.size > 0) printf(" %llu", (unsigned long long)found.size);
+        printf("\n");
+        at += found.bytes;
+        texts++;
+    }
+    if (status == -EILSEQ) printf("fault %llu\n", (unsigned long long)(at + found.bytes));
+    else if (status == 0 && at < length) printf("rest %zu\n", length - at);
+    want(status == 0 || status == -EILSEQ, "memory");
+    recover(length, texts, length - at, at + found.bytes, status == -EILSEQ);
+    return 0;
+}
