@@ -725,6 +725,61 @@ static inline int refskold_read_checkpoint(const void *input, size_t length, ref
     return status == 2 ? -EILSEQ : status;
 }
 
+/* ---- Sixteen slots by lines ------------------------------------------------------------------------------------------ */
+
+/* A host of sixteen slots, none of which can see another: a handle as that of a mount, by the same rules, with
+ * REFSKOLD_NONE for none. It is asked by lines of the language of `xth script` (docs/use/script.md), in which a step has
+ * the answers of devices in it. So it says what a volume would say; it writes to no device, and does not hand out what
+ * would be written. Where devices are real take a handle of a mount for each volume. */
+typedef struct refskold_host {
+    void *at;
+    uint64_t holds;
+} refskold_host;
+
+#define REFSKOLD_REPLY 8448u                  /* bytes of a room that each reply fits */
+
+/* The struct form, as above. */
+int32_t refskold_abi_host_open(refskold_host *host);
+void refskold_abi_host_close(refskold_host *host);
+int32_t refskold_abi_host_step(refskold_host *host, const uint8_t *line, size_t line_len);
+int32_t refskold_abi_host_reply(refskold_host *host, size_t *length, uint8_t *room, size_t room_len);
+
+/* Makes a host of which no slot was mounted. 0. -EBUSY: the handle holds one. -ENOMEM. */
+static inline int refskold_host_open(refskold_host *host)
+{
+    return host == NULL ? -EINVAL : refskold_abi_host_open(host);
+}
+
+/* Gives the memory of a host back; the handle then holds none. 0. */
+static inline int refskold_host_close(refskold_host *host)
+{
+    if (host == NULL) return -EINVAL;
+    refskold_abi_host_close(host);
+    return 0;
+}
+
+/* Takes the step that a line spells, which stands without its newline. 0, and its reply can be asked for: an errno that a
+ * volume answers is a reply. The replies of a slot, and what it holds, are those of the slot alone on its own steps.
+ *
+ * -EINVAL: the line spells no step. -EPROTO: the step may not come now, as the answer to a read that nobody asked for.
+ * -ENOMEM. -ENODEV. */
+static inline int refskold_host_step(refskold_host *host, const char *line, size_t length)
+{
+    static const uint8_t none[1] = { 0 };
+    if (host == NULL || (line == NULL && length != 0)) return -EINVAL;
+    return refskold_abi_host_step(host, line == NULL ? none : (const uint8_t *)line, length);
+}
+
+/* Copies the line of the last step's reply into a room, the slot in front, without a newline and without a zero behind it;
+ * its length is written. 0.
+ *
+ * -EINVAL: no step was taken yet, or the room is too short. -ENOMEM. -ENODEV. */
+static inline int refskold_host_reply(refskold_host *host, char *room, size_t room_length, size_t *length)
+{
+    if (host == NULL || room == NULL || length == NULL) return -EINVAL;
+    return refskold_abi_host_reply(host, length, (uint8_t *)room, room_length);
+}
+
 #ifdef __cplusplus
 }
 #endif
