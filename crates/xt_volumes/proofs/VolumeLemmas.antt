@@ -1,11 +1,12 @@
 -- Names of files, and lists of volumes.
-use Rattle.std.proofs.Common.{rules, IsSome, IsSomeAnd, [], ◌∷◌, ◌^◌, zero, suc, All, IfSome, MatchOption, None, Option, Some, arith, ap, get_or, length, not, refl, subst, sym, IsTrue, List, Bool, true, false, ℕ, ◌+◌, ◌-◌, ◌∙◌, ◌≡◌, ◌≢◌, ◌<◌, ◌≤◌}
+use Rattle.std.proofs.Common.{rules, IsSome, IsSomeAnd, [], ◌∷◌, ◌^◌, zero, suc, All, IfSome, MatchOption, None, Option, Some, arith, ap, get_or, length, not, refl, subst, sym, IsTrue, List, Bool, true, false, ℕ, ◌+◌, ◌-◌, ◌∙◌, ◌≡◌, ◌≢◌, ◌<◌, ◌≤◌, ◌⊎◌}
 use Rattle.std.proofs.lemmas.Bool.{cases_eq, cases_lt}
-use Rattle.std.proofs.lemmas.List.Elements.{All-append, All-cons, All-drop, All-take}
+use Rattle.std.proofs.lemmas.List.Elements.{All-append, All-cons, All-drop, All-take, Contains-get_or}
+use Rattle.std.proofs.lemmas.List.{get_or_default}
 use Rattle.std.proofs.lemmas.List.Edits.{get_or-insert_above, get_or-insert_at, get_or-insert_below, length-insert}
 use Rattle.std.proofs.lemmas.List.Sums.{prefix_len_passes, prefix_len_stops}
 use Rattle.std.specs.Fmt.{decimal}
-use Rattle.std.specs.List.{insert}
+use Rattle.std.specs.List.{Contains, insert}
 use Rattle.std.proofs.lemmas.Fmt.{decimal_is_IsNumeral}
 use Rattle.std.proofs.lemmas.Str.Pattern.{IsSplitOnceResult, split_after}
 use Rattle.std.specs.Char.{digit_value}
@@ -13,8 +14,10 @@ use Rattle.std.specs.Str.Parse.{AllDigits}
 use Rattle.std.specs.Prelude.{nat_lt}
 use denote.Bor.{Bor}
 use mathlib.Core.Logic.{⊎_elim}
-use Rattle.xt_volumes.specs.Volumes.{AreAscending, HasNoColon, IsFileName, parted, place_of}
+use Rattle.xt_volumes.specs.Volumes.{AreAscending, HasNoColon, HasSizes, IsFileName, IsFirstBad, IsRefused, Spells, SpellsNone, parted, place_of}
 use Rattle.xt_base.specs.declared.sizes.TheConstants.{SLOTS}
+use Rattle.xt_base.specs.declared.steps.Errno.{Errno}
+use Rattle.xt_base.specs.declared.steps.Errno.TheVariants.{Busy, Invalid}
 use Rattle.xt_volumes.specs.declared.volume.Volume.{Volume}
 
 -- a text that is not empty is the name of a file just where no colon is found in it
@@ -84,6 +87,51 @@ ascending_placed vs x p is within apart ascending = ascending_more vs x p within
 pub apart_there : (vs : List Volume) (x : Volume) (p : ℕ) (found : Option (Bor Volume)) → MatchOption found (length vs ≤ p) (λ u. (p < length vs) × ((d : Volume) → u.now ≡ get_or vs p d)) → IfSome found (λ other. other.now.slot ≢ x.slot) → p < length vs → (d : Volume) → (get_or vs p d).slot ≢ x.slot
 apart_there vs x p None got apart inside d = omega (arith, got, inside)
 apart_there vs x p (Some u) got apart inside d = λ is. apart (ap (λ v. v.slot) (got.1 d) ∙ is)
+
+-- where the one at the place of a slot has another, none has it
+pub none_there : (vs : List Volume) (slot : ℕ) (p : ℕ) → p ≡ place_of slot vs → (p < length vs → (d : Volume) → (get_or vs p d).slot ≢ slot) → AreAscending vs → All (λ v. v.slot ≢ slot) vs
+none_there vs slot p is apart ascending i d less =
+    ⊎_elim
+    (λ low. let below = before_place slot vs i d (omega (arith, low, is)) in omega (arith, below))
+    (λ high. ⊎_elim
+    (λ at. subst (λ m. (get_or vs m d).slot ≢ slot) (sym at) (apart (omega (arith, at, less)) d))
+    (λ off.
+    let least : slot ≤ (get_or vs p d).slot = subst (λ m. slot ≤ (get_or vs m d).slot) (sym is) (at_place slot vs d (omega (arith, high, is, less))) in
+    let rise = ascending p i d (omega (arith, high, off)) less in
+    omega (arith, least, rise))
+    (cases_eq i p))
+    (cases_lt i p)
+
+-- the one that was found at a place is one of them
+there : (vs : List Volume) (x : Volume) (p : ℕ) (found : Option (Bor Volume)) → MatchOption found (length vs ≤ p) (λ u. (p < length vs) × ((d : Volume) → u.now ≡ get_or vs p d)) → IsSomeAnd found (λ other. other.now.slot ≡ x.slot) → (other : Volume) × Contains vs other × (other.slot ≡ x.slot)
+there vs x p None got same = search (rules, same)
+there vs x p (Some u) got same = (u.now, subst (Contains vs) (sym (got.1 u.now)) (Contains-get_or vs p u.now got.0), same)
+
+-- why a volume is refused, by the one that stands at its place
+pub refused_beside : (vs : List Volume) (x : Volume) (p : ℕ) (found : Option (Bor Volume)) (errno : Errno) → p ≡ place_of x.slot vs → MatchOption found (length vs ≤ p) (λ u. (p < length vs) × ((d : Volume) → u.now ≡ get_or vs p d)) → AreAscending vs
+    → (errno ≡ Busy) ⊎ (errno ≡ Invalid) → (errno ≡ Busy → IsSomeAnd found (λ other. other.now.slot ≡ x.slot)) → (errno ≡ Invalid → (HasSizes x → ⊥) × IfSome found (λ other. other.now.slot ≢ x.slot)) → IsRefused vs x errno
+refused_beside vs x p found errno is got ascending either busy invalid = ⊎_elim
+    (λ b. subst (IsRefused vs x) (sym b) (there vs x p found got (busy b)))
+    (λ n. let no = invalid n in subst (IsRefused vs x) (sym n) (no.0, none_there vs x.slot p is (apart_there vs x p found got no.1) ascending))
+    either
+
+-- the first words each spell a volume
+abbrev pub SpelledTo : List (Bor (List ℕ)) → ℕ → Type 0
+SpelledTo words n = (i : ℕ) → i < n → (word : Bor (List ℕ)) → (v : Volume) × Spells (get_or words i word).now v
+
+-- and so does one more
+pub spelled_more : (words : List (Bor (List ℕ))) (n : ℕ) (d : Bor (List ℕ)) (v : Volume) → n < length words → SpelledTo words n → Spells (get_or words n d).now v → SpelledTo words (n + 1)
+spelled_more words n d v inside before one i low word = ⊎_elim
+    (λ less. before i less word)
+    (λ high.
+    let at : i ≡ n = omega (arith, low, high) in
+    let same : get_or words n d ≡ get_or words i word = get_or_default words n d word inside ∙ ap (λ m. get_or words m word) (sym at) in
+    (v, subst (λ w. Spells w.now v) same one))
+    (cases_lt i n)
+
+-- or it is the first that spells none
+pub first_bad : (words : List (Bor (List ℕ))) (n : ℕ) (d : Bor (List ℕ)) → n < length words → SpelledTo words n → SpellsNone (get_or words n d).now → IsFirstBad words n
+first_bad words n d inside before none = record { there = inside; bad = λ word. subst (λ w. SpellsNone w.now) (get_or_default words n d word inside) none; before = before }
 
 -- what holds of each of some, and of one more, holds of each then
 pub All-placed : (P : Volume → Type 0) (vs : List Volume) (p : ℕ) (x : Volume) → All P vs → P x → All P (insert vs p x)

@@ -1,10 +1,12 @@
 -- Volumes as the command line spells them.
 use denote.Ref.{Bor}
 use Rattle.std.specs.Fmt.{decimal}
-use Rattle.std.specs.Prelude.{List, length, nat_lt, slice_index, ℕ, ◌++◌, ◌<◌, ◌≡◌, ◌≢◌, ◌≤◌, ◌^◌, ◌∷◌}
+use Rattle.std.specs.Prelude.{All, List, get_or, length, nat_lt, slice_index, ℕ, ◌++◌, ◌<◌, ◌≡◌, ◌≢◌, ◌≤◌, ◌^◌, ◌∷◌}
 use Rattle.std.specs.List.{AllPairs, Contains, prefix_len}
 use Rattle.std.specs.String.{string_bytes}
 use Rattle.xt_base.specs.declared.sizes.TheConstants.{LEAST_LOG, MOST_BLOCKS, MOST_LOG, SLOTS}
+use Rattle.xt_base.specs.declared.steps.Errno.{Errno}
+use Rattle.xt_base.specs.declared.steps.Errno.TheVariants.{Busy, Invalid}
 use Rattle.xt_volumes.specs.declared.volume.Volume.{Volume}
 
 -- two texts with a colon between them
@@ -35,9 +37,11 @@ pub record Spells (word : List ℕ) (v : Volume) : Type 0 where
 abbrev pub SpellsNone : List ℕ → Type 0
 SpellsNone word = (v : Volume) → Spells word v → ⊥
 
--- one of these words spells no volume
-abbrev pub HasBadWord : List (Bor (List ℕ)) → Type 0
-HasBadWord words = (word : Bor (List ℕ)) × Contains words word × SpellsNone word.now
+-- of these words the first that spells no volume has so many before it
+pub record IsFirstBad (words : List (Bor (List ℕ))) (number : ℕ) : Type 0 where
+  pub there : number < length words
+  pub bad : (word : Bor (List ℕ)) → SpellsNone (get_or words number word).now
+  pub before : (i : ℕ) → i < number → (word : Bor (List ℕ)) → (v : Volume) × Spells (get_or words i word).now v
 
 -- these are the parts of the word of a volume
 abbrev pub ArePartsOf : Volume → Bor (List ℕ) × Bor (List ℕ) × Bor (List ℕ) × Bor (List ℕ) × Bor (List ℕ) → Type 0
@@ -58,3 +62,13 @@ AreAscending vs = AllPairs (λ u v. u.slot < v.slot) vs
 -- how many of some volumes stand before the place of a slot
 abbrev pub place_of : ℕ → List Volume → ℕ
 place_of slot vs = prefix_len (λ v. nat_lt v.slot slot) vs
+
+-- why a volume can't be mounted beside some others: one of them has its slot; or none has, and its sizes are wrong
+abbrev pub IsRefused : List Volume → Volume → Errno → Type 0
+IsRefused vs v Busy = (other : Volume) × Contains vs other × (other.slot ≡ v.slot)
+IsRefused vs v Invalid = (HasSizes v → ⊥) × All (λ other. other.slot ≢ v.slot) vs
+IsRefused vs v other = ⊥
+
+-- why a slot of the volumes that these words spell can't be mounted
+abbrev pub IsTaken : List (Bor (List ℕ)) → ℕ → Errno → Type 0
+IsTaken words slot errno = (v : Volume) × (before : List Volume) × (v.slot ≡ slot) × IsNamed words v × All (IsNamed words) before × IsRefused before v errno

@@ -1,13 +1,15 @@
 //! Volumes as the command line names them.
 
-ghost use Rattle.std.specs.Prelude.{◌≡◌, ◌≤◌, ◌<◌, ◌+◌, ◌↔◌, ◌≢◌, ◌^◌, ℕ, List, All, IsErrOf, IsSomeAnd, None, Ok, Some, IfOk, IfSome, IsTrue, OnOk, length, vec_len};
+ghost use Rattle.std.specs.Prelude.{◌≡◌, ◌≤◌, ◌<◌, ◌+◌, ◌↔◌, ◌≢◌, ◌^◌, ◌⊎◌, ℕ, List, All, IsErrOf, IsSomeAnd, None, Ok, Some, IfOk, IfSome, IsTrue, OnOk, length, vec_len};
 ghost use Rattle.std.specs.Fmt.{decimal};
 ghost use Rattle.std.specs.List.{insert};
 ghost use Rattle.std.specs.String.{string_bytes};
-ghost use Rattle.xt_volumes.specs.declared.fault.VolumeFault.TheVariants.{Word as BadWord};
+ghost use Rattle.xt_volumes.specs.declared.fault.VolumeFault.TheVariants.{Slot as SlotRefused, Word as BadWord};
+ghost use Rattle.xt_base.specs.declared.steps.Errno.{Errno as AnErrno};
+ghost use Rattle.xt_base.specs.declared.steps.Errno.TheVariants.{Busy, Invalid};
 ghost use Rattle.xt_base.specs.declared.sizes.TheConstants.{SLOTS};
 ghost use Rattle.xt_volumes.specs.declared.volume.Volume.{Volume as AVolume};
-ghost use Rattle.xt_volumes.specs.Volumes.{ArePartsOf, AreAscending, HasBadWord, HasNoColon, HasSizes, IsFileName, IsNamed, Spells, SpellsNone, parted, place_of, spelled};
+ghost use Rattle.xt_volumes.specs.Volumes.{ArePartsOf, AreAscending, HasNoColon, HasSizes, IsFileName, IsFirstBad, IsNamed, IsRefused, IsTaken, Spells, SpellsNone, parted, place_of, spelled};
 
 use crate::fault::VolumeFault;
 use std::alloc::{AllocError, Global};
@@ -115,14 +117,15 @@ impl Volume {
         Ok(Some(volume))
     }
 
-    /// The volume that a word spells, or the fault that it spells none.
-    fn parse(alloc: Global, word: &str) -> Result<Self, VolumeFault>
+    /// The volume that a word spells, or the fault that it spells none, which says how many words stand before it.
+    fn parse(alloc: Global, before: usize, word: &str) -> Result<Self, VolumeFault>
         ensures spelled { IfOk result (Spells word.now) }
-        ensures bad { IsErrOf result BadWord → SpellsNone word.now }
+        ensures bad { (number : ℕ) → IsErrOf result (BadWord number) → (number ≡ before) × SpellsNone word.now }
+        ensures read { (slot : ℕ) (errno : AnErrno) → IsErrOf result (SlotRefused slot errno) → ⊥ }
     {
         match Volume::read(alloc, word) {
             Ok(Some(volume)) => Ok(volume),
-            Ok(None) => Err(VolumeFault::Word),
+            Ok(None) => Err(VolumeFault::Word(before)),
             Err(refused) => Err(VolumeFault::Memory(refused)),
         }
     }
@@ -159,27 +162,32 @@ fn place(volumes: &[Volume], slot: Slot) -> usize
         .count()
 }
 
-/// Why a volume can't be mounted beside the one that stands at its place, if it can't.
+/// Why a volume can't be mounted beside the one that stands at its place, if it can't: a slot that is taken is told before sizes, as by a
+/// mount.
 fn refused(volume: &Volume, there: Option<&Volume>) -> Result<(), VolumeFault>
-    ensures good { IsErrOf result BadWord → ⊥ }
+    ensures good { (number : ℕ) → IsErrOf result (BadWord number) → ⊥ }
     ensures sizes { OnOk result (HasSizes volume.now) }
     ensures apart { OnOk result (IfSome there.entry (λ other. other.now.slot ≢ volume.now.slot)) }
+    ensures busy { (slot : ℕ) → IsErrOf result (SlotRefused slot Busy) → IsSomeAnd there.entry (λ other. other.now.slot ≡ volume.now.slot) }
+    ensures invalid { (slot : ℕ) → IsErrOf result (SlotRefused slot Invalid) → (HasSizes volume.now → ⊥) × IfSome there.entry (λ other. other.now.slot ≢ volume.now.slot) }
+    ensures errno { (slot : ℕ) (errno : AnErrno) → IsErrOf result (SlotRefused slot errno) → (slot ≡ volume.now.slot) × ((errno ≡ Busy) ⊎ (errno ≡ Invalid)) }
 {
+    if let Some(other) = there
+        && other.slot == volume.slot
+    {
+        return Err(VolumeFault::Slot(volume.slot, Errno::Busy));
+    }
     if !volume.has_sizes() {
         return Err(VolumeFault::Slot(volume.slot, Errno::Invalid));
     }
-    match there {
-        Some(other) if other.slot == volume.slot => {
-            Err(VolumeFault::Slot(volume.slot, Errno::Busy))
-        }
-        _ => Ok(()),
-    }
+    Ok(())
 }
 
 /// Puts a volume at its place among others that ascend by slot, unless it can't be mounted beside them.
 fn add(volumes: &mut Vec<Volume>, volume: Volume) -> Result<(), VolumeFault>
     requires ascending { AreAscending volumes.old.items }
-    ensures good { IsErrOf result BadWord → ⊥ }
+    ensures good { (number : ℕ) → IsErrOf result (BadWord number) → ⊥ }
+    ensures refused { (slot : ℕ) (errno : AnErrno) → IsErrOf result (SlotRefused slot errno) → (slot ≡ volume.slot) × IsRefused volumes.old.items volume errno }
     ensures sizes { OnOk result (HasSizes volume) }
     ensures ascending { OnOk result (AreAscending volumes.new.items) }
     ensures len { OnOk result (vec_len volumes.new ≡ vec_len volumes.old + 1) }
@@ -197,11 +205,12 @@ fn add(volumes: &mut Vec<Volume>, volume: Volume) -> Result<(), VolumeFault>
 fn parse_all(alloc: Global, words: &[&str]) -> Result<Vec<Volume>, VolumeFault>
     ensures named { IfOk result (λ spelled. All (IsNamed words.now) spelled.items) }
     ensures count { IfOk result (λ spelled. vec_len spelled ≡ length words.now) }
-    ensures bad { IsErrOf result BadWord → HasBadWord words.now }
+    ensures bad { (number : ℕ) → IsErrOf result (BadWord number) → IsFirstBad words.now number }
+    ensures read { (slot : ℕ) (errno : AnErrno) → IsErrOf result (SlotRefused slot errno) → ⊥ }
 {
     let mut spelled = Vec::new(alloc);
     for word in words {
-        let volume = Volume::parse(alloc, word)?;
+        let volume = Volume::parse(alloc, spelled.len(), word)?;
         let Ok(()) = spelled.push(volume) else {
             return Err(VolumeFault::Memory(AllocError));
         };
@@ -210,13 +219,15 @@ fn parse_all(alloc: Global, words: &[&str]) -> Result<Vec<Volume>, VolumeFault>
 }
 
 /// The volumes that words spell, ascending by slot: no slot is there twice, and each has sizes that a mount may have. A word that spells
-/// none is told before all else, and then the first volume that can't be mounted beside those before it.
+/// none is told before all else, the first one, and then the first volume that can't be mounted beside those before it: one whose slot is
+/// taken as `Busy`, whatever its sizes are, and another whose sizes are wrong as `Invalid`.
 pub fn volumes(alloc: Global, words: &[&str]) -> Result<Vec<Volume>, VolumeFault>
     ensures named { IfOk result (λ volumes. All (IsNamed words.now) volumes.items) }
     ensures count { IfOk result (λ volumes. vec_len volumes ≡ length words.now) }
     ensures sizes { IfOk result (λ volumes. All HasSizes volumes.items) }
     ensures ascending { IfOk result (λ volumes. AreAscending volumes.items) }
-    ensures bad { IsErrOf result BadWord → HasBadWord words.now }
+    ensures bad { (number : ℕ) → IsErrOf result (BadWord number) → IsFirstBad words.now number }
+    ensures refused { (slot : ℕ) (errno : AnErrno) → IsErrOf result (SlotRefused slot errno) → IsTaken words.now slot errno }
 {
     let mut volumes = Vec::new(alloc);
     for volume in parse_all(alloc, words)? {

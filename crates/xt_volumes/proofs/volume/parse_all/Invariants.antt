@@ -1,4 +1,5 @@
 use Rattle.std.proofs.Common.{◌≡◌, All, vec_len}
+use Rattle.xt_volumes.proofs.VolumeLemmas.{SpelledTo}
 use Rattle.xt_volumes.specs.Volumes.{IsNamed}
 use Rattle.xt_volumes.proofs.volume.parse_all.Given as goal
 
@@ -6,5 +7,6 @@ use Rattle.xt_volumes.proofs.volume.parse_all.Given as goal
 abbrev pub invariant-loop-word : goal.invariant-loop-word
 invariant-loop-word l = record {
   named : All (IsNamed l.words) l.spelled.items;
+  spelled : SpelledTo l.words l.word-index;
   count : vec_len l.spelled ≡ l.word-index;
 }

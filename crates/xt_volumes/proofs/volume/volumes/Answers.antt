@@ -37,3 +37,12 @@ loop-volume-preserved c =
       sizes = All-same HasSizes _ _ added (All-placed HasSizes _ _ _ c.loop-volume.invariant.sizes c.in_ok-add.ensures.sizes);
       ascending = c.in_ok-add.ensures.ascending;
     }
+
+-- or it is refused beside those that were put in
+pub returns-in_err-add-clause-refused : goal.returns-in_err-add-clause-refused
+returns-in_err-add-clause-refused c = λ slot errno is.
+    let words = c.args.words.now in
+    let step : into_iter_steps c.loop-volume.volume-iterator (Some c.in-Some.volume) c.next.new.self = subst (λ r. into_iter_steps c.loop-volume.volume-iterator r c.next.new.self) c.in-Some.is c.next.ensures.steps in
+    let coming = All-same (IsNamed words) _ _ (sym step.0) c.loop-volume.invariant.coming in
+    let told = c.add.ensures.refused slot errno (search (rules, is)) in
+    (c.in-Some.volume, c.loop-volume.volumes.items, sym told.0, All-head (IsNamed words) _ _ coming, c.loop-volume.invariant.named, told.1)
