@@ -1,10 +1,12 @@
 //! A service over the files of volumes, from its mounts to its end.
 
-ghost use Rattle.std.specs.Prelude.{◌≡◌, ◌-◌, ◌^◌, All};
+ghost use Rattle.std.specs.Prelude.{◌≡◌, ◌<◌, ◌-◌, ◌^◌, ℕ, All, None, slice_index_or, true};
 ghost use Rattle.std.specs.Arc.{arc_value};
+ghost use Rattle.xt_base.specs.declared.sizes.TheConstants.{SLOTS};
+ghost use Rattle.xt_cli.specs.Ends.{is_device_fault};
 ghost use Rattle.xt_cell.specs.Ledgers.{AreCut, AreNamed};
 
-use crate::serve::ending::{Ended, with_live};
+use crate::serve::ending::{Ended, print_shut, status, with_shut};
 use crate::serve::fault::ServeFault;
 use crate::serve::files::Opened;
 use std::alloc::Global;
@@ -16,7 +18,7 @@ use std::thread::Threads;
 use std::time::Clock;
 use xt_base::names::Slot;
 use xt_base::sizes::SLOTS;
-use xt_base::steps::Errno;
+use xt_base::steps::{Errno, Reason};
 use xt_cell::house::House;
 use xt_cell::mount_ref::MountRef;
 use xt_cell::reserve::Blanks;
@@ -89,8 +91,8 @@ fn report<R: Eprint>(rt: &R, outcome: Result<(), ServeFault>) -> bool {
     }
 }
 
-/// Says that a service listens, serves its sessions, and ends it: what it leaves, which slots were unmounted live, and why not all sessions
-/// were served, if they were not.
+/// Says that a service listens, serves its sessions, and ends it: what it leaves, why slots were shut, of those that were, and why not all
+/// sessions were served, if they were not.
 fn serve_sessions<
     H: House + Send + Sync + 'static,
     R: Threads + Wait + Clock + Print + Copy + Send + 'static,
@@ -101,7 +103,11 @@ fn serve_sessions<
     service: Service<H>,
     orders: &Orders,
     mounts: &[MountRef],
-) -> (ServiceEnd<H>, [bool; SLOTS], Result<(), ServeFault>)
+) -> (
+    ServiceEnd<H>,
+    [Option<Reason>; SLOTS],
+    Result<(), ServeFault>,
+)
     requires board { service.own.board.board ≡ (arc_value host.now).board }
     requires workers { All (λ worker. (worker.promise.0.value.seat.board.board ≡ (arc_value host.now).board) × (worker.promise.0.value.pass.queue ≡ arc_value (arc_value host.now).queue)) service.crew.workers.items }
 {
@@ -113,30 +119,35 @@ fn serve_sessions<
         Err(error) => Err(ServeFault::Io(error)),
     };
     let end = service.end(&rt, host, mounts);
-    let (end, unmounted_live) = with_live(host, end, mounts);
-    (end, unmounted_live, served)
+    let (end, shut) = with_shut(host, end, mounts);
+    (end, shut, served)
 }
 
-/// Tells what was not as it should be at the end of a service.
+/// Tells what was not as it should be at the end of a service, and which slots were shut.
 fn tell_end<R: Eprint>(
     rt: &R,
     served: Result<(), ServeFault>,
-    kept: &[Option<Errno>; SLOTS],
+    kept: [Option<Errno>; SLOTS],
     is_closed: bool,
-    unmounted_live: [bool; SLOTS],
-) -> Ended {
+    shut: [Option<Reason>; SLOTS],
+) -> Ended
+    ensures shut { result.shut ≡ shut }
+    ensures fault { (slot : ℕ) → slot < SLOTS → is_device_fault (slice_index_or shut slot None) ≡ true → result.status ≡ 1 }
+{
     let closed = if is_closed {
         Ok(())
     } else {
         Err(ServeFault::Close)
     };
     let all_were_served = report(rt, served);
-    let none_is_mounted = print_all_kept(rt, kept);
+    print_shut(rt, &shut);
+    let none_is_mounted = print_all_kept(rt, &kept);
     let is_closed = report(rt, closed);
     Ended {
-        status: u8::from(!(all_were_served && none_is_mounted && is_closed)),
+        status: status(all_were_served && none_is_mounted && is_closed, &shut),
         is_closed,
-        unmounted_live,
+        kept,
+        shut,
     }
 }
 
@@ -178,7 +189,7 @@ fn run<
         Ok(service) => service,
         Err(errno) => return Err(ServeFault::Start(errno)),
     };
-    let (end, unmounted_live, served) = serve_sessions(rt, alloc, &host, service, orders, &mounts);
+    let (end, shut, served) = serve_sessions(rt, alloc, &host, service, orders, &mounts);
     let ServiceEnd {
         kept,
         seats,
@@ -188,7 +199,7 @@ fn run<
         Some(host) => host.close(seats, passes).is_ok(),
         None => false,
     };
-    Ok(tell_end(&rt, served, &kept, is_closed, unmounted_live))
+    Ok(tell_end(&rt, served, kept, is_closed, shut))
 }
 
 /// Serves volumes over new ledgers, to the end of the last session.
