@@ -16,7 +16,7 @@ use serve::options::{Options, serve_command};
 use serve::running::{Orders, serve};
 use std::alloc::{AllocError, Global};
 use std::fs::File;
-use std::io::{BufWriter, Input, IsTerminal, Stderr};
+use std::io::{BufWriter, Input, IsTerminal, Stderr, Stdin};
 use std::net::TcpListener;
 use std::process::ExitCode;
 use xt_base::names::Slot;
@@ -149,11 +149,21 @@ fn listen(rt: &HostRuntime, port: u16) -> Result<TcpListener, ServeFault> {
     }
 }
 
+/// Standard input, where its end is to end the service.
+fn ending_input(rt: &HostRuntime, options: &Options) -> Option<Stdin> {
+    if options.until_stdin_ends {
+        Some(rt.stdin())
+    } else {
+        None
+    }
+}
+
 /// Makes ready what a service needs: the port first, and files only where all can be devices.
 fn make_ready(rt: &HostRuntime, options: Options) -> Result<Next, ServeFault> {
     let alloc = rt.alloc();
     look(rt, alloc, &options.volumes, options.recovers)?;
     let listener = listen(rt, options.port)?;
+    listener.set_nonblocking(options.until_stdin_ends)?;
     let port = listener.local_addr()?.port();
     let held = hold_all(rt, alloc, &options.volumes)?;
     if options.recovers {
@@ -165,6 +175,7 @@ fn make_ready(rt: &HostRuntime, options: Options) -> Result<Next, ServeFault> {
         port,
         workers: options.workers,
         sessions: options.sessions,
+        input: ending_input(rt, &options),
     };
     Ok(Next::Serve(Ready {
         orders,

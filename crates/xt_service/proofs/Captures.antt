@@ -14,5 +14,5 @@ module _ (name : Sym) where
   pub four_send : {A B C D : RattleType} → IsSend A → IsSend B → IsSend C → IsSend D → IsSend (TupleAt name (A ∷ B ∷ C ∷ D ∷ []))
   four_send a b c d = captures_send (_ ∷ _ ∷ _ ∷ _ ∷ []) (a, (b, (c, (d, tt))))
 
-  pub seven_send : {A B C D E F G : RattleType} → IsSend A → IsSend B → IsSend C → IsSend D → IsSend E → IsSend F → IsSend G → IsSend (TupleAt name (A ∷ B ∷ C ∷ D ∷ E ∷ F ∷ G ∷ []))
-  seven_send a b c d e f g = captures_send (_ ∷ _ ∷ _ ∷ _ ∷ _ ∷ _ ∷ _ ∷ []) (a, (b, (c, (d, (e, (f, (g, tt)))))))
+  pub eight_send : {A B C D E F G I : RattleType} → IsSend A → IsSend B → IsSend C → IsSend D → IsSend E → IsSend F → IsSend G → IsSend I → IsSend (TupleAt name (A ∷ B ∷ C ∷ D ∷ E ∷ F ∷ G ∷ I ∷ []))
+  eight_send a b c d e f g i = captures_send (_ ∷ _ ∷ _ ∷ _ ∷ _ ∷ _ ∷ _ ∷ _ ∷ []) (a, (b, (c, (d, (e, (f, (g, (i, tt))))))))

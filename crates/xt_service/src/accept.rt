@@ -4,34 +4,64 @@ ghost use Rattle.std.specs.Prelude.{◌≡◌, ◌+◌, vec_len};
 ghost use Rattle.slab.specs.Slab.{slab_len};
 ghost use Rattle.std.specs.Arc.{arc_value};
 
+use crate::door::Door;
 use crate::table::Table;
 use std::alloc::Global;
-use std::io;
-use std::io::ErrorKind;
+use std::io::{self, Eprint, ErrorKind};
 use std::net::{TcpListener, TcpStream};
 use std::sync::{Arc, Wait};
+use std::thread;
 use std::thread::Threads;
+use std::time::{Clock, Duration};
 use xt_cell::house::House;
 use xt_host::desk::Desk;
 use xt_host::host::Host;
 
-/// The next stream of a listener. A client that went away before it was accepted is passed over.
-fn next_stream(listener: &TcpListener) -> io::Result<TcpStream> {
-    for stream in listener.incoming() {
-        match stream {
-            Err(error) if error.kind() == ErrorKind::ConnectionAborted => {}
-            result => return result,
+/// How long it waits before it asks again for a stream, where a listener does not wait itself, in milliseconds.
+const REST_MILLIS: u64 = 10;
+
+/// How long it waits where a stream could not be accepted, in milliseconds: others may end meanwhile, and give theirs back.
+const PAUSE_MILLIS: u64 = 100;
+
+/// Waits before a stream is asked for again. The first of some faults in a row is told on standard error: whether one was told.
+fn wait_after<R: Clock + Eprint>(rt: &R, error: &io::Error, is_told: bool) -> bool {
+    if error.kind() == ErrorKind::WouldBlock {
+        thread::sleep(rt, Duration::from_millis(REST_MILLIS));
+        return is_told;
+    }
+    if !is_told {
+        let _ = eprintln!(rt; "accept: {error}; it is tried again");
+    }
+    thread::sleep(rt, Duration::from_millis(PAUSE_MILLIS));
+    true
+}
+
+/// The next stream of a listener; None once the door is shut. A stream that could not be accepted, as where its client went away before, or
+/// where there are too many open files, is passed over.
+fn next_stream<R: Wait + Clock + Eprint>(
+    rt: &R,
+    listener: &TcpListener,
+    door: &Door,
+) -> Option<TcpStream> {
+    let mut is_told = false;
+    for _ in rt.forever() {
+        if door.is_shut() {
+            return None;
+        }
+        match listener.accept() {
+            Ok((stream, _client)) => return Some(stream),
+            Err(error) => is_told = wait_after(rt, &error, is_told),
         }
     }
-    Err(io::Error::from(ErrorKind::NotConnected))
+    unreachable!()
 }
 
 /// Serves so many sessions of a host, each in a thread of its own; while all places of the table are taken it accepts no stream. It
-/// returns when the last has begun. An error is one of accepting; then no more sessions are served, and those that run go on to their ends.
+/// returns when the last has begun, or the door is shut.
 pub fn accept_sessions<
     H: House + Send + Sync + 'static,
     D: Desk<H, R> + Drop + Send + Sync + 'static,
-    R: Threads + Wait + Copy + Send + 'static,
+    R: Threads + Wait + Clock + Eprint + Copy + Send + 'static,
 >(
     rt: R,
     alloc: Global,
@@ -39,15 +69,17 @@ pub fn accept_sessions<
     listener: &TcpListener,
     table: &mut Table<H>,
     count: u32,
-) -> io::Result<()>
+    door: &Arc<Door, Global>,
+)
     requires board { table.old.like.value.board.board ≡ (arc_value host.now).board }
     ensures like { table.new.like ≡ table.old.like }
     ensures places { slab_len table.new.sessions + vec_len table.new.free ≡ slab_len table.old.sessions + vec_len table.old.free }
 {
     for _ in 0..count {
         table.wait_for_seat(&rt);
-        let stream = next_stream(listener)?;
-        table.open(rt, alloc, host, stream);
+        let Some(stream) = next_stream(&rt, listener, door) else {
+            return;
+        };
+        table.open(rt, alloc, host, stream, door);
     }
-    Ok(())
 }

@@ -1,4 +1,4 @@
-//! When workers stop.
+//! When workers stop, and when sessions are cut.
 
 use std::sync::atomic::{AtomicBool, Ordering};
 

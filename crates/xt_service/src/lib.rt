@@ -6,6 +6,7 @@ pub mod bench;
 pub mod door;
 mod effect;
 pub mod ended;
+pub mod guest;
 mod holding;
 pub mod host_calls;
 pub mod host_session;

@@ -17,12 +17,13 @@ use crate::room::{Room, put_benches, put_seats};
 use crate::table::Table;
 use crate::workplace::Workplace;
 use std::alloc::{AllocError, Global};
+use std::io::Eprint;
 use std::net::TcpListener;
 use std::snapshot::Snapshot;
 use std::sync::{Arc, Wait};
+use std::thread;
 use std::thread::{Promise, PromisedHandle, Threads};
 use std::time::Clock;
-use std::{io, thread};
 use xt_base::sizes::SLOTS;
 use xt_base::steps::Errno;
 use xt_cell::house::House;
@@ -281,25 +282,26 @@ impl<H: House + Send + Sync + 'static> Service<H> {
         })
     }
 
-    /// Serves so many sessions over the streams of a listener, at most sixteen at a time, and returns when the last has ended. An error is
-    /// one of accepting: then no more are served.
-    pub fn serve<R: Threads + Wait + Copy + Send + 'static>(
+    /// Serves so many sessions over the streams of a listener, at most sixteen at a time, and returns when the last has ended. Once the door
+    /// is shut no more are served, and each ends where its client is silent; a listener that waits for a client finds that out only then,
+    /// so where the door may be shut it is to be one that does not block. What can't be accepted is told on standard error, and tried again.
+    pub fn serve<R: Threads + Wait + Clock + Eprint + Copy + Send + 'static>(
         &mut self,
         rt: R,
         alloc: Global,
         host: &Arc<Host<H>, Global>,
         listener: &TcpListener,
         count: u32,
-    ) -> io::Result<()>
+        door: &Arc<Door, Global>,
+    )
         requires board { self.old.own.board.board ≡ (arc_value host.now).board }
         ensures own { self.new.own ≡ self.old.own }
         ensures crew { self.new.crew ≡ self.old.crew }
         ensures running { slab_len self.new.table.sessions ≡ 0 }
         ensures places { slab_len self.new.table.sessions + vec_len self.new.table.free ≡ slab_len self.old.table.sessions + vec_len self.old.table.free }
     {
-        let accepted = accept_sessions(rt, alloc, host, listener, &mut self.table, count);
+        accept_sessions(rt, alloc, host, listener, &mut self.table, count, door);
         self.table.wait_for_all(&rt);
-        accepted
     }
 }
 

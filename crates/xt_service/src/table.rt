@@ -8,7 +8,9 @@ ghost use Rattle.xt_service.specs.HostSession.{IsHostSession};
 ghost use Rattle.xt_service.specs.declared.ended.TheConstants.{PLACES};
 ghost use Rattle.xt_session.specs.declared.session_end.SessionEnd.{SessionEnd as AnEnd};
 
+use crate::door::Door;
 use crate::ended::{Ended, PLACES};
+use crate::guest::{Hearing, Telling, tell_silence};
 use crate::host_session::host_session;
 use slab::Slab;
 use std::alloc::{AllocError, Global};
@@ -52,20 +54,24 @@ pub struct Table<H: House> {
     ghost promised_unsplit: { (number : ℕ) → ForSome (get sessions number) (λ session. session.promise.0.value.board.splits ≡ 0) },
 }
 
-/// Serves a session over a stream to its end, and closes the stream: the seat.
+/// Serves a session over a stream to its end, and closes the stream: the seat. Once the door is shut it ends where its client is silent.
 fn serve_stream<H: House, D: Desk<H, R>, R: Wait>(
     rt: &R,
     alloc: Global,
     host: &Host<H, D>,
     seat: HostSeat<H>,
     stream: TcpStream,
+    door: &Door,
 ) -> HostSeat<H>
     requires board { seat.board.board ≡ host.now.board }
     ensures session { (end : AnEnd) × IsHostSession seat result None None None None end }
     ensures board { result.board.board ≡ host.now.board }
 {
     let _ = stream.set_nodelay(true);
-    let (seat, _end) = host_session(rt, alloc, host, seat, &mut &stream, &mut &stream);
+    tell_silence(&stream);
+    let mut reader = Hearing::new(&stream, door);
+    let mut writer = Telling::new(&stream, door);
+    let (seat, _end) = host_session(rt, alloc, host, seat, &mut reader, &mut writer);
     seat
 }
 
@@ -78,12 +84,13 @@ fn serve_told<H: House, D: Desk<H, R> + Drop, R: Wait + Copy>(
     stream: TcpStream,
     ended: Arc<Ended, Global>,
     number: usize,
+    door: Arc<Door, Global>,
 ) -> HostSeat<H>
     requires board { seat.board.board ≡ (arc_value host).board }
     ensures session { (end : AnEnd) × IsHostSession seat result None None None None end }
     ensures board { result.board.board ≡ (arc_value host).board }
 {
-    let seat = serve_stream(&rt, alloc, &host, seat, stream);
+    let seat = serve_stream(&rt, alloc, &host, seat, stream, &door);
     ended.tell(&rt, number);
     seat
 }
@@ -101,20 +108,25 @@ fn start<
     stream: TcpStream,
     ended: &Arc<Ended, Global>,
     number: usize,
+    door: &Arc<Door, Global>,
 ) -> Result<Session<H>, HostSeat<H>>
     requires board { seat.board.board ≡ (arc_value host.now).board }
     ensures session { IfOk result (λ session. session.promise.0.value ≡ seat) }
     ensures ended { IfErr result (λ back. (end : AnEnd) × IsHostSession seat back None None None None end) }
     ensures seat { IfErr result (λ back. back.board.board ≡ (arc_value host.now).board) }
 {
-    let (Ok(theirs), Ok(told)) = (Arc::try_clone(host), Arc::try_clone(ended)) else {
-        return Err(serve_stream(&rt, alloc, host, seat, stream));
+    let (Ok(theirs), Ok(told), Ok(shut)) = (
+        Arc::try_clone(host),
+        Arc::try_clone(ended),
+        Arc::try_clone(door),
+    ) else {
+        return Err(serve_stream(&rt, alloc, host, seat, stream, door));
     };
     let promise = OneSession(Snapshot::of(&seat));
     let session = move || -> HostSeat<H>
         requires { seat.board.board ≡ (arc_value theirs).board }
         ensures { (end : AnEnd) × IsHostSession seat result None None None None end }
-    { serve_told(rt, alloc, theirs, seat, stream, told, number) };
+    { serve_told(rt, alloc, theirs, seat, stream, told, number, shut) };
     match thread::spawn_with(&rt, promise, session) {
         Ok(session) => Ok(session),
         Err(refused) => Err((refused.value)()),
@@ -224,11 +236,18 @@ impl<H: House> Table<H> {
 
 impl<H: House + Send + Sync + 'static> Table<H> {
     /// Serves a session of a host over a stream, in a thread of its own and by a free place. Where no thread can be made it is served
-    /// here, and this returns at its end.
+    /// here, and this returns at its end. Once the door is shut the session ends where its client is silent.
     pub fn open<
         D: Desk<H, R> + Drop + Send + Sync + 'static,
         R: Threads + Wait + Copy + Send + 'static,
-    >(&mut self, rt: R, alloc: Global, host: &Arc<Host<H, D>, Global>, stream: TcpStream)
+    >(
+        &mut self,
+        rt: R,
+        alloc: Global,
+        host: &Arc<Host<H, D>, Global>,
+        stream: TcpStream,
+        door: &Arc<Door, Global>,
+    )
         requires free { 0 < vec_len self.old.free }
         requires board { self.old.like.value.board.board ≡ (arc_value host.now).board }
         ensures like { self.new.like ≡ self.old.like }
@@ -238,7 +257,7 @@ impl<H: House + Send + Sync + 'static> Table<H> {
             unreachable!()
         };
         let number = self.sessions.vacant_key();
-        match start(rt, alloc, host, seat, stream, &self.ended, number) {
+        match start(rt, alloc, host, seat, stream, &self.ended, number, door) {
             Ok(session) => {
                 self.sessions.insert_reserved(session);
             }

@@ -42,9 +42,6 @@ pub enum ServeFault {
     /// The service could not begin.
     #[error("fault: start {}", .0.name())]
     Start(Errno),
-    /// A client could not be accepted.
-    #[error("fault: accept: {0}")]
-    Accept(io::Error),
     /// The books of the host and its seats do not agree.
     #[error("fault: close")]
     Close,

@@ -21,6 +21,8 @@ pub struct Options {
     pub workers: usize,
     /// How many sessions, 1 to 1,000,000.
     pub sessions: u32,
+    /// Whether the service ends where standard input does.
+    pub until_stdin_ends: bool,
     /// Whether volumes are recovered from logs that are not empty.
     pub recovers: bool,
     /// How the logs are kept.
@@ -98,6 +100,12 @@ if it was unmounted live",
         "Writes the last 16 bytes of a checkpoint only once those before them are synced, for file systems that may leave other bytes \
 in what was not synced",
     );
+    let until_stdin_ends = flag(
+        alloc,
+        "until-stdin-ends",
+        "Ends the service where its standard input ends, also before the last session: then no more are served, and those whose clients \
+are silent end",
+    );
     let volume = Arg::new(alloc, "VOL")
         .help(VOLUME)
         .required(true)
@@ -106,6 +114,7 @@ in what was not synced",
         "Mounts volumes in files, and serves sessions of lines over TCP",
     );
     with_numbers(alloc, serve)?
+        .arg(until_stdin_ends)?
         .arg(recover)?
         .arg(cut_logs)?
         .arg(barrier)?
@@ -123,6 +132,7 @@ impl Options {
             port: serve.get_one("port").unwrap_or(0),
             workers: usize::from(serve.get_one::<u8>("workers").unwrap_or(1)),
             sessions: serve.get_one("sessions").unwrap_or(1),
+            until_stdin_ends: serve.get_flag("until-stdin-ends"),
             recovers: serve.get_flag("recover"),
             logs: LogRules {
                 are_cut: serve.get_flag("cut-logs"),

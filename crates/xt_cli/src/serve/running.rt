@@ -10,10 +10,11 @@ use crate::serve::ending::{Ended, print_shut, status, with_shut};
 use crate::serve::fault::ServeFault;
 use crate::serve::files::Opened;
 use std::alloc::Global;
-use std::io::{Eprint, Print};
+use std::io::{self, Eprint, Print, Stdin};
 use std::marker::Brand;
 use std::net::TcpListener;
 use std::sync::{Arc, Wait};
+use std::thread;
 use std::thread::Threads;
 use std::time::Clock;
 use xt_base::names::Slot;
@@ -26,18 +27,41 @@ use xt_cell::seat::HostSeat;
 use xt_dev::home::HomeDevice;
 use xt_dev::log::LogDevice;
 use xt_host::host::Host;
+use xt_service::door::Door;
 use xt_service::service::{Service, ServiceEnd};
 
 /// After how many entries the book of a slot is folded.
 const BOOK_LIMIT: u64 = 4_096;
 
-/// A service that is to run: where it listens and at which port, how many workers it has, and how many sessions it serves.
+/// A service that is to run: where it listens and at which port, how many workers it has, how many sessions it serves, and standard input
+/// where its end ends the service; then the listener is one that does not block.
 #[derive(Drop)]
 pub struct Orders {
     pub listener: TcpListener,
     pub port: u16,
     pub workers: usize,
     pub sessions: u32,
+    pub input: Option<Stdin>,
+}
+
+/// Reads standard input to its end, or to a fault of it, and shuts a door then.
+fn shut_at_end(input: Stdin, door: Arc<Door, Global>) {
+    let mut input = input;
+    let _ = io::copy(&mut input, &mut io::sink());
+    door.shut();
+}
+
+/// Has a door shut where standard input ends. The thread that waits for that is left behind where the service ends before.
+fn watch_input<R: Threads>(
+    rt: &R,
+    input: Stdin,
+    door: &Arc<Door, Global>,
+) -> Result<(), ServeFault> {
+    let theirs = Arc::try_clone(door)?;
+    match thread::spawn(rt, move || shut_at_end(input, theirs)) {
+        Ok(_thread) => Ok(()),
+        Err(_refused) => Err(ServeFault::Start(Errno::NoMemory)),
+    }
 }
 
 /// Mounts a volume over its devices.
@@ -95,7 +119,7 @@ fn report<R: Eprint>(rt: &R, outcome: Result<(), ServeFault>) -> bool {
 /// sessions were served, if they were not.
 fn serve_sessions<
     H: House + Send + Sync + 'static,
-    R: Threads + Wait + Clock + Print + Copy + Send + 'static,
+    R: Threads + Wait + Clock + Print + Eprint + Copy + Send + 'static,
 >(
     rt: R,
     alloc: Global,
@@ -103,6 +127,7 @@ fn serve_sessions<
     service: Service<H>,
     orders: &Orders,
     mounts: &[MountRef],
+    door: &Arc<Door, Global>,
 ) -> (
     ServiceEnd<H>,
     [Option<Reason>; SLOTS],
@@ -112,15 +137,13 @@ fn serve_sessions<
     requires workers { All (λ worker. (worker.promise.0.value.seat.board.board ≡ (arc_value host.now).board) × (worker.promise.0.value.pass.queue ≡ arc_value (arc_value host.now).queue)) service.crew.workers.items }
 {
     let mut service = service;
-    let served = match println!(rt; "listening {}", orders.port) {
-        Ok(()) => service
-            .serve(rt, alloc, host, &orders.listener, orders.sessions)
-            .map_err(ServeFault::Accept),
-        Err(error) => Err(ServeFault::Io(error)),
-    };
+    let served = println!(rt; "listening {}", orders.port);
+    if served.is_ok() {
+        service.serve(rt, alloc, host, &orders.listener, orders.sessions, door);
+    }
     let end = service.end(&rt, host, mounts);
     let (end, shut) = with_shut(host, end, mounts);
-    (end, shut, served)
+    (end, shut, served.map_err(ServeFault::Io))
 }
 
 /// Tells what was not as it should be at the end of a service, and which slots were shut.
@@ -184,12 +207,16 @@ fn run<
         let at = mount(&rt, &host, &mut seat, (slot, log_bytes, blocks), home, log)?;
         mounts.push(at)?;
     }
+    let door = Arc::new(alloc, Door::new())?;
+    if let Some(input) = orders.input {
+        watch_input(&rt, input, &door)?;
+    }
     let host = Arc::new(alloc, host)?;
     let service = match Service::start(rt, alloc, &host, seat, passes) {
         Ok(service) => service,
         Err(errno) => return Err(ServeFault::Start(errno)),
     };
-    let (end, shut, served) = serve_sessions(rt, alloc, &host, service, orders, &mounts);
+    let (end, shut, served) = serve_sessions(rt, alloc, &host, service, orders, &mounts, &door);
     let ServiceEnd {
         kept,
         seats,
@@ -202,7 +229,7 @@ fn run<
     Ok(tell_end(&rt, served, kept, is_closed, shut))
 }
 
-/// Serves volumes over new ledgers, to the end of the last session.
+/// Serves volumes over new ledgers, to the end of the last session, or of standard input where that ends the service.
 pub fn serve<R: Threads + Wait + Clock + Print + Eprint + Copy + Send + 'static>(
     rt: R,
     alloc: Global,

@@ -6,7 +6,7 @@ ghost use Rattle.xt_cell.specs.Ledgers.{AreCut, AreNamed};
 
 use crate::tests::stand::{Stand, in_memory, mounted, two_slots};
 use std::alloc::Global;
-use std::io::{Read, Write};
+use std::io::{Eprint, Read, Write};
 use std::marker::Brand;
 use std::net::{Net, Shutdown, SocketAddr, TcpListener, TcpStream};
 use std::process::Abort;
@@ -24,6 +24,7 @@ use xt_cell::reserve::Blanks;
 use xt_host::desk::Slots;
 use xt_host::fault::CloseFault;
 use xt_host::host::Host;
+use xt_service::door::Door;
 use xt_service::service::{Service, ServiceEnd};
 
 /// What the clients of a service do.
@@ -173,6 +174,7 @@ fn serve_clients<
         + Threads
         + Wait
         + Clock
+        + Eprint
         + Copy
         + Send
         + 'static,
@@ -189,11 +191,14 @@ fn serve_clients<
     ensures workers { All (λ worker. (worker.promise.0.value.seat.board.board ≡ (arc_value host.now).board) × (worker.promise.0.value.pass.queue ≡ arc_value (arc_value host.now).queue)) service.new.crew.workers.items }
 {
     let listener = listen(&rt)?;
+    let Ok(door) = Arc::new(alloc, Door::new()) else {
+        return Err(Errno::NoMemory);
+    };
     let clients = call_on(rt, alloc, &listener, visit)?;
-    let served = service.serve(rt, alloc, host, &listener, visit.sessions());
-    match (clients.join(&rt), served) {
-        (Ok(told), Ok(())) => Ok(told),
-        _ => Err(Errno::Io),
+    service.serve(rt, alloc, host, &listener, visit.sessions(), &door);
+    match clients.join(&rt) {
+        Ok(told) => Ok(told),
+        Err(_fault) => Err(Errno::Io),
     }
 }
 
@@ -228,6 +233,7 @@ fn serve<
         + Threads
         + Wait
         + Clock
+        + Eprint
         + Copy
         + Send
         + 'static,
@@ -259,6 +265,7 @@ fn serves<
         + Threads
         + Wait
         + Clock
+        + Eprint
         + Copy
         + Send
         + 'static,
@@ -275,6 +282,7 @@ fn is_told<
         + Threads
         + Wait
         + Clock
+        + Eprint
         + Copy
         + Send
         + 'static,

@@ -6,10 +6,11 @@ use Rattle.std.proofs.Common.{ap, ◌∙◌}
 use Rattle.std.proofs.Crossing.{crosses, send, Arc-send}
 use Rattle.std.specs.contracts.net.TcpStream as TcpStream
 use Rattle.xt_cell.proofs.seat.HostSeat.TheSendSync as seats
-use Rattle.xt_service.proofs.Captures.{seven_send}
+use Rattle.xt_service.proofs.Captures.{eight_send}
 use Rattle.xt_service.proofs.HostChains.{host_session_used}
 use Rattle.xt_service.proofs.HostCrossing.{shared_host_send}
 use Rattle.xt_service.proofs.table.start.Goals as goal
+use Rattle.xt_service.specs.contracts.door.Door as Door
 use Rattle.xt_service.specs.contracts.ended.Ended as Ended
 
 -- the host is shared with the other thread; a seat and a stream go to it
@@ -21,7 +22,9 @@ spawn_with-requires-send-F g c κs within =
     let told_sent : IsSend Ended.the_row = search (crosses, sendable) depth 20 in
     let told_lent : IsSync Ended.the_row = search (crosses, sendable) depth 20 in
     let number : IsSend usize = search sendable in
-    param_send 2 _ (arg_send _ exits.no _ (seven_send _ c.type_bounds.send-R send host seat stream (Arc-send _ told_sent told_lent) number))
+    let door_sent : IsSend Door.the_row = search (crosses, sendable) depth 20 in
+    let door_lent : IsSync Door.the_row = search (crosses, sendable) depth 20 in
+    param_send 2 _ (arg_send _ exits.no _ (eight_send _ c.type_bounds.send-R send host seat stream (Arc-send _ told_sent told_lent) number (Arc-send _ door_sent door_lent)))
 
 -- the session was served here, by the seat that the closure has
 pub returns-in-Err-clause-seat : goal.returns-in-Err-clause-seat

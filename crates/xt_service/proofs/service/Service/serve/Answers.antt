@@ -8,8 +8,8 @@ use Rattle.xt_service.specs.contracts.service.Service.serve.dyn-1 as one
 use Rattle.xt_service.specs.contracts.service.Service.serve.dyn-2 as two
 
 -- the sixteen slots may go to another thread
-pub accept_sessions-accepted-requires-send-D : goal.accept_sessions-accepted-requires-send-D
-accept_sessions-accepted-requires-send-D g c κs within =
+pub accept_sessions-requires-send-D : goal.accept_sessions-requires-send-D
+accept_sessions-requires-send-D g c κs within =
     let A = Vt (one.slots g.row.H g.row.R) g.dyn-1.0 in
     let B = Vt (two.slots g.row.H g.row.R) g.dyn-2.0 in
     let ga = ghosts_of (one.slots g.row.H g.row.R) g.dyn-1.0 g.dyn-1.1 in
@@ -19,8 +19,8 @@ accept_sessions-accepted-requires-send-D g c κs within =
     param_send 1 _ (arg_send _ exits.no _ (slots_send (param 0 g.row.H) A B g.H.House ga gb g.dyn-1.2 a g.dyn-2.2 b))
 
 -- and be lent to it
-pub accept_sessions-accepted-requires-sync-D : goal.accept_sessions-accepted-requires-sync-D
-accept_sessions-accepted-requires-sync-D g c κs within =
+pub accept_sessions-requires-sync-D : goal.accept_sessions-requires-sync-D
+accept_sessions-requires-sync-D g c κs within =
     let A = Vt (one.slots g.row.H g.row.R) g.dyn-1.0 in
     let B = Vt (two.slots g.row.H g.row.R) g.dyn-2.0 in
     let ga = ghosts_of (one.slots g.row.H g.row.R) g.dyn-1.0 g.dyn-1.1 in
