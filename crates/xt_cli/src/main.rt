@@ -11,7 +11,7 @@ use recovery::options::{Asked, recover_command};
 use recovery::volumes::{empty_logs, recover_volumes};
 use serve::fault::ServeFault;
 use serve::files::{Opened, look, open};
-use serve::holding::hold_all;
+use serve::making::{make_and_hold, remove_made};
 use serve::options::{Options, serve_command};
 use serve::running::{Orders, serve};
 use std::alloc::{AllocError, Global};
@@ -149,6 +149,39 @@ fn listen(rt: &HostRuntime, port: u16) -> Result<TcpListener, ServeFault> {
     }
 }
 
+/// The files of volumes that are served: the home devices as they are locked, and all as devices.
+type Files = (Vec<File>, Vec<Opened>);
+
+/// Makes those files of volumes that are missing, locks the home devices, recovers what is to be recovered, and opens all. What was locked and
+/// made is noted, up to a fault too.
+fn make_and_open<'a>(
+    rt: &HostRuntime,
+    alloc: Global,
+    options: &'a Options,
+    held: &mut Vec<File>,
+    made: &mut Vec<&'a str>,
+) -> Result<Vec<Opened>, ServeFault> {
+    for volume in &options.volumes {
+        make_and_hold(rt, alloc, volume, held, made)?;
+    }
+    if options.recovers {
+        recover_volumes(rt, alloc, &options.volumes)?;
+    }
+    open(rt, alloc, &options.volumes, options.logs)
+}
+
+/// Opens the files of volumes. Where one can't be opened, no file that was made for that is left.
+fn open_files(rt: &HostRuntime, alloc: Global, options: &Options) -> Result<Files, ServeFault> {
+    let (mut held, mut made) = (Vec::new(alloc), Vec::new(alloc));
+    match make_and_open(rt, alloc, options, &mut held, &mut made) {
+        Ok(opened) => Ok((held, opened)),
+        Err(fault) => {
+            remove_made(rt, &made);
+            Err(fault)
+        }
+    }
+}
+
 /// Standard input, where its end is to end the service.
 fn ending_input(rt: &HostRuntime, options: &Options) -> Option<Stdin> {
     if options.until_stdin_ends {
@@ -165,11 +198,7 @@ fn make_ready(rt: &HostRuntime, options: Options) -> Result<Next, ServeFault> {
     let listener = listen(rt, options.port)?;
     listener.set_nonblocking(options.until_stdin_ends)?;
     let port = listener.local_addr()?.port();
-    let held = hold_all(rt, alloc, &options.volumes)?;
-    if options.recovers {
-        recover_volumes(rt, alloc, &options.volumes)?;
-    }
-    let opened = open(rt, alloc, &options.volumes, options.logs)?;
+    let (held, opened) = open_files(rt, alloc, &options)?;
     let orders = Orders {
         listener,
         port,
@@ -197,9 +226,14 @@ fn with_volumes(rt: &HostRuntime, matches: &ArgMatches) -> Result<Option<Next>, 
     }
 }
 
-/// Tells of a fault: the status.
+/// Tells of a fault: the status. On a terminal the word that names no volume is shown too.
 fn fail(rt: &HostRuntime, fault: &ServeFault) -> u8 {
     let _ = eprintln!(rt; "{fault}");
+    if let ServeFault::Word(word) = fault
+        && terminal(rt).is_some()
+    {
+        let _ = eprintln!(rt; "volume '{word}'");
+    }
     1
 }
 

@@ -5,5 +5,6 @@ pub mod fault;
 pub mod files;
 pub mod growth;
 pub mod holding;
+pub mod making;
 pub mod options;
 pub mod running;

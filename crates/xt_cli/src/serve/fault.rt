@@ -12,9 +12,12 @@ use xt_volumes::VolumeFault;
 /// Why volumes are not served, or not to the end of the service.
 #[derive(Debug, Drop, Error)]
 pub enum ServeFault {
+    /// A word that names no volume: the line is the same for all.
+    #[error("fault: volume")]
+    Word(String),
     /// Words that name no volumes that can be mounted together.
     #[error("{0}")]
-    Volume(#[from] VolumeFault),
+    Volume(VolumeFault),
     /// A slot that can't be mounted.
     #[error("fault: slot {} {}", .0.index(), .1.name())]
     Slot(Slot, Errno),

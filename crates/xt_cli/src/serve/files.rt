@@ -5,6 +5,7 @@ use crate::serve::growth::GrowingLog;
 use std::alloc::Global;
 use std::fs;
 use std::io::{self, ErrorKind};
+use std::os::unix::fs::FileTypeExt;
 use std::path::{Path, PathBuf};
 use xt_base::names::Slot;
 use xt_dev::{FileFault, FileHome, FileLog};
@@ -59,10 +60,12 @@ fn place(rt: &HostRuntime, alloc: Global, name: &str) -> io::Result<PathBuf> {
     }
 }
 
-/// How many bytes a file has, if it is there; no folder is a file, and no name that ends as one of a folder is that of a file.
+/// How many bytes a file has, if it is there; no folder is a file, no pipe either, which has no bytes to go back to, and no name that ends as
+/// one of a folder is that of a file.
 pub fn size(rt: &HostRuntime, name: &str) -> io::Result<u64> {
     match fs::metadata(rt, name) {
         Ok(found) if found.is_dir() => Err(io::Error::from(ErrorKind::IsADirectory)),
+        Ok(found) if found.file_type().is_fifo() => Err(io::Error::from(ErrorKind::NotSeekable)),
         Ok(found) => Ok(found.len()),
         Err(error) if error.kind() == ErrorKind::NotFound && !name.ends_with('/') => Ok(0),
         Err(error) => Err(error),

@@ -5,7 +5,6 @@ use crate::serve::files::fault;
 use std::alloc::Global;
 use std::fs::{File, TryLockError};
 use xt_dev::fault::FileFault;
-use xt_volumes::Volume;
 
 /// Locks the file of a home device until the handle is let go, or this process ends. A file system without locks is trusted.
 pub fn hold(rt: &HostRuntime, alloc: Global, name: &str) -> Result<File, ServeFault> {
@@ -22,17 +21,4 @@ pub fn hold(rt: &HostRuntime, alloc: Global, name: &str) -> Result<File, ServeFa
         return Err(ServeFault::InUse(String::from_str(alloc, name)?));
     }
     Ok(file)
-}
-
-/// Locks the home devices of volumes.
-pub fn hold_all(
-    rt: &HostRuntime,
-    alloc: Global,
-    volumes: &[Volume],
-) -> Result<Vec<File>, ServeFault> {
-    let mut held = Vec::new(alloc);
-    for volume in volumes {
-        held.push(hold(rt, alloc, volume.home.as_str())?)?;
-    }
-    Ok(held)
 }

@@ -5,7 +5,7 @@ use crate::serve::files::LogRules;
 use clap::builder::ValueParser;
 use clap::{Arg, ArgAction, ArgMatches, Command};
 use std::alloc::{AllocError, Global};
-use xt_volumes::{Volume, volumes};
+use xt_volumes::{Volume, VolumeFault, volumes};
 
 /// What a volume is, with an example.
 const VOLUME: &str = "A volume, SLOT:LOGBYTES:BLOCKS:HOMEFILE:LOGFILE: \
@@ -121,6 +121,28 @@ are silent end",
         .arg(volume)
 }
 
+/// A fault of the words that name volumes, with the word that names none.
+fn fault(alloc: Global, words: &[&str], fault: VolumeFault) -> ServeFault {
+    let VolumeFault::Word(number) = fault else {
+        return ServeFault::Volume(fault);
+    };
+    let Some(word) = words.get(number) else {
+        return ServeFault::Volume(fault);
+    };
+    match String::from_str(alloc, word) {
+        Ok(word) => ServeFault::Word(word),
+        Err(refused) => ServeFault::Memory(refused),
+    }
+}
+
+/// The volumes that words name.
+fn volumes_of(alloc: Global, words: &[&str]) -> Result<Vec<Volume>, ServeFault> {
+    match volumes(alloc, words) {
+        Ok(volumes) => Ok(volumes),
+        Err(found) => Err(fault(alloc, words, found)),
+    }
+}
+
 impl Options {
     /// The options of a service, if that is asked.
     pub fn of(alloc: Global, matches: &ArgMatches) -> Result<Option<Self>, ServeFault> {
@@ -138,7 +160,7 @@ impl Options {
                 are_cut: serve.get_flag("cut-logs"),
                 have_barrier: serve.get_flag("barrier"),
             },
-            volumes: volumes(alloc, words)?,
+            volumes: volumes_of(alloc, words)?,
         }))
     }
 }

@@ -1,0 +1,47 @@
+//! The files of volumes, made where they are missing: where a volume can't be served, none that was made for another is left behind.
+
+use crate::serve::fault::ServeFault;
+use crate::serve::files::fault;
+use crate::serve::holding::hold;
+use std::alloc::Global;
+use std::fs::{self, File};
+use std::io::ErrorKind;
+use xt_dev::fault::FileFault;
+use xt_volumes::Volume;
+
+/// Makes a file, empty, where it is missing: whether it was.
+fn make(rt: &HostRuntime, alloc: Global, name: &str) -> Result<bool, ServeFault> {
+    match File::options().write(true).create_new(true).open(rt, name) {
+        Ok(_file) => Ok(true),
+        Err(error) if error.kind() == ErrorKind::AlreadyExists => Ok(false),
+        Err(error) => Err(fault(alloc, name, FileFault::Io(error))),
+    }
+}
+
+/// Makes the files of a volume that are missing, locks its home device, and notes what was made. A file is noted only where the home device
+/// is locked, so that none is removed that another process has meanwhile.
+pub fn make_and_hold<'a>(
+    rt: &HostRuntime,
+    alloc: Global,
+    volume: &'a Volume,
+    held: &mut Vec<File>,
+    made: &mut Vec<&'a str>,
+) -> Result<(), ServeFault> {
+    let (home, log) = (volume.home.as_str(), volume.log.as_str());
+    let is_home_made = make(rt, alloc, home)?;
+    held.push(hold(rt, alloc, home)?)?;
+    if is_home_made {
+        made.push(home)?;
+    }
+    if make(rt, alloc, log)? {
+        made.push(log)?;
+    }
+    Ok(())
+}
+
+/// Removes files that were made, while their home devices are locked still.
+pub fn remove_made(rt: &HostRuntime, made: &[&str]) {
+    for name in made {
+        let _ = fs::remove_file(rt, *name);
+    }
+}
