@@ -24,9 +24,10 @@ invalid = negsuc 21
 abbrev pub disorder : ℤ
 disorder = negsuc 70
 
--- an open of a handle that held nothing: a new host; or ENOMEM, and it holds nothing
-abbrev pub IsOpened : ℤ → Option Told → Type 0
-IsOpened status new = ((status ≡ pos 0) × IfSome new (λ t. IsNew t.host × (t.said ≡ None))) ⊎ ((status ≡ no_memory) × (new ≡ None))
+-- an open of a handle that holds a host is EBUSY, and it is as it was; of one that holds none: a new host; or ENOMEM, and it holds none
+abbrev pub IsOpened : ℤ → Option Told → Option Told → Type 0
+IsOpened status new None = ((status ≡ pos 0) × IfSome new (λ t. IsNew t.host × (t.said ≡ None))) ⊎ ((status ≡ no_memory) × (new ≡ None))
+IsOpened status new (Some old) = (status ≡ busy) × (new ≡ Some old)
 
 -- a step: taken, and its turn is kept; or it may not come now, or there was no memory to copy what it offered, and nothing is changed
 abbrev pub IsTurn : Step → ℤ → Told → Told → Type 0

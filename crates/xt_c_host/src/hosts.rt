@@ -1,8 +1,8 @@
 //! A host made, asked and ended.
 
-ghost use Rattle.std.specs.Prelude.{◌≡◌, None, option_map};
+ghost use Rattle.std.specs.Prelude.{◌≡◌, None};
 ghost use Rattle.xt_c_host.specs.Holding.{held};
-ghost use Rattle.xt_c_host.specs.Stepping.{IsOpened, IsStep, IsTextOf, busy};
+ghost use Rattle.xt_c_host.specs.Stepping.{IsOpened, IsStep, IsTextOf};
 ghost use Rattle.xt_text.specs.LineReading.{parsed};
 
 use crate::handle::Handle;
@@ -13,8 +13,7 @@ use std::alloc::Global;
 /// Makes a host of which no slot was mounted, which a handle that holds none then holds.
 #[unsafe(no_mangle)]
 pub extern "C" fn refskold_abi_host_open(alloc: Global, handle: &mut Handle) -> i32
-    ensures opened { held handle.old ≡ None → IsOpened result (held handle.new) }
-    ensures busy { (result ≡ busy) → held handle.new ≡ held handle.old }
+    ensures { IsOpened result (held handle.new) (held handle.old) }
 {
     if let Some(host) = handle.take(alloc) {
         handle.put(host);

@@ -27,10 +27,11 @@ pub record IsOpen (log : List ℕ) (told : LogWords) (t : Texts) : Type 0 where
   pub rest : told.rest ≡ t.counts.rest
   pub blocks : told.blocks ≡ length t.blocks
 
--- an open of a handle that held nothing, by what it returned: 0 gathered; 1 a field at the byte that is told breaks its rule; 2 a text at that byte says
--- another size of a block; ENOMEM. But for 0 the handle holds nothing
-abbrev pub IsOpened : ℤ → List ℕ → LogWords → Option Texts → Type 0
-IsOpened status log told new =
+-- an open of a handle that holds something is EBUSY, and it is as it was; of one that holds nothing, by what it returned: 0 gathered; 1 a field at the byte
+-- that is told breaks its rule; 2 a text at that byte says another size of a block; ENOMEM. But for 0 the handle then holds nothing
+abbrev pub IsOpened : ℤ → List ℕ → LogWords → Option Texts → Option Texts → Type 0
+IsOpened status log told new (Some old) = (status ≡ busy) × (new ≡ Some old)
+IsOpened status log told new None =
     ((status ≡ pos 0) × IfSome new (IsOpen log told))
     ⊎ ((status ≡ pos 1) × (new ≡ None) × IsWhyLog log (LogFault.Broken told.at))
     ⊎ ((status ≡ pos 2) × (new ≡ None) × IsWhyLog log (LogFault.Sized told.at))

@@ -2,7 +2,7 @@
 
 ghost use Rattle.std.specs.Prelude.{◌≡◌, None, slice_get};
 ghost use Rattle.xt_c_log.specs.Holding.{held};
-ghost use Rattle.xt_c_log.specs.Told.{IsBlock, IsBlockOf, IsLaid, IsOpened, busy};
+ghost use Rattle.xt_c_log.specs.Told.{IsBlock, IsBlockOf, IsLaid, IsOpened};
 
 use crate::gathered::gather_log;
 use crate::handle::Handle;
@@ -26,8 +26,7 @@ pub extern "C" fn refskold_abi_log_open(
     log: &[u8],
     told: &mut LogWords,
 ) -> i32
-    ensures opened { held handle.old ≡ None → IsOpened result log.now told.new (held handle.new) }
-    ensures busy { (result ≡ busy) → held handle.new ≡ held handle.old }
+    ensures { IsOpened result log.now told.new (held handle.new) (held handle.old) }
 {
     if let Some(gathered) = handle.take(alloc) {
         handle.put(gathered);
