@@ -5,27 +5,11 @@
 #include <stdio.h>
 #include <stdlib.h>
 #include <string.h>
-#include <time.h>
+#include "timing.h"
 
 enum { BLOCKS = 64, BLOCK = 4096, CHANGE = 128, WHOLE = 8 };
 
 static uint8_t content[BLOCK];
-
-/* The seconds of the processor so far. */
-static double now(void)
-{
-    struct timespec time;
-    clock_gettime(CLOCK_PROCESS_CPUTIME_ID, &time);
-    return (double)time.tv_sec + (double)time.tv_nsec * 1e-9;
-}
-
-/* Ends the run where a call did not end as it must. */
-static void want(int is_well, const char *what)
-{
-    if (is_well) return;
-    fprintf(stderr, "anchors: %s\n", what);
-    exit(1);
-}
 
 /* Changes a content that was read, as the transaction of this number does. */
 static void edit(const void *read, long number, unsigned bytes)

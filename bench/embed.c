@@ -7,30 +7,14 @@
 #include <stdlib.h>
 #include <string.h>
 #include <sys/mman.h>
-#include <time.h>
 #include <unistd.h>
+#include "timing.h"
 
 enum { BLOCKS = 64, LOG_BYTES = 16777216, CHANGE = 128, WHOLE = 8, UNIT = 40000, CALLS = 1000000 };
 
 static refskold mount;
 static uint8_t *home, *journal;
 static size_t journal_length;
-
-/* The seconds of the processor so far. */
-static double now(void)
-{
-    struct timespec time;
-    clock_gettime(CLOCK_PROCESS_CPUTIME_ID, &time);
-    return (double)time.tv_sec + (double)time.tv_nsec * 1e-9;
-}
-
-/* Ends the run where a call did not end as it must. */
-static void want(int is_well, const char *what)
-{
-    if (is_well) return;
-    fprintf(stderr, "embed: %s\n", what);
-    exit(1);
-}
 
 static uint8_t *mapped(const char *name, size_t length)
 {
