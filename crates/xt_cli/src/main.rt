@@ -104,17 +104,21 @@ fn open_log(rt: &HostRuntime, path: &str) -> Result<File, LogFault> {
     Ok(file)
 }
 
-/// Prints the checkpoints of a log file.
+/// Prints the checkpoints of a log file. On a terminal a log that is at fault is named too.
 fn dump_file(rt: &HostRuntime, path: &str) -> Result<u8, ScriptFault> {
     let alloc = rt.alloc();
     let mut writer = BufWriter::with_capacity(alloc, OUTPUT_BYTES, rt.stdout())?;
-    Ok(match open_log(rt, path) {
+    let status = match open_log(rt, path) {
         Ok(file) => {
             let mut reader = Watched::new(file, terminal(rt));
             dump(alloc, &mut reader, &mut writer, &mut rt.stderr())
         }
         Err(fault) => tell(&mut rt.stderr(), &fault),
-    })
+    };
+    if status != 0 && terminal(rt).is_some() {
+        let _ = eprintln!(rt; "log '{path}'");
+    }
+    Ok(status)
 }
 
 /// The file whose log is printed, if that is asked.
@@ -129,7 +133,7 @@ struct Ready {
     /// The volumes, and whether their logs are emptied at the end.
     volumes: Vec<Volume>,
     cuts_logs: bool,
-    /// The home devices, locked for as long as the service runs.
+    /// The files, locked for as long as the service runs.
     held: Vec<File>,
 }
 
@@ -149,10 +153,10 @@ fn listen(rt: &HostRuntime, port: u16) -> Result<TcpListener, ServeFault> {
     }
 }
 
-/// The files of volumes that are served: the home devices as they are locked, and all as devices.
+/// The files of volumes that are served: as they are locked, and as devices.
 type Files = (Vec<File>, Vec<Opened>);
 
-/// Makes those files of volumes that are missing, locks the home devices, recovers what is to be recovered, and opens all. What was locked and
+/// Makes those files of volumes that are missing, locks all, recovers what is to be recovered, and opens all. What was locked and
 /// made is noted, up to a fault too.
 fn make_and_open<'a>(
     rt: &HostRuntime,

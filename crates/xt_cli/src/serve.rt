@@ -1,6 +1,7 @@
 //! `xth serve`: a host over volumes in files, for daemons in any language.
 
 pub mod ending;
+pub mod failing;
 pub mod fault;
 pub mod files;
 pub mod growth;

@@ -4,7 +4,7 @@ use crate::recovery::emptying::LogFile;
 use crate::recovery::options::Asked;
 use crate::serve::fault::ServeFault;
 use crate::serve::files::{fault, look_at, look_for};
-use crate::serve::holding::hold;
+use crate::serve::holding::{hold, lock};
 use crate::terminal;
 use std::alloc::Global;
 use std::fs::File;
@@ -57,6 +57,7 @@ pub fn recover_files(rt: &HostRuntime, asked: Asked) -> Result<u8, ServeFault> {
         mut log,
     } = open_left(rt, alloc, asked)?;
     let _held = hold(rt, alloc, asked.home)?;
+    lock(alloc, asked.log, &reader)?;
     let mut reader = Watched::new(reader, terminal(rt));
     let mut writer = BufWriter::with_capacity(alloc, OUTPUT_BYTES, rt.stdout())?;
     Ok(run(

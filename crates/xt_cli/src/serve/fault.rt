@@ -27,8 +27,8 @@ pub enum ServeFault {
     /// A file that two devices would have.
     #[error("fault: {0} is named twice")]
     Twice(String),
-    /// A home device that another process has.
-    #[error("fault: {0} is in use")]
+    /// A file that another process has, or another device by another name.
+    #[error("fault: {0}: in use")]
     InUse(String),
     /// A file that can't be a device.
     #[error("fault: {0}: {1}")]

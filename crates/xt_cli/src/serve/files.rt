@@ -1,5 +1,6 @@
 //! The files of volumes, looked at before any is made, and opened as devices.
 
+use crate::serve::failing::TellingHome;
 use crate::serve::fault::ServeFault;
 use crate::serve::growth::GrowingLog;
 use std::alloc::Global;
@@ -17,7 +18,7 @@ pub struct Opened {
     pub slot: Slot,
     pub log_bytes: u32,
     pub blocks: u64,
-    pub home: FileHome,
+    pub home: TellingHome,
     pub log: GrowingLog,
 }
 
@@ -161,7 +162,7 @@ fn open_one(
         slot: volume.slot,
         log_bytes: volume.log_bytes,
         blocks: volume.blocks,
-        home,
+        home: TellingHome::new(home, volume.slot, rt.stderr()),
         log,
     })
 }

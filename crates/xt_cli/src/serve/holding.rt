@@ -1,4 +1,4 @@
-//! Home devices that are in use: no other process may recover or serve them meanwhile.
+//! Files of volumes that are in use: no other process may recover or serve them meanwhile.
 
 use crate::serve::fault::ServeFault;
 use crate::serve::files::fault;
@@ -6,19 +6,20 @@ use std::alloc::Global;
 use std::fs::{File, TryLockError};
 use xt_dev::fault::FileFault;
 
-/// Locks the file of a home device until the handle is let go, or this process ends. A file system without locks is trusted.
-pub fn hold(rt: &HostRuntime, alloc: Global, name: &str) -> Result<File, ServeFault> {
-    let opened = File::options()
-        .read(true)
-        .write(true)
-        .create(true)
-        .open(rt, name);
-    let file = match opened {
-        Ok(file) => file,
-        Err(error) => return Err(fault(alloc, name, FileFault::Io(error))),
-    };
+/// Locks a file until its handle and all copies of it are let go, or this process ends. A file system without locks is trusted.
+pub fn lock(alloc: Global, name: &str, file: &File) -> Result<(), ServeFault> {
     if let Err(TryLockError::WouldBlock) = file.try_lock() {
         return Err(ServeFault::InUse(String::from_str(alloc, name)?));
     }
+    Ok(())
+}
+
+/// Locks the file of a device, which is made where it is missing, until the handle is let go, or this process ends.
+pub fn hold(rt: &HostRuntime, alloc: Global, name: &str) -> Result<File, ServeFault> {
+    let file = match File::options().write(true).create(true).open(rt, name) {
+        Ok(file) => file,
+        Err(error) => return Err(fault(alloc, name, FileFault::Io(error))),
+    };
+    lock(alloc, name, &file)?;
     Ok(file)
 }

@@ -18,8 +18,24 @@ fn make(rt: &HostRuntime, alloc: Global, name: &str) -> Result<bool, ServeFault>
     }
 }
 
-/// Makes the files of a volume that are missing, locks its home device, and notes what was made. A file is noted only where the home device
-/// is locked, so that none is removed that another process has meanwhile.
+/// Makes the file of a device where it is missing, locks it, and notes it if it was made. It is noted only once it is locked, so that none is
+/// removed that another process has meanwhile.
+fn make_and_hold_one<'a>(
+    rt: &HostRuntime,
+    alloc: Global,
+    name: &'a str,
+    held: &mut Vec<File>,
+    made: &mut Vec<&'a str>,
+) -> Result<(), ServeFault> {
+    let is_made = make(rt, alloc, name)?;
+    held.push(hold(rt, alloc, name)?)?;
+    if is_made {
+        made.push(name)?;
+    }
+    Ok(())
+}
+
+/// Makes the files of a volume that are missing, locks both, and notes what was made.
 pub fn make_and_hold<'a>(
     rt: &HostRuntime,
     alloc: Global,
@@ -27,19 +43,11 @@ pub fn make_and_hold<'a>(
     held: &mut Vec<File>,
     made: &mut Vec<&'a str>,
 ) -> Result<(), ServeFault> {
-    let (home, log) = (volume.home.as_str(), volume.log.as_str());
-    let is_home_made = make(rt, alloc, home)?;
-    held.push(hold(rt, alloc, home)?)?;
-    if is_home_made {
-        made.push(home)?;
-    }
-    if make(rt, alloc, log)? {
-        made.push(log)?;
-    }
-    Ok(())
+    make_and_hold_one(rt, alloc, volume.home.as_str(), held, made)?;
+    make_and_hold_one(rt, alloc, volume.log.as_str(), held, made)
 }
 
-/// Removes files that were made, while their home devices are locked still.
+/// Removes files that were made, while they are locked still.
 pub fn remove_made(rt: &HostRuntime, made: &[&str]) {
     for name in made {
         let _ = fs::remove_file(rt, *name);
