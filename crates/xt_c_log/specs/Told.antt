@@ -1,5 +1,5 @@
 -- What exports return, and what they tell.
-use Rattle.std.specs.Prelude.{IfSome, List, MatchBool, None, Option, Some, length, negsuc, pos, slice_get, ℕ, ℤ, ◌==◌, ◌≡◌, ◌⊎◌}
+use Rattle.std.specs.Prelude.{IsSomeAnd, List, MatchBool, None, Option, Some, length, negsuc, pos, slice_get, ℕ, ℤ, ◌==◌, ◌≡◌, ◌⊎◌}
 use Rattle.xt_base.specs.declared.sizes.TheConstants.{BLOCK_BYTES}
 use Rattle.xt_c_log.specs.Texts.{IsOf, Texts}
 use Rattle.xt_c_log.specs.declared.words.LogWords.{LogWords}
@@ -32,7 +32,7 @@ pub record IsOpen (log : List ℕ) (told : LogWords) (t : Texts) : Type 0 where
 abbrev pub IsOpened : ℤ → List ℕ → LogWords → Option Texts → Option Texts → Type 0
 IsOpened status log told new (Some old) = (status ≡ busy) × (new ≡ Some old)
 IsOpened status log told new None =
-    ((status ≡ pos 0) × IfSome new (IsOpen log told))
+    ((status ≡ pos 0) × IsSomeAnd new (IsOpen log told))
     ⊎ ((status ≡ pos 1) × (new ≡ None) × IsWhyLog log (LogFault.Broken told.at))
     ⊎ ((status ≡ pos 2) × (new ≡ None) × IsWhyLog log (LogFault.Sized told.at))
     ⊎ ((status ≡ no_memory) × (new ≡ None))
