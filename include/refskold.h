@@ -729,20 +729,21 @@ static inline int refskold_read_checkpoint(const void *input, size_t length, ref
 
 /* A host of sixteen slots, none of which can see another: a handle as that of a mount, by the same rules, with
  * REFSKOLD_NONE for none. It is asked by lines of the language of `xth script` (docs/use/script.md), in which a step has
- * the answers of devices in it. So it says what a volume would say; it writes to no device, and does not hand out what
- * would be written. Where devices are real take a handle of a mount for each volume. */
+ * the answers of devices in it. So it says what a volume would say and would write; it writes to no device, and hands a
+ * write out only with its answer. Where devices are real take a handle of a mount for each volume. */
 typedef struct refskold_host {
     void *at;
     uint64_t holds;
 } refskold_host;
 
-#define REFSKOLD_REPLY 8448u                  /* bytes of a room that each reply fits */
+#define REFSKOLD_REPLY 8448u                  /* bytes of a room that each reply and each offer fits */
 
 /* The struct form, as above. */
 int32_t refskold_abi_host_open(refskold_host *host);
 void refskold_abi_host_close(refskold_host *host);
 int32_t refskold_abi_host_step(refskold_host *host, const uint8_t *line, size_t line_len);
 int32_t refskold_abi_host_reply(refskold_host *host, size_t *length, uint8_t *room, size_t room_len);
+int32_t refskold_abi_host_offer(refskold_host *host, uint32_t index, size_t *length, uint8_t *room, size_t room_len);
 
 /* Makes a host of which no slot was mounted. 0. -EBUSY: the handle holds one. -ENOMEM. */
 static inline int refskold_host_open(refskold_host *host)
@@ -762,7 +763,7 @@ static inline int refskold_host_close(refskold_host *host)
  * volume answers is a reply. The replies of a slot, and what it holds, are those of the slot alone on its own steps.
  *
  * -EINVAL: the line spells no step. -EPROTO: the step may not come now, as the answer to a read that nobody asked for.
- * -ENOMEM. -ENODEV. */
+ * -ENOMEM: only of a line with data, of the end of a checkpoint, and of a flush. -ENODEV. */
 static inline int refskold_host_step(refskold_host *host, const char *line, size_t length)
 {
     static const uint8_t none[1] = { 0 };
@@ -773,11 +774,22 @@ static inline int refskold_host_step(refskold_host *host, const char *line, size
 /* Copies the line of the last step's reply into a room, the slot in front, without a newline and without a zero behind it;
  * its length is written. 0.
  *
- * -EINVAL: no step was taken yet, or the room is too short. -ENOMEM. -ENODEV. */
+ * -EINVAL: no step was taken yet, or the room is too short. -ENODEV. */
 static inline int refskold_host_reply(refskold_host *host, char *room, size_t room_length, size_t *length)
 {
     if (host == NULL || room == NULL || length == NULL) return -EINVAL;
     return refskold_abi_host_reply(host, length, (uint8_t *)room, room_length);
+}
+
+/* Copies a line of what the last step offered to a device, as a reply is copied: `SLOT log DATA ok` for each piece of a
+ * checkpoint that ended, and `SLOT logsync ok`; `SLOT home BLOCK DATA ok` for each block of a flush, and `SLOT homesync ok`;
+ * `fail` for `ok` where the step said that it failed. Places count from 0; other steps offer nothing. 0.
+ *
+ * -EINVAL: no step was taken yet, it has no offer at this place, or the room is too short. -ENODEV. */
+static inline int refskold_host_offer(refskold_host *host, uint32_t index, char *room, size_t room_length, size_t *length)
+{
+    if (host == NULL || room == NULL || length == NULL) return -EINVAL;
+    return refskold_abi_host_offer(host, index, length, (uint8_t *)room, room_length);
 }
 
 #ifdef __cplusplus

@@ -1,6 +1,6 @@
 /* Scripts of up to sixteen slots through one handle, by lines.
  *
- *     lines < SCRIPT    prints the reply of each step; ends with status 3 at a line that may not come
+ *     lines < SCRIPT    prints the reply of each step and what it offered; ends with status 3 at a line that may not come
  *     lines bad         says what no caller should, and ends with status 0 where each is told so and nothing is changed
  */
 #include <refskold.h>
@@ -18,6 +18,8 @@ static int play(refskold_host *host)
         status = refskold_host_step(host, line, strcspn(line, "\n"));
         if (status == 0) status = refskold_host_reply(host, reply, sizeof reply, &told);
         if (status == 0) printf("%.*s\n", (int)told, reply);
+        for (uint32_t k = 0; status == 0 && refskold_host_offer(host, k, reply, sizeof reply, &told) == 0; k++)
+            printf("%.*s\n", (int)told, reply);
     }
     return status == 0 ? 0 : 3;
 }
@@ -40,6 +42,8 @@ static int bad(refskold_host *host)
     wants("a step of no host", step(&none, "0.1 force"), -ENODEV);
     wants("a reply of no host", refskold_host_reply(&none, reply, sizeof reply, &told), -ENODEV);
     wants("a reply before a step", refskold_host_reply(host, reply, sizeof reply, &told), -EINVAL);
+    wants("an offer of no host", refskold_host_offer(&none, 0, reply, sizeof reply, &told), -ENODEV);
+    wants("an offer before a step", refskold_host_offer(host, 0, reply, sizeof reply, &told), -EINVAL);
     wants("a second host", refskold_host_open(host), -EBUSY);
     wants("NULL", refskold_host_step(host, NULL, 3), -EINVAL);
     wants("no line", refskold_host_step(host, NULL, 0), -EINVAL);
@@ -50,6 +54,8 @@ static int bad(refskold_host *host)
     wants("a room that is too short", refskold_host_reply(host, reply, 3, &told), -EINVAL);
     wants("its reply", refskold_host_reply(host, reply, sizeof reply, &told), 0);
     wants("the mount's reply still", told == 8 && memcmp(reply, "3 life 1", 8) == 0, 1);
+    wants("an offer of a mount", refskold_host_offer(host, 0, reply, sizeof reply, &told), -EINVAL);
+    wants("the greatest place", refskold_host_offer(host, UINT32_MAX, reply, sizeof reply, &told), -EINVAL);
     wants("an empty slot", step(host, "4.1 force"), 0);
     wants("its reply", refskold_host_reply(host, reply, sizeof reply, &told), 0);
     wants("of an empty slot", told == 8 && memcmp(reply, "4 ENODEV", 8) == 0, 1);

@@ -2,8 +2,7 @@
 
 ghost use Rattle.std.specs.Prelude.{◌≡◌, None};
 ghost use Rattle.xt_c_host.specs.Holding.{held};
-ghost use Rattle.xt_c_host.specs.Stepping.{IsOpened, IsStep, IsTextOf};
-ghost use Rattle.xt_text.specs.LineReading.{parsed};
+ghost use Rattle.xt_c_host.specs.Stepping.{IsOfferOf, IsOpened, IsStep, IsTextOf};
 
 use crate::handle::Handle;
 use crate::status::{BUSY, NO_DEVICE, NO_MEMORY};
@@ -43,7 +42,7 @@ pub extern "C" fn refskold_abi_host_close(alloc: Global, handle: &mut Handle)
 /// EINVAL: the line spells no step. But for 0 nothing is changed.
 #[unsafe(no_mangle)]
 pub extern "C" fn refskold_abi_host_step(alloc: Global, handle: &mut Handle, line: &[u8]) -> i32
-    ensures { IsStep (parsed line.now) result (held handle.new) (held handle.old) }
+    ensures { IsStep line.now result (held handle.new) (held handle.old) }
 {
     let Some(mut host) = handle.take(alloc) else {
         return NO_DEVICE;
@@ -64,10 +63,31 @@ pub extern "C" fn refskold_abi_host_reply(
     ensures reply { IsTextOf (held handle.old) result length.new room.new room.old }
     ensures same { held handle.new ≡ held handle.old }
 {
-    let Some(host) = handle.take(alloc) else {
+    let Some(mut host) = handle.take(alloc) else {
         return NO_DEVICE;
     };
-    let status = host.reply(alloc, length, room);
+    let status = host.reply(length, room);
+    handle.put(host);
+    status
+}
+
+/// Copies the line of the last step's offer at a place, from 0, to the front of a room, and writes its length; EINVAL where there is no such offer, or
+/// the room is too short.
+#[unsafe(no_mangle)]
+pub extern "C" fn refskold_abi_host_offer(
+    alloc: Global,
+    handle: &mut Handle,
+    index: u32,
+    length: &mut usize,
+    room: &mut [u8],
+) -> i32
+    ensures offer { IsOfferOf index (held handle.old) result length.new room.new room.old }
+    ensures same { held handle.new ≡ held handle.old }
+{
+    let Some(mut host) = handle.take(alloc) else {
+        return NO_DEVICE;
+    };
+    let status = host.offer(index as usize, length, room);
     handle.put(host);
     status
 }
