@@ -247,6 +247,7 @@ int32_t refskold_abi_piece(refskold *mount, uint32_t index, uint8_t *room, size_
 int32_t refskold_abi_end(refskold *mount, uint64_t serial, uint32_t taken, uint32_t synced, refskold_reply *reply);
 int32_t refskold_abi_plan(refskold *mount, refskold_plan *plan);
 int32_t refskold_abi_home(refskold *mount, uint32_t index, uint8_t *room, size_t room_len);
+int32_t refskold_abi_homes(refskold *mount, refskold_plan *plan, uint8_t *room, size_t room_len);
 int32_t refskold_abi_flush(refskold *mount, uint64_t serial, uint32_t count, uint32_t written, uint32_t synced,
                            refskold_reply *reply);
 
@@ -606,6 +607,17 @@ static inline int refskold_flush_plan(refskold *mount, refskold_plan *plan)
 static inline int refskold_home(refskold *mount, uint32_t index, void *room)
 {
     return mount == NULL || room == NULL ? -EINVAL : refskold_abi_home(mount, index, (uint8_t *)room, REFSKOLD_BLOCK);
+}
+
+/* Both at once: writes which blocks a flush writes home now, and copies what is to be written of each to the front of a room
+ * of `length` bytes, one after another in the order of the plan. Returns how many, 0 to REFSKOLD_PLAN. The plan is made
+ * once, where refskold_home makes it anew for each block. A room of REFSKOLD_PLAN * REFSKOLD_BLOCK bytes fits each plan.
+ *
+ * -EINVAL: the room is too short, and neither it nor the plan is written. */
+static inline int refskold_homes(refskold *mount, refskold_plan *plan, void *room, size_t length)
+{
+    if (mount == NULL || plan == NULL || room == NULL) return -EINVAL;
+    return refskold_abi_homes(mount, plan, (uint8_t *)room, length);
 }
 
 /* Ends a flush that was taken, by what your home device answered to the writes of the plan: `count` as in the plan, bit k

@@ -61,17 +61,16 @@ static int checkpoint(void)
 /* Does the flush that is owed, if one is: how many blocks it had. */
 static int flush(void)
 {
-    uint8_t block[REFSKOLD_BLOCK];
+    static uint8_t contents[REFSKOLD_PLAN][REFSKOLD_BLOCK];
     refskold_plan plan;
     uint64_t serial;
     uint32_t written = 0;
     int status = refskold_take(&mount, REFSKOLD_FLUSH, &serial);
     if (status != REFSKOLD_TAKEN) return status;
-    refskold_flush_plan(&mount, &plan);
-    for (uint32_t k = 0; k < plan.count; k++) {
-        refskold_home(&mount, k, block);
-        if (pwrite(home, block, sizeof block, (off_t)(plan.blocks[k] * sizeof block)) == sizeof block) written |= 1u << k;
-    }
+    status = refskold_homes(&mount, &plan, contents, sizeof contents);
+    if (status < 0) return status;
+    for (uint32_t k = 0; k < plan.count; k++)
+        if (pwrite(home, contents[k], REFSKOLD_BLOCK, (off_t)(plan.blocks[k] * REFSKOLD_BLOCK)) == REFSKOLD_BLOCK) written |= 1u << k;
     status = refskold_flush(&mount, serial, plan.count, written, fdatasync(home) == 0, NULL);
     return status < 0 ? status : (int)plan.count;
 }

@@ -347,15 +347,16 @@ static enum ended end(struct host *host, unsigned worker, struct job job, const 
 
 static enum ended flush(struct host *host, unsigned worker, struct job job, const struct words *words)
 {
-    uint8_t contents[REFSKOLD_PLAN][REFSKOLD_BLOCK];
+    uint8_t contents[REFSKOLD_PLAN][REFSKOLD_BLOCK], content[REFSKOLD_BLOCK];
     refskold *mount = &host->mounts[job.slot];
     refskold_plan plan;
     refskold_reply reply;
     uint32_t written = 0;
-    int count = refskold_flush_plan(mount, &plan);
+    int count = refskold_homes(mount, &plan, contents, sizeof contents);
     if (!has_in_hand(host, worker, &job) || count < 0 || words->count - 3 != (count > 0 ? (unsigned)count + 1 : 0)) return DISORDER;
     for (unsigned k = 0; k < (unsigned)count; k++) {
-        if (refskold_home(mount, k, contents[k]) != 0) fail("no content of a block of the plan");
+        if (refskold_home(mount, k, content) != 0) fail("no content of a block of the plan");
+        if (memcmp(content, contents[k], sizeof content) != 0) fail("another content of a block of the plan");
         if (strcmp(word(words, 3 + k), "ok") == 0) written |= 1u << k;
     }
     bool is_synced = strcmp(word(words, words->count - 1), "ok") == 0;

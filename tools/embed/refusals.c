@@ -107,6 +107,7 @@ static void bad_callers(void) {
     wants("no mount: end", refskold_end(&m, 1, 0, 1, &reply), -ENODEV);
     wants("no mount: plan", refskold_flush_plan(&m, &plan), -ENODEV);
     wants("no mount: home", refskold_home(&m, 0, room), -ENODEV);
+    wants("no mount: homes", refskold_homes(&m, &plan, room, sizeof room), -ENODEV);
     wants("no mount: flush", refskold_flush(&m, 1, 0, 0, 1, &reply), -ENODEV);
     wants("no mount: close", refskold_close(&m), 0);
     wants("NULL handle", refskold_open(NULL, 0, 65536, 1), -EINVAL);
@@ -154,6 +155,11 @@ static void bad_callers(void) {
     wants("push", refskold_push(&m), 0), wants("take", refskold_take(&m, 1, &serial), REFSKOLD_TAKEN);
     wants("another count", refskold_flush(&m, serial, 2, 3, 1, &reply), -EINVAL);
     wants("past the plan", refskold_home(&m, 1, room), -EINVAL);
+    memset(&plan, 0x5a, sizeof plan), memset(room, 0x5a, sizeof room);
+    wants("short room for a plan", refskold_homes(&m, &plan, room, REFSKOLD_BLOCK - 1), -EINVAL);
+    wants("plan untouched", plan.count, 0x5a5a5a5a), wants("room untouched", room[0], 0x5a);
+    wants("homes", refskold_homes(&m, &plan, room, REFSKOLD_BLOCK), 1);
+    wants("the plan's count", plan.count, 1), wants("the plan's block", (long)plan.blocks[0], 7), wants("its content", room[0], 'x');
     wants("flush", refskold_flush(&m, serial, 1, 1, 1, &reply), 0);
     wants("version", (long)refskold_version(), REFSKOLD_VERSION);
     refskold_close(&m), wants("closed", (long)m.holds, 0);

@@ -1,3 +1,4 @@
 pub mod ElementLemmas
+pub mod HomeLemmas
 mod LooseSteps
 pub mod WorkedLemmas

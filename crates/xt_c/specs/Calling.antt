@@ -1,5 +1,5 @@
 -- What becomes of a mount that a caller opens, calls and closes.
-use Rattle.std.specs.Prelude.{List, [], None, Option, Some, if◌then◌else◌, is_some, not, pos, true, unwrap_or, Bool, ℕ, ℤ, ◌+◌, ◌==◌, ◌||◌, ◌∷◌, ◌≡◌, ◌⊎◌, ⊤}
+use Rattle.std.specs.Prelude.{List, [], None, Option, Some, if◌then◌else◌, is_some, not, pos, true, unwrap_or, Bool, ℕ, ℤ, ◌+◌, ◌==◌, ◌||◌, ◌∷◌, ◌≡◌, ◌⊎◌}
 use Rattle.xt_base.specs.Alone.{mount_after, may_want_memory}
 use Rattle.xt_base.specs.Calls.{Outcome, alone_with, asks, first_of, gives}
 use Rattle.xt_base.specs.Form.{form_one}
@@ -86,9 +86,9 @@ pub record Leaves (request : Request) (o : Outcome) (returned : ℤ) (new old : 
   pub room : new.room ≡ room_after o.reply old.room
   pub mount : new.mount ≡ mount_after request o
 
--- the step that the definitions give; or ENOMEM, where its reply may want memory, and the mount is as it was
+-- the step that the definitions give; or ENOMEM, where its reply may want memory, and the mount is as it was. Where there is no mount nothing is served
 abbrev pub IsServed : Request → Answer → ℤ → Seen → Seen → Option State → Type 0
-IsServed request answer status new old None = ⊤
+IsServed request answer status new old None = ⊥
 IsServed request answer status new old (Some m) =
     Leaves request (alone_with [] request answer m) status new old
     ⊎ ((may_want_memory request (alone_with [] request answer m).reply ≡ true) × Leaves request (gives (Refused NoMemory) m) status new old)

@@ -1,5 +1,5 @@
 -- What becomes of a mount whose jobs a caller does.
-use Rattle.std.specs.Prelude.{Bool, List, MatchBool, None, Option, Some, [], bit_and, drop, false, if◌then◌else◌, length, nat_le, nat_lt, not, pos, slice_get, true, ℕ, ℤ, ◌++◌, ◌==◌, ◌∷◌, ◌≡◌, ◌⊎◌}
+use Rattle.std.specs.Prelude.{Bool, List, MatchBool, None, Option, Some, [], bit_and, drop, false, flat_map, if◌then◌else◌, length, nat_le, nat_lt, not, pos, slice_get, true, unwrap_or, ℕ, ℤ, ◌*◌, ◌++◌, ◌==◌, ◌∷◌, ◌≡◌, ◌⊎◌}
 use Rattle.xt_base.specs.Calls.{Outcome, gives}
 use Rattle.xt_base.specs.Jobs.{begin, end, flight_pieces, flush, flush_plan, is_begun, is_waiting, posted}
 use Rattle.xt_base.specs.Maps.{at}
@@ -122,6 +122,22 @@ IsHome (Some block) m status new old =
 abbrev pub IsHomeOf : ℕ → Option State → ℤ → List ℕ → List ℕ → Type 0
 IsHomeOf index None status new old = (status ≡ refusal NoDevice) × (new ≡ old)
 IsHomeOf index (Some m) status new old = IsHome (slice_get (flush_plan m) index) m status new old
+
+-- the committed content of a block; a block of a plan has one
+abbrev pub content_in : State → ℕ → List ℕ
+content_in m block = unwrap_or (at block m.frames.committed) []
+
+-- a plan and its contents, one after another at the front of a room; where the room is too short nothing is written
+abbrev pub AreHomes : List ℕ → State → ℤ → PlanWords → PlanWords → List ℕ → List ℕ → Type 0
+AreHomes plan m status new_plan old_plan new old =
+    MatchBool (nat_le (length plan * BLOCK_BYTES) (length old))
+    ((status ≡ pos (length plan)) × ShowsPlan plan new_plan × (new ≡ flat_map (content_in m) plan ++ drop (length plan * BLOCK_BYTES) old))
+    ((status ≡ refusal Invalid) × (new_plan ≡ old_plan) × (new ≡ old))
+
+-- the blocks that a flush writes home now, with their contents
+abbrev pub AreHomesOf : Option State → ℤ → PlanWords → PlanWords → List ℕ → List ℕ → Type 0
+AreHomesOf None status new_plan old_plan new old = (status ≡ refusal NoDevice) × (new_plan ≡ old_plan) × (new ≡ old)
+AreHomesOf (Some m) status new_plan old_plan new old = AreHomes (flush_plan m) m status new_plan old_plan new old
 
 -- whether the bit of a number is set
 abbrev pub has_bit : ℕ → ℕ → Bool

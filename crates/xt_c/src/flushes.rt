@@ -1,13 +1,13 @@
 //! Flushes: which blocks are written home, and what the home device answered.
 
-ghost use Rattle.std.specs.Prelude.{◌≡◌, ◌==◌, MatchBool, Some, length, pos, slice_get, true};
+ghost use Rattle.std.specs.Prelude.{◌≡◌, ◌==◌, ◌≤◌, ◌+◌, ◌*◌, ◌++◌, All, MatchBool, Some, drop, flat_map, length, pos, slice_get, take, true};
 ghost use Rattle.xt_base.specs.Jobs.{flush_plan};
 ghost use Rattle.xt_base.specs.Maps.{is_in};
 ghost use Rattle.xt_base.specs.declared.sizes.TheConstants.{BLOCK_BYTES};
 ghost use Rattle.xt_base.specs.declared.steps.Errno.TheVariants.{Invalid};
 ghost use Rattle.xt_c.specs.Holding.{held};
 ghost use Rattle.xt_c.specs.Status.{refusal};
-ghost use Rattle.xt_c.specs.Working.{IsHome, IsHomeOf, IsPlanOf, IsWorked, ShowsPlan, flush_of, has_bit, home_answers, wants_none, worked};
+ghost use Rattle.xt_c.specs.Working.{AreHomesOf, IsHome, IsHomeOf, IsPlanOf, IsWorked, ShowsPlan, content_in, flush_of, has_bit, home_answers, wants_none, worked};
 ghost use Rattle.xt_mount.specs.Accounts.{IsUnchanged};
 
 use crate::handle::Handle;
@@ -17,6 +17,7 @@ use crate::status::{refusal, status_of};
 use crate::words::{PlanWords, ReplyWords};
 use std::alloc::Global;
 use xt_base::names::{Block, JobKind};
+use xt_base::sizes::BLOCK_BYTES;
 use xt_base::steps::{Errno, HomeAnswers};
 use xt_items::plan::FlushPlan;
 use xt_mount::mount::Mount;
@@ -113,6 +114,76 @@ pub extern "C" fn refskold_abi_home(
         return refusal(Errno::NoDevice);
     };
     let status = home(&mount, index, room);
+    handle.put(mount);
+    status
+}
+
+/// The committed content of a block.
+fn content_of(mount: &Mount, block: Block) -> &[u8]
+    requires unchanged { IsUnchanged block mount.now.transactions }
+    requires committed { is_in block mount.now.frames.committed ≡ true }
+    ensures value { result.now ≡ content_in mount.now block }
+    ensures whole { length result.now ≡ BLOCK_BYTES }
+{
+    match mount.committed(block) {
+        Some(content) => content,
+        None => unreachable!(),
+    }
+}
+
+/// Copies a content into a room from `first` on.
+fn put_content_at(content: &[u8], first: usize, room: &mut [u8])
+    requires whole { length content.now ≡ BLOCK_BYTES }
+    requires room { first + BLOCK_BYTES ≤ length room.old }
+    ensures put { room.new ≡ take first room.old ++ content.now ++ drop (first + BLOCK_BYTES) room.old }
+    ensures same { length room.new ≡ length room.old }
+{
+    room[first..first + BLOCK_BYTES].copy_from_slice(content);
+}
+
+/// Copies the contents of blocks to the front of a room, one after another.
+fn put_contents(mount: &Mount, blocks: &[Block], room: &mut [u8])
+    requires unchanged { All (λ b. IsUnchanged b mount.now.transactions) blocks.now }
+    requires committed { All (λ b. is_in b mount.now.frames.committed ≡ true) blocks.now }
+    requires room { length blocks.now * BLOCK_BYTES ≤ length room.old }
+    ensures { room.new ≡ flat_map (content_in mount.now) blocks.now ++ drop (length blocks.now * BLOCK_BYTES) room.old }
+{
+    for k in 0..blocks.len() {
+        put_content_at(content_of(mount, blocks[k]), k * BLOCK_BYTES, room);
+    }
+}
+
+/// Writes the blocks of a plan, and copies their contents to the front of a room, one after another.
+fn homes(mount: &Mount, plan: &mut PlanWords, room: &mut [u8]) -> i32
+    ensures { AreHomesOf (Some mount.now) result plan.new plan.old room.new room.old }
+{
+    let Ok(now) = mount.flush_plan() else {
+        unreachable!();
+    };
+    if room.len() < usize::from(now.count()) * BLOCK_BYTES {
+        return refusal(Errno::Invalid);
+    }
+    put_plan(&now, plan);
+    put_contents(mount, now.blocks(), room);
+    i32::from(now.count())
+}
+
+/// The blocks that a flush writes home now, in the order of their writes, and how many, 0 to 8; what is written of each is copied to the front of
+/// the room, one after another, 4,096 bytes each. EINVAL where the room is too short, and nothing is written.
+#[unsafe(no_mangle)]
+pub extern "C" fn refskold_abi_homes(
+    alloc: Global,
+    handle: &mut Handle,
+    plan: &mut PlanWords,
+    room: &mut [u8],
+) -> i32
+    ensures homes { AreHomesOf (held handle.old) result plan.new plan.old room.new room.old }
+    ensures same { held handle.new ≡ held handle.old }
+{
+    let Some(mount) = handle.take(alloc) else {
+        return refusal(Errno::NoDevice);
+    };
+    let status = homes(&mount, plan, room);
     handle.put(mount);
     status
 }
