@@ -10,7 +10,8 @@
 #include <unistd.h>
 #include "timing.h"
 
-enum { BLOCKS = 64, LOG_BYTES = 16777216, CHANGE = 128, WHOLE = 8, UNIT = 40000, CALLS = 1000000 };
+/* TOGETHER: transactions for which there is one checkpoint, with its flushes; they change each block. */
+enum { BLOCKS = 64, TOGETHER = 64, LOG_BYTES = 16777216, CHANGE = 128, WHOLE = 8, UNIT = 40000, CALLS = 1000000 };
 
 static refskold mount;
 static uint8_t *home, *journal;
@@ -46,14 +47,14 @@ static void checkpoint(void)
 /* Writes home what is on the log: how many blocks. */
 static unsigned flush(void)
 {
+    static uint8_t contents[REFSKOLD_PLAN][REFSKOLD_BLOCK];
     refskold_plan plan;
     uint64_t serial;
     unsigned blocks = 0;
     want(refskold_push(&mount) == 0, "push");
     while (refskold_take(&mount, REFSKOLD_FLUSH, &serial) == REFSKOLD_TAKEN) {
-        want(refskold_flush_plan(&mount, &plan) >= 0, "plan");
-        for (uint32_t k = 0; k < plan.count; k++)
-            want(refskold_home(&mount, k, home + plan.blocks[k] * REFSKOLD_BLOCK) == 0, "home");
+        want(refskold_homes(&mount, &plan, contents, sizeof contents) >= 0, "homes");
+        for (uint32_t k = 0; k < plan.count; k++) memcpy(home + plan.blocks[k] * REFSKOLD_BLOCK, contents[k], REFSKOLD_BLOCK);
         want(refskold_flush(&mount, serial, plan.count, (1u << plan.count) - 1, 1, NULL) == 0, "flush");
         blocks += plan.count;
     }
@@ -82,10 +83,10 @@ static void time_changes(long count, unsigned blocks, uint32_t bytes)
     double start = now();
     for (long k = 0; k < count; k++) {
         change(k, blocks, bytes);
-        if ((k + 1) * blocks % BLOCKS == 0) checkpoint(), want(flush() == BLOCKS, "blocks that are not home");
+        if ((k + 1) % TOGETHER == 0) checkpoint(), want(flush() == BLOCKS, "blocks that are not home");
     }
     double each = (now() - start) / (double)count;
-    printf("refskold, %u of %u bytes, a checkpoint and flushes for %d blocks: %.0f transactions/s\n", blocks, bytes, BLOCKS, 1 / each);
+    printf("refskold, %u of %u bytes, a checkpoint and its flushes for %d transactions: %.0f transactions/s\n", blocks, bytes, TOGETHER, 1 / each);
 }
 
 static void time_single_calls(void)
@@ -117,7 +118,7 @@ static void time_single_calls(void)
 
 int main(int argc, char **argv)
 {
-    long count = (argc > 1 ? atol(argv[1]) : 300000) / BLOCKS * BLOCKS;
+    long count = (argc > 1 ? atol(argv[1]) : 300000) / (TOGETHER * WHOLE) * TOGETHER * WHOLE;
     /* else glibc gives what is free after each flush back to the system, and takes it page by page again */
     mallopt(M_TRIM_THRESHOLD, LOG_BYTES);
     home = mapped("home", BLOCKS * REFSKOLD_BLOCK);
