@@ -1,21 +1,35 @@
 //! Requests, read from a caller's words.
 
-ghost use Rattle.std.specs.Prelude.{◌≡◌, ◌==◌, ◌⊎◌, None, Some, IfErr, IfOk, true};
+ghost use Rattle.std.specs.Prelude.{◌≡◌, ◌==◌, ◌≤◌, ◌↔◌, ◌⊎◌, None, Some, IfErr, IfOk, IfSome, IsSome, length, true};
+ghost use Rattle.xt_base.specs.declared.sizes.TheConstants.{DATA_BYTES};
 ghost use Rattle.xt_base.specs.declared.steps.Errno.TheVariants.{Invalid, NoMemory};
 ghost use Rattle.xt_c.specs.Requests.{answer_of, of_block, of_mount, request_of, logged};
 
 use crate::words::RequestWords;
-use std::alloc::Global;
+use std::alloc::{AllocError, Global};
 use xt_base::content::{Content, Data};
 use xt_base::names::{Block, CkptNo, TransNo};
+use xt_base::sizes::DATA_BYTES;
 use xt_base::steps::{Answer, Errno, Request};
+
+/// These bytes, copied as they stand; None where they are more than 4,096. The one error is want of memory. They go with the call, so it does not pay
+/// to look for a stretch of one byte among them, as `Data::of` does.
+fn copied(alloc: Global, bytes: &[u8]) -> Result<Option<Data>, AllocError>
+    ensures valid { IfOk result (λ found. IsSome found ↔ (length bytes.now ≤ DATA_BYTES)) }
+    ensures value { IfOk result (λ found. IfSome found (λ carried. carried ≡ bytes.now)) }
+{
+    if bytes.len() > DATA_BYTES {
+        return Ok(None);
+    }
+    Data::of_vec(alloc, bytes.to_vec(alloc)?)
+}
 
 /// A change of a block by these bytes. `Invalid` where they are too many.
 fn logged(alloc: Global, from: RequestWords, bytes: &[u8]) -> Result<Request, Errno>
     ensures ok { IfOk result (λ request. logged from bytes.now ≡ Some request) }
     ensures err { IfErr result (λ errno. ((errno ≡ Invalid) × (logged from bytes.now ≡ None)) ⊎ (errno ≡ NoMemory)) }
 {
-    match Data::of(alloc, bytes) {
+    match copied(alloc, bytes) {
         Ok(Some(bytes)) => Ok(Request::Log {
             first: from.first,
             trans: TransNo(from.trans),
