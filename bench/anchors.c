@@ -15,7 +15,7 @@ static uint8_t content[BLOCK];
 static void edit(const void *read, long number, unsigned bytes)
 {
     memcpy(content, read, BLOCK);
-    memset(content + number % 32 * CHANGE % (BLOCK - bytes + 1), (int)number, bytes);
+    memcpy(content + number % 32 * CHANGE % (BLOCK - bytes + 1), written(number), bytes);
 }
 
 #ifdef LMDB

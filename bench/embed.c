@@ -64,10 +64,9 @@ static unsigned flush(void)
 /* Changes the first bytes, a part or all, of some blocks by one transaction. */
 static void change(long number, unsigned blocks, uint32_t bytes)
 {
-    static uint8_t data[REFSKOLD_BLOCK];
+    const uint8_t *data = written(number);
     uint64_t trans;
     want(refskold_alloc(&mount, UNIT, 1, 0, &trans) == 0, "alloc");
-    memset(data, (int)number, bytes);
     for (unsigned k = 0; k < blocks; k++) {
         uint64_t block = (uint64_t)(number * blocks + k) * 7 % BLOCKS;
         int status = refskold_read(&mount, trans, block);
