@@ -640,7 +640,8 @@ static inline int refskold_flush(refskold *mount, uint64_t serial, uint32_t coun
 
 /* ---- Logs ---------------------------------------------------------------------------------------------------------- */
 
-/* What the texts of a log say, gathered: a handle as that of a mount, by the same rules, with REFSKOLD_NONE for nothing. */
+/* What is held of a log: its bytes, as far as they came, or what its texts say, gathered. A handle as that of a mount, by the
+ * same rules, with REFSKOLD_NONE for nothing. */
 typedef struct refskold_recovery {
     void *at;
     uint64_t holds;
@@ -670,6 +671,8 @@ enum refskold_log_end {
 
 /* The struct form, as above. */
 int32_t refskold_abi_log_open(refskold_recovery *recovery, const uint8_t *log, size_t log_len, refskold_log_told *told);
+int32_t refskold_abi_log_feed(refskold_recovery *recovery, const uint8_t *piece, size_t piece_len);
+int32_t refskold_abi_log_end(refskold_recovery *recovery, refskold_log_told *told);
 void refskold_abi_log_close(refskold_recovery *recovery);
 int32_t refskold_abi_log_block(refskold_recovery *recovery, uint64_t index, uint64_t *block);
 int32_t refskold_abi_log_lay(refskold_recovery *recovery, uint64_t block, uint8_t *content, size_t content_len);
@@ -700,7 +703,29 @@ static inline int refskold_recovery_open(refskold_recovery *recovery, const void
     return refskold_abi_log_open(recovery, log == NULL ? none : (const uint8_t *)log, length, told);
 }
 
-/* Gives the memory of what was gathered back; the handle then holds nothing. 0. */
+/* Takes a piece of a log, behind those that the handle holds: a log that is not in one place comes in pieces of any length,
+ * in any number of calls, in order. Their bytes are held until refskold_recovery_end has gathered what they say. That wants
+ * memory of up to twice the log's length, and of three times for the moment in which it grows. 0.
+ *
+ * -EBUSY: the handle holds what texts say. -ENOMEM: the piece was not taken. */
+static inline int refskold_recovery_feed(refskold_recovery *recovery, const void *piece, size_t length)
+{
+    static const uint8_t none[1] = { 0 };
+    if (recovery == NULL || (piece == NULL && length != 0)) return -EINVAL;
+    return refskold_abi_log_feed(recovery, piece == NULL ? none : (const uint8_t *)piece, length);
+}
+
+/* Gathers what the texts of the log say that came in pieces: it returns and tells what refskold_recovery_open does of the
+ * log whole. After 0 the handle holds that, and the bytes no more. A handle that holds nothing has a log of no bytes.
+ *
+ * REFSKOLD_BROKEN, REFSKOLD_SIZED: at the byte told.at; the bytes are held until refskold_recovery_close. -EBUSY: the handle
+ * holds what texts say. -ENOMEM: the bytes are held, and this may be called again. */
+static inline int refskold_recovery_end(refskold_recovery *recovery, refskold_log_told *told)
+{
+    return recovery == NULL || told == NULL ? -EINVAL : refskold_abi_log_end(recovery, told);
+}
+
+/* Gives the memory of what is held back, texts or bytes; the handle then holds nothing. 0. */
 static inline int refskold_recovery_close(refskold_recovery *recovery)
 {
     if (recovery == NULL) return -EINVAL;
@@ -710,14 +735,14 @@ static inline int refskold_recovery_close(refskold_recovery *recovery)
 
 /* Writes which block it is at a place, from 0, of those of which the texts say something, ascending.
  *
- * -EINVAL: there is no such place. -ENODEV. */
+ * -EINVAL: there is no such place. -ENODEV: the handle holds nothing, or bytes that were not gathered. */
 static inline int refskold_recovery_block(refskold_recovery *recovery, uint64_t index, uint64_t *block)
 {
     return recovery == NULL || block == NULL ? -EINVAL : refskold_abi_log_block(recovery, index, block);
 }
 
 /* Lays what the texts say of a block over the REFSKOLD_BLOCK bytes that the home device has of it, in place; where they say
- * nothing, these stay. -ENODEV. */
+ * nothing, these stay. -ENODEV: as above. */
 static inline int refskold_recovery_lay(refskold_recovery *recovery, uint64_t block, void *content)
 {
     if (recovery == NULL || content == NULL) return -EINVAL;

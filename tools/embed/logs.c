@@ -1,5 +1,6 @@
 /* Reads a log by the library, and tells of it what `xth logdump` does, but for the items: of each checkpoint its number, its items, and the size that it
- * says; then the bytes behind the last, or the field that breaks its rule. What a recovery makes of the same log must agree. */
+ * says; then the bytes behind the last, or the field that breaks its rule. What a recovery makes of the same log must agree, and it must make the same
+ * of the log whole and in pieces. */
 #define _GNU_SOURCE
 #include <refskold.h>
 #include <stdio.h>
@@ -26,6 +27,8 @@ static void bad_calls(refskold_recovery *recovery, refskold_log_told *told, int 
     want(refskold_abi_log_lay(recovery, 7, content, REFSKOLD_BLOCK - 1) == wanted, "a content too short");
     want(refskold_recovery_block(recovery, 0, NULL) == -EINVAL && refskold_recovery_lay(recovery, 7, NULL) == -EINVAL, "NULL");
     want(refskold_recovery_open(recovery, NULL, 1, told) == -EINVAL && refskold_recovery_open(NULL, text, 1, told) == -EINVAL, "NULL with a length");
+    want(refskold_recovery_feed(recovery, NULL, 1) == -EINVAL && refskold_recovery_feed(NULL, text, 1) == -EINVAL, "NULL with a length");
+    want(refskold_recovery_end(recovery, NULL) == -EINVAL && refskold_recovery_end(NULL, told) == -EINVAL, "NULL");
     want(refskold_recovery_close(NULL) == -EINVAL && refskold_read_checkpoint(NULL, 1, NULL) == -EINVAL, "NULL");
 }
 
@@ -49,7 +52,51 @@ static void recover(size_t length, uint64_t texts, uint64_t rest, uint64_t broke
         want(refskold_recovery_lay(&recovery, block, content) == 0, "lay");
     }
     bad_calls(&recovery, &told, -EINVAL);
+    want(refskold_recovery_feed(&recovery, text, 1) == -EBUSY && refskold_recovery_end(&recovery, &told) == -EBUSY, "pieces behind what texts say");
     want(refskold_recovery_close(&recovery) == 0 && recovery.holds == 0, "close");
+}
+
+/* Feeds the log in pieces of so many bytes. */
+static void feed(refskold_recovery *recovery, size_t length, size_t piece)
+{
+    refskold_log_told told;
+    for (size_t at = 0; at < length; at += piece) {
+        want(refskold_recovery_feed(recovery, text + at, length - at < piece ? length - at : piece) == 0, "a piece");
+        bad_calls(recovery, &told, -ENODEV);
+    }
+    want(length == 0 || refskold_recovery_open(recovery, text, length, &told) == -EBUSY, "an open of what came in pieces");
+}
+
+/* That two recoveries say the same of each block. */
+static void compare(refskold_recovery *one, refskold_recovery *other, uint64_t blocks)
+{
+    static uint8_t content[2][REFSKOLD_BLOCK];
+    uint64_t block, same;
+    for (uint64_t k = 0; k < blocks; k++) {
+        memset(content, 0x5a, sizeof content);
+        want(refskold_recovery_block(one, k, &block) == 0 && refskold_recovery_block(other, k, &same) == 0 && block == same, "another block");
+        want(refskold_recovery_lay(one, block, content[0]) == 0 && refskold_recovery_lay(other, block, content[1]) == 0, "lay");
+        want(memcmp(content[0], content[1], REFSKOLD_BLOCK) == 0, "another content");
+    }
+    want(refskold_recovery_block(other, blocks, &same) == -EINVAL, "more blocks");
+}
+
+/* That the log in pieces of so many bytes is what it is whole. */
+static void in_pieces(size_t length, size_t piece)
+{
+    refskold_recovery whole = REFSKOLD_NONE, pieces = REFSKOLD_NONE;
+    refskold_log_told told = { 0 }, of_pieces = { 0 };
+    int status = refskold_recovery_open(&whole, text, length, &told);
+    feed(&pieces, length, piece);
+    want(refskold_recovery_end(&pieces, &of_pieces) == status && memcmp(&told, &of_pieces, sizeof told) == 0, "another end of the same log");
+    if (status == 0) {
+        compare(&whole, &pieces, told.blocks);
+    } else {
+        want(refskold_recovery_feed(&pieces, text, 0) == 0 && refskold_recovery_end(&pieces, &of_pieces) == status, "bytes that are not held");
+        want(memcmp(&told, &of_pieces, sizeof told) == 0, "bytes that are not held");
+    }
+    refskold_recovery_close(&whole);
+    want(refskold_recovery_close(&pieces) == 0 && pieces.holds == 0, "close");
 }
 
 int main(void)
@@ -69,5 +116,6 @@ int main(void)
     else if (status == 0 && at < length) printf("rest %zu\n", length - at);
     want(status == 0 || status == -EILSEQ, "memory");
     recover(length, texts, length - at, at + found.bytes, status == -EILSEQ);
+    for (size_t k = 0; k < 4; k++) in_pieces(length, (const size_t[]){ 1, 7, 4096, LOG_BYTES }[k]);
     return 0;
 }

@@ -34,14 +34,31 @@ static void wants(const char *what, long got, long wanted) {
 static uint8_t block[4097], room[4097];
 
 /* a call that was refused memory changes nothing, and is made again */
-#define AGAIN(status, call)                                        \
-    do {                                                           \
-        refskold before = m;                                       \
-        status = (call);                                           \
-        if (status != -ENOMEM) break;                              \
-        if (memcmp(&before, &m, sizeof m)) wants("handle", 1, 0);  \
-        refused++;                                                 \
+#define AGAIN_OF(kind, handle, status, call)                                 \
+    do {                                                                     \
+        kind before = handle;                                                \
+        status = (call);                                                     \
+        if (status != -ENOMEM) break;                                        \
+        if (memcmp(&before, &handle, sizeof before)) wants("handle", 1, 0);  \
+        refused++;                                                           \
     } while (1)
+#define AGAIN(status, call) AGAIN_OF(refskold, m, status, call)
+
+/* a log of this one text, fed by halves and gathered: how many calls were refused memory */
+static long gather(const uint8_t *text, size_t length) {
+    refskold_recovery r = REFSKOLD_NONE;
+    refskold_log_told told;
+    uint8_t content[REFSKOLD_BLOCK] = {0};
+    long refused = 0;
+    int status;
+    AGAIN_OF(refskold_recovery, r, status, refskold_recovery_feed(&r, text, length / 2)); wants("feed", status, 0);
+    AGAIN_OF(refskold_recovery, r, status, refskold_recovery_feed(&r, text + length / 2, length - length / 2)); wants("feed more", status, 0);
+    AGAIN_OF(refskold_recovery, r, status, refskold_recovery_end(&r, &told)); wants("end of a log", status, 0);
+    wants("texts", (long)told.texts, 1), wants("rest", (long)told.rest, 0), wants("blocks", (long)told.blocks, 2);
+    wants("lay", refskold_recovery_lay(&r, 7, content), 0), wants("laid", memcmp(content + 100, "hello", 5), 0);
+    wants("close of a log", refskold_recovery_close(&r), 0);
+    return refused;
+}
 
 /* one run, in which the allocation of this number is refused: how many calls were */
 static long run(long number) {
@@ -50,6 +67,8 @@ static long run(long number) {
     refskold_plan plan;
     uint64_t trans = 0, serial = 0, waits = 0;
     uint32_t pieces, k;
+    static uint8_t text[4 * 4096];
+    size_t length = 0;
     long refused = 0;
     int status;
     until_refused = number;
@@ -70,7 +89,11 @@ static long run(long number) {
     AGAIN(status, refskold_take(&m, REFSKOLD_CHECKPOINT, &serial)); wants("take", status, REFSKOLD_TAKEN);
     AGAIN(status, refskold_begin(&m, serial, &reply)); wants("begin", status, 0);
     pieces = reply.pieces;
-    for (k = 0; k < pieces; k++) wants("piece", refskold_piece(&m, k, room, 4096) > 0, 1);
+    for (k = 0; k < pieces && length + 4096 <= sizeof text; k++) {
+        status = refskold_piece(&m, k, text + length, 4096), wants("piece", status > 0, 1);
+        length += (size_t)status;
+    }
+    wants("pieces", k, pieces);
     AGAIN(status, refskold_end(&m, serial, pieces, 1, &reply)); wants("end", reply.word, REFSKOLD_LANDED);
     AGAIN(status, refskold_push(&m)); wants("push", status, 0);
     AGAIN(status, refskold_take(&m, REFSKOLD_FLUSH, &serial)); wants("take a flush", status, REFSKOLD_TAKEN);
@@ -79,6 +102,7 @@ static long run(long number) {
     AGAIN(status, refskold_flush(&m, serial, 2, 3, 1, &reply)); wants("flush", (long)reply.number, 2);
     AGAIN(status, refskold_unmount(&m)); wants("unmount", status, 0);
     wants("gone", refskold_push(&m), -ENODEV);
+    refused += gather(text, length);
     until_refused = -1;
     return refused;
 }

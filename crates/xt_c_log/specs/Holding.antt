@@ -1,8 +1,8 @@
 -- What a handle holds.
 use Rattle.std.specs.Prelude.{None, Option, Some, if◌then◌else◌, ◌==◌}
-use Rattle.xt_c_log.specs.Texts.{Texts}
+use Rattle.xt_c_log.specs.Logs.{Log}
 use Rattle.xt_c_log.specs.declared.handle.Handle.{Handle}
 
--- what the texts of its log say, if it holds that
-abbrev pub held : Handle → Option Texts
+-- what it holds of a log, if it holds something
+abbrev pub held : Handle → Option Log
 held h = if h.holds == 0 then None else Some h.value

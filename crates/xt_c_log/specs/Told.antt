@@ -1,6 +1,7 @@
 -- What exports return, and what they tell.
-use Rattle.std.specs.Prelude.{IsSomeAnd, List, MatchBool, None, Option, Some, length, negsuc, pos, slice_get, ℕ, ℤ, ◌==◌, ◌≡◌, ◌⊎◌}
+use Rattle.std.specs.Prelude.{IsSomeAnd, List, MatchBool, None, Option, Some, length, negsuc, pos, slice_get, ℕ, ℤ, ◌++◌, ◌==◌, ◌≡◌, ◌⊎◌}
 use Rattle.xt_base.specs.declared.sizes.TheConstants.{BLOCK_BYTES}
+use Rattle.xt_c_log.specs.Logs.{Log, Bytes, texts_of}
 use Rattle.xt_c_log.specs.Texts.{IsOf, Texts}
 use Rattle.xt_c_log.specs.declared.words.LogWords.{LogWords}
 use Rattle.xt_recover.specs.Gathering.{IsWhyLog}
@@ -27,15 +28,30 @@ pub record IsOpen (log : List ℕ) (told : LogWords) (t : Texts) : Type 0 where
   pub rest : told.rest ≡ t.counts.rest
   pub blocks : told.blocks ≡ length t.blocks
 
--- an open of a handle that holds something is EBUSY, and it is as it was; of one that holds nothing, by what it returned: 0 gathered; 1 a field at the byte
--- that is told breaks its rule; 2 a text at that byte says another size of a block; ENOMEM. But for 0 the handle then holds nothing
-abbrev pub IsOpened : ℤ → List ℕ → LogWords → Option Texts → Option Texts → Type 0
+-- a log was not gathered, by what is returned: 1 the field at the byte that is told breaks its rule; 2 the text that begins there says another size of a
+-- block; ENOMEM
+abbrev pub IsRefused : List ℕ → ℤ → LogWords → Type 0
+IsRefused log status told =
+    ((status ≡ pos 1) × IsWhyLog log (LogFault.Broken told.at)) ⊎ ((status ≡ pos 2) × IsWhyLog log (LogFault.Sized told.at)) ⊎ (status ≡ no_memory)
+
+-- a log was gathered: 0, and what its texts say is held; or it was not, and what is held is as it was
+abbrev pub IsGathering : List ℕ → ℤ → LogWords → Option Log → Option Log → Type 0
+IsGathering log status told new old = ((status ≡ pos 0) × IsSomeAnd (texts_of new) (IsOpen log told)) ⊎ (IsRefused log status told × (new ≡ old))
+
+-- an open of a handle that holds something is EBUSY, and it is as it was; of one that holds nothing, the log is gathered
+abbrev pub IsOpened : ℤ → List ℕ → LogWords → Option Log → Option Log → Type 0
 IsOpened status log told new (Some old) = (status ≡ busy) × (new ≡ Some old)
-IsOpened status log told new None =
-    ((status ≡ pos 0) × IsSomeAnd new (IsOpen log told))
-    ⊎ ((status ≡ pos 1) × (new ≡ None) × IsWhyLog log (LogFault.Broken told.at))
-    ⊎ ((status ≡ pos 2) × (new ≡ None) × IsWhyLog log (LogFault.Sized told.at))
-    ⊎ ((status ≡ no_memory) × (new ≡ None))
+IsOpened status log told new None = IsGathering log status told new None
+
+-- a piece stands behind the bytes that came; or ENOMEM, and what is held is as it was. Where the texts were read it is EBUSY, and it is as it was
+abbrev pub IsFed : Option (List ℕ) → List ℕ → ℤ → Option Log → Option Log → Type 0
+IsFed None piece status new old = (status ≡ busy) × (new ≡ old)
+IsFed (Some bytes) piece status new old = ((status ≡ pos 0) × (new ≡ Some (Bytes (bytes ++ piece)))) ⊎ ((status ≡ no_memory) × (new ≡ old))
+
+-- the bytes that came are gathered as a log. Where the texts were read it is EBUSY, and what is held is as it was
+abbrev pub IsEnded : Option (List ℕ) → ℤ → LogWords → Option Log → Option Log → Type 0
+IsEnded None status told new old = (status ≡ busy) × (new ≡ old)
+IsEnded (Some bytes) status told new old = IsGathering bytes status told new old
 
 -- the block at a place
 abbrev pub IsBlock : Option ℕ → ℤ → ℕ → ℕ → Type 0

@@ -1,17 +1,24 @@
 //! What the texts of a log say.
 
 ghost use Rattle.std.specs.BTreeMap.{keys};
-ghost use Rattle.std.specs.Prelude.{◌≡◌, IfErr, IfOk, Some};
+ghost use Rattle.std.specs.Prelude.{◌≡◌, IfErr, IfOk, Some, slice_get};
 ghost use Rattle.xt_c_log.specs.Texts.{IsOf};
-ghost use Rattle.xt_c_log.specs.Told.{IsLaid};
+ghost use Rattle.xt_c_log.specs.Told.{IsBlock, IsBlockOf, IsLaid, IsOpen, IsRefused};
 ghost use Rattle.xt_recover.specs.Gathering.{IsWhyLog};
 
-use crate::status::INVALID;
+use crate::status::{INVALID, NO_MEMORY};
+use crate::words::LogWords;
 use std::alloc::{AllocError, Global};
 use std::marker::Model;
 use xt_base::sizes::BLOCK_BYTES;
 use xt_recover::gather::{LogCounts, LogFault, gather};
 use xt_recover::overlay::Overlay;
+
+/// What a gathering returns where a field of a text breaks its rule.
+const BROKEN: i32 = 1;
+
+/// What it returns where a text says another size of a block.
+const SIZED: i32 = 2;
 
 /// What the texts of a log say of each block, and which blocks these are, ascending.
 #[derive(Drop)]
@@ -55,31 +62,57 @@ fn gather_texts(alloc: Global, log: &[u8]) -> Result<Gathered, LogFault>
     })
 }
 
-/// The same, in a box.
-pub fn gather_log(alloc: Global, log: &[u8]) -> Result<Box<Gathered>, LogFault>
-    ensures ok { IfOk result (λ gathered. IsOf log.now gathered.value) }
-    ensures why { IfErr result (λ fault. IsWhyLog log.now fault) }
+/// Gathers the texts of a log, and writes what is told of it. Else what is to be returned: 1, and the field at the byte that is written breaks its rule; 2,
+/// and the text that begins there is of blocks of another size; ENOMEM.
+pub fn read_log(alloc: Global, log: &[u8], told: &mut LogWords) -> Result<Gathered, i32>
+    ensures ok { IfOk result (λ gathered. IsOpen log.now told.new gathered) }
+    ensures refused { IfErr result (λ status. IsRefused log.now status told.new) }
 {
-    let gathered = gather_texts(alloc, log)?;
-    match Box::new(alloc, gathered) {
-        Ok(gathered) => Ok(gathered),
-        Err(_) => Err(LogFault::Memory),
+    match gather_texts(alloc, log) {
+        Ok(gathered) => {
+            told.texts = gathered.counts.texts;
+            told.rest = gathered.counts.rest;
+            told.blocks = gathered.blocks.len() as u64;
+            Ok(gathered)
+        }
+        Err(LogFault::Broken(at)) => {
+            told.at = at;
+            Err(BROKEN)
+        }
+        Err(LogFault::Sized(at)) => {
+            told.at = at;
+            Err(SIZED)
+        }
+        Err(_) => Err(NO_MEMORY),
+    }
+}
+
+/// The block at a place.
+fn block_at(blocks: &[u64], index: usize) -> Option<u64>
+    ensures { result ≡ slice_get blocks.now index }
+{
+    blocks.get(index).copied()
+}
+
+/// Writes the block at a place.
+fn put_block(found: Option<u64>, block: &mut u64) -> i32
+    ensures { IsBlock found result block.new block.old }
+{
+    match found {
+        Some(number) => {
+            *block = number;
+            0
+        }
+        None => INVALID,
     }
 }
 
 impl Gathered {
-    /// How many texts the log has, and how many bytes behind them.
-    pub fn counts(&self) -> LogCounts
-        ensures { result ≡ self.now.counts }
+    /// Writes the block at a place, from 0, of those of which something is said; else EINVAL.
+    pub fn block(&self, index: u64, block: &mut u64) -> i32
+        ensures { IsBlockOf index (Some self.now) result block.new block.old }
     {
-        self.counts
-    }
-
-    /// The blocks of which something is said, ascending.
-    pub fn blocks(&self) -> &[u64]
-        ensures { result.now ≡ self.now.blocks }
-    {
-        &self.blocks
+        put_block(block_at(&self.blocks, index as usize), block)
     }
 
     /// Lays what the texts say of a block over its bytes.

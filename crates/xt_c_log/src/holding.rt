@@ -3,8 +3,8 @@
 ghost use Rattle.std.specs.Prelude.{◌≡◌, ◌==◌, not, false, Some, None, IfSome, IfNone};
 ghost use Rattle.xt_c_log.specs.Holding.{held};
 
-use crate::gathered::Gathered;
 use crate::handle::Handle;
+use crate::held_log::HeldLog;
 use crate::loose::Loose;
 use std::alloc::Global;
 
@@ -18,27 +18,27 @@ impl Handle {
     }
 
     /// What it holds, in a box again.
-    fn take_box(&mut self, alloc: Global) -> Box<Gathered>
+    fn take_box(&mut self, alloc: Global) -> Box<HeldLog>
         requires { (self.old.holds == 0) ≡ false }
         ensures taken { Some result.value ≡ held self.old }
         ensures left { held self.new ≡ None }
     {
         self.holds = 0;
-        unsafe { Box::from_raw(alloc, self.at as *mut Gathered) }
+        unsafe { Box::from_raw(alloc, self.at as *mut HeldLog) }
     }
 
     /// Keeps what is given.
-    fn keep(&mut self, gathered: Loose<Gathered, Global>)
-        ensures { held self.new ≡ Some gathered.value }
+    fn keep(&mut self, log: Loose<HeldLog, Global>)
+        ensures { held self.new ≡ Some log.value }
     {
-        let Loose { at, alloc: _alloc } = gathered;
+        let Loose { at, alloc: _alloc } = log;
         self.at = at as *mut u8;
         self.holds = 1;
     }
 
     /// What it holds, and then holds no more; None where it holds nothing.
-    pub fn take(&mut self, alloc: Global) -> Option<Box<Gathered>>
-        ensures taken { IfSome result (λ gathered. held self.old ≡ Some gathered.value) }
+    pub fn take(&mut self, alloc: Global) -> Option<Box<HeldLog>>
+        ensures taken { IfSome result (λ log. held self.old ≡ Some log.value) }
         ensures left { held self.new ≡ None }
         ensures none { IfNone result (held self.old ≡ None) }
     {
@@ -50,9 +50,9 @@ impl Handle {
     }
 
     /// Puts something in.
-    pub fn put(&mut self, gathered: Box<Gathered>)
-        ensures { held self.new ≡ Some gathered.value }
+    pub fn put(&mut self, log: Box<HeldLog>)
+        ensures { held self.new ≡ Some log.value }
     {
-        self.keep(Loose::of(gathered));
+        self.keep(Loose::of(log));
     }
 }

@@ -6,6 +6,7 @@
 
 mod gathered;
 mod handle;
+mod held_log;
 mod holding;
 mod logs;
 mod loose;

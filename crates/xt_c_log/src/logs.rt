@@ -1,23 +1,31 @@
 //! A log's texts, laid over the blocks of a home device.
 
-ghost use Rattle.std.specs.Prelude.{◌≡◌, None, slice_get};
+ghost use Rattle.std.specs.Prelude.{◌≡◌, None};
 ghost use Rattle.xt_c_log.specs.Holding.{held};
-ghost use Rattle.xt_c_log.specs.Told.{IsBlock, IsBlockOf, IsLaid, IsOpened};
+ghost use Rattle.xt_c_log.specs.Logs.{bytes_of, texts_of};
+ghost use Rattle.xt_c_log.specs.Told.{IsBlockOf, IsEnded, IsFed, IsGathering, IsLaid, IsOpened};
 
-use crate::gathered::gather_log;
 use crate::handle::Handle;
-use crate::status::{BUSY, INVALID, NO_DEVICE, NO_MEMORY};
+use crate::held_log::HeldLog;
+use crate::status::{BUSY, NO_DEVICE, NO_MEMORY};
 use crate::words::LogWords;
 use std::alloc::Global;
-use xt_recover::gather::LogFault;
 
-/// What an open returns where a field of a text breaks its rule.
-const BROKEN: i32 = 1;
+/// Gathers the texts of a log, which a handle that holds nothing then holds.
+fn open(alloc: Global, handle: &mut Handle, log: &[u8], told: &mut LogWords) -> i32
+    requires closed { held handle.old ≡ None }
+    ensures { IsGathering log.now result told.new (held handle.new) (held handle.old) }
+{
+    match HeldLog::of_texts(alloc, log, told) {
+        Ok(read) => {
+            handle.put(read);
+            0
+        }
+        Err(status) => status,
+    }
+}
 
-/// What it returns where a text says another size of a block.
-const SIZED: i32 = 2;
-
-/// Gathers what the texts of a log say, which a handle that holds nothing then holds. 0: the counts are written. 1: the field at the byte that is
+/// Gathers what the texts of a whole log say, which a handle that holds nothing then holds. 0: the counts are written. 1: the field at the byte that is
 /// written breaks its rule, which no crash leaves. 2: the text that begins there is of blocks of another size. Else an errno, negative.
 #[unsafe(no_mangle)]
 pub extern "C" fn refskold_abi_log_open(
@@ -28,57 +36,57 @@ pub extern "C" fn refskold_abi_log_open(
 ) -> i32
     ensures { IsOpened result log.now told.new (held handle.new) (held handle.old) }
 {
-    if let Some(gathered) = handle.take(alloc) {
-        handle.put(gathered);
+    if let Some(held) = handle.take(alloc) {
+        handle.put(held);
         return BUSY;
     }
-    match gather_log(alloc, log) {
-        Ok(gathered) => {
-            let counts = gathered.counts();
-            told.texts = counts.texts;
-            told.rest = counts.rest;
-            told.blocks = gathered.blocks().len() as u64;
-            handle.put(gathered);
+    open(alloc, handle, log, told)
+}
+
+/// Takes a piece of a log of any length, behind those that the handle holds. EBUSY where it holds what a log's texts say.
+#[unsafe(no_mangle)]
+pub extern "C" fn refskold_abi_log_feed(alloc: Global, handle: &mut Handle, piece: &[u8]) -> i32
+    ensures { IsFed (bytes_of (held handle.old)) piece.now result (held handle.new) (held handle.old) }
+{
+    if let Some(mut held) = handle.take(alloc) {
+        let status = held.feed(piece);
+        handle.put(held);
+        return status;
+    }
+    match HeldLog::of_bytes(alloc, piece) {
+        Ok(begun) => {
+            handle.put(begun);
             0
-        }
-        Err(LogFault::Broken(at)) => {
-            told.at = at;
-            BROKEN
-        }
-        Err(LogFault::Sized(at)) => {
-            told.at = at;
-            SIZED
         }
         Err(_) => NO_MEMORY,
     }
 }
 
-/// Gives the memory of what was gathered back; the handle then holds nothing.
+/// Gathers what the texts of the log say that came in pieces, in place of its bytes. It returns and writes what `refskold_abi_log_open` does of the
+/// log whole; but for 0 the handle holds what it held.
+#[unsafe(no_mangle)]
+pub extern "C" fn refskold_abi_log_end(
+    alloc: Global,
+    handle: &mut Handle,
+    told: &mut LogWords,
+) -> i32
+    ensures { IsEnded (bytes_of (held handle.old)) result told.new (held handle.new) (held handle.old) }
+{
+    if let Some(mut held) = handle.take(alloc) {
+        let status = held.end(alloc, told);
+        handle.put(held);
+        return status;
+    }
+    // a log without bytes has no pieces
+    open(alloc, handle, &[], told)
+}
+
+/// Gives the memory of what it holds back; the handle then holds nothing.
 #[unsafe(no_mangle)]
 pub extern "C" fn refskold_abi_log_close(alloc: Global, handle: &mut Handle)
     ensures { held handle.new ≡ None }
 {
-    let _gathered = handle.take(alloc);
-}
-
-/// The block at a place.
-fn block_at(blocks: &[u64], index: usize) -> Option<u64>
-    ensures { result ≡ slice_get blocks.now index }
-{
-    blocks.get(index).copied()
-}
-
-/// Writes the block at a place.
-fn put_block(found: Option<u64>, block: &mut u64) -> i32
-    ensures { IsBlock found result block.new block.old }
-{
-    match found {
-        Some(number) => {
-            *block = number;
-            0
-        }
-        None => INVALID,
-    }
+    let _held = handle.take(alloc);
 }
 
 /// The block at a place, from 0, of those of which the texts say something, ascending; else EINVAL.
@@ -89,14 +97,14 @@ pub extern "C" fn refskold_abi_log_block(
     index: u64,
     block: &mut u64,
 ) -> i32
-    ensures block { IsBlockOf index (held handle.old) result block.new block.old }
+    ensures block { IsBlockOf index (texts_of (held handle.old)) result block.new block.old }
     ensures same { held handle.new ≡ held handle.old }
 {
-    let Some(gathered) = handle.take(alloc) else {
+    let Some(held) = handle.take(alloc) else {
         return NO_DEVICE;
     };
-    let status = put_block(block_at(gathered.blocks(), index as usize), block);
-    handle.put(gathered);
+    let status = held.block(index, block);
+    handle.put(held);
     status
 }
 
@@ -108,13 +116,13 @@ pub extern "C" fn refskold_abi_log_lay(
     block: u64,
     content: &mut [u8],
 ) -> i32
-    ensures laid { IsLaid block (held handle.old) result content.new content.old }
+    ensures laid { IsLaid block (texts_of (held handle.old)) result content.new content.old }
     ensures same { held handle.new ≡ held handle.old }
 {
-    let Some(gathered) = handle.take(alloc) else {
+    let Some(held) = handle.take(alloc) else {
         return NO_DEVICE;
     };
-    let status = gathered.lay(block, content);
-    handle.put(gathered);
+    let status = held.lay(block, content);
+    handle.put(held);
     status
 }

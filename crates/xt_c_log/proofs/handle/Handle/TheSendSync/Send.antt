@@ -11,8 +11,8 @@ use Rattle.std.proofs.Crossing as heap
 use Rattle.std_alloc.proofs.SendSync.{quiet, lies}
 use Rattle.std.proofs.alloc.Global.TheSendSync as allocator
 use Rattle.xt_c_log.specs.Owning.{owned_unless}
-use Rattle.xt_c_log.specs.contracts.gathered.Gathered as inner
-use Rattle.xt_c_log.proofs.gathered.Gathered.TheSendSync.{the_send as crosses}
+use Rattle.xt_c_log.specs.contracts.held_log.HeldLog as inner
+use Rattle.xt_c_log.proofs.held_log.HeldLog.TheSendSync.{the_send as crosses}
 use Rattle.xt_c_log.specs.contracts.handle.Handle.{the_row, the_type}
 
 unless_closed : (closed : Bool) (F : Fml) → Keyless F → Keyless (owned_unless closed F)

@@ -28,7 +28,7 @@ use Rattle.std.specs.contracts.alloc.Global.{the_row as A}
 use Rattle.std.proofs.alloc.Global.TheLaws as heap
 use Rattle.std.specs.contracts.impls.GlobalAllocator.TheImpl as allocates
 use Rattle.xt_c_log.proofs.LooseSteps.{both, Loose, al, loose_good, loose_out}
-use Rattle.xt_c_log.specs.contracts.gathered.Gathered.{the_row as R}
+use Rattle.xt_c_log.specs.contracts.held_log.HeldLog.{the_row as R}
 use Rattle.xt_c_log.specs.contracts.handle.Handle.{the_row as Handle, the_type as the_handle}
 use Rattle.xt_c_log.specs.declared.handle.Handle.{Handle as Held}
 use Rattle.xt_c_log.specs.contracts.handle.Handle.keep.{ended, clauses}

@@ -49,8 +49,8 @@ use Rattle.std.proofs.alloc.Global.TheLaws as heap
 use Rattle.std.specs.contracts.impls.GlobalAllocator.TheImpl as allocates
 use Rattle.std.proofs.impls.GlobalAllocator.TheImpl.Met as allocates_met
 use Rattle.xt_c_log.specs.Owning.{owned_unless}
-use Rattle.xt_c_log.specs.contracts.gathered.Gathered.{the_row as R}
-use Rattle.xt_c_log.proofs.gathered.Gathered.TheLaws as inner
+use Rattle.xt_c_log.specs.contracts.held_log.HeldLog.{the_row as R}
+use Rattle.xt_c_log.proofs.held_log.HeldLog.TheLaws as inner
 use Rattle.xt_c_log.specs.contracts.handle.Handle.{the_row as Handle, the_type as the_handle}
 use Rattle.xt_c_log.specs.declared.handle.Handle.{Handle as Held}
 use Rattle.xt_c_log.specs.contracts.handle.Handle.take_box.{ended, clauses}
