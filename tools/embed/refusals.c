@@ -33,6 +33,10 @@ static void wants(const char *what, long got, long wanted) {
 
 static uint8_t block[4097], room[4097];
 
+/* the text of the checkpoint of the last run */
+static uint8_t text[4 * 4096];
+static size_t text_length;
+
 /* a call that was refused memory changes nothing, and is made again */
 #define AGAIN_OF(kind, handle, status, call)                                 \
     do {                                                                     \
@@ -44,22 +48,6 @@ static uint8_t block[4097], room[4097];
     } while (1)
 #define AGAIN(status, call) AGAIN_OF(refskold, m, status, call)
 
-/* a log of this one text, fed by halves and gathered: how many calls were refused memory */
-static long gather(const uint8_t *text, size_t length) {
-    refskold_recovery r = REFSKOLD_NONE;
-    refskold_log_told told;
-    uint8_t content[REFSKOLD_BLOCK] = {0};
-    long refused = 0;
-    int status;
-    AGAIN_OF(refskold_recovery, r, status, refskold_recovery_feed(&r, text, length / 2)); wants("feed", status, 0);
-    AGAIN_OF(refskold_recovery, r, status, refskold_recovery_feed(&r, text + length / 2, length - length / 2)); wants("feed more", status, 0);
-    AGAIN_OF(refskold_recovery, r, status, refskold_recovery_end(&r, &told)); wants("end of a log", status, 0);
-    wants("texts", (long)told.texts, 1), wants("rest", (long)told.rest, 0), wants("blocks", (long)told.blocks, 2);
-    wants("lay", refskold_recovery_lay(&r, 7, content), 0), wants("laid", memcmp(content + 100, "hello", 5), 0);
-    wants("close of a log", refskold_recovery_close(&r), 0);
-    return refused;
-}
-
 /* one run, in which the allocation of this number is refused: how many calls were */
 static long run(long number) {
     refskold m = REFSKOLD_NONE;
@@ -67,11 +55,9 @@ static long run(long number) {
     refskold_plan plan;
     uint64_t trans = 0, serial = 0, waits = 0;
     uint32_t pieces, k;
-    static uint8_t text[4 * 4096];
-    size_t length = 0;
     long refused = 0;
     int status;
-    until_refused = number;
+    until_refused = number, text_length = 0;
     AGAIN(status, refskold_open(&m, 0, 65536, 64)); wants("open", status, 0);
     AGAIN(status, refskold_alloc(&m, 30000, 2, 1, &trans)); wants("alloc", status, 0);
     AGAIN(status, refskold_read_content(&m, trans, 7, block)); wants("read", status, 0);
@@ -89,9 +75,9 @@ static long run(long number) {
     AGAIN(status, refskold_take(&m, REFSKOLD_CHECKPOINT, &serial)); wants("take", status, REFSKOLD_TAKEN);
     AGAIN(status, refskold_begin(&m, serial, &reply)); wants("begin", status, 0);
     pieces = reply.pieces;
-    for (k = 0; k < pieces && length + 4096 <= sizeof text; k++) {
-        status = refskold_piece(&m, k, text + length, 4096), wants("piece", status > 0, 1);
-        length += (size_t)status;
+    for (k = 0; k < pieces && text_length + 4096 <= sizeof text; k++) {
+        status = refskold_piece(&m, k, text + text_length, 4096), wants("piece", status > 0, 1);
+        text_length += (size_t)status;
     }
     wants("pieces", k, pieces);
     AGAIN(status, refskold_end(&m, serial, pieces, 1, &reply)); wants("end", reply.word, REFSKOLD_LANDED);
@@ -102,7 +88,25 @@ static long run(long number) {
     AGAIN(status, refskold_flush(&m, serial, 2, 3, 1, &reply)); wants("flush", (long)reply.number, 2);
     AGAIN(status, refskold_unmount(&m)); wants("unmount", status, 0);
     wants("gone", refskold_push(&m), -ENODEV);
-    refused += gather(text, length);
+    until_refused = -1;
+    return refused;
+}
+
+/* the log of this one text, fed by halves and gathered, where the allocation of this number is refused: how many calls were */
+static long gather(long number) {
+    refskold_recovery r = REFSKOLD_NONE;
+    refskold_log_told told;
+    uint8_t content[REFSKOLD_BLOCK] = {0};
+    size_t half = text_length / 2;
+    long refused = 0;
+    int status;
+    until_refused = number;
+    AGAIN_OF(refskold_recovery, r, status, refskold_recovery_feed(&r, text, half)); wants("feed", status, 0);
+    AGAIN_OF(refskold_recovery, r, status, refskold_recovery_feed(&r, text + half, text_length - half)); wants("feed more", status, 0);
+    AGAIN_OF(refskold_recovery, r, status, refskold_recovery_end(&r, &told)); wants("end of a log", status, 0);
+    wants("texts", (long)told.texts, 1), wants("rest", (long)told.rest, 0), wants("blocks", (long)told.blocks, 2);
+    wants("lay", refskold_recovery_lay(&r, 7, content), 0), wants("laid", memcmp(content + 100, "hello", 5), 0);
+    wants("close of a log", refskold_recovery_close(&r), 0);
     until_refused = -1;
     return refused;
 }
@@ -114,6 +118,16 @@ static void memory(void) {
     wants("refused calls", refused, all);
     wants("what is not given back", living, 0);
     printf("%ld allocations, each refused in turn: %ld calls said ENOMEM and were made again\n", all, refused);
+}
+
+/* the same of a log: two allocations are of room that a gathering does without */
+static void memory_of_a_log(void) {
+    long all, number, refused = 0;
+    asked = 0, gather(-1), all = asked;
+    for (number = 0; number < all; number++) refused += gather(number);
+    wants("refused calls of a log", refused, all - 2);
+    wants("what is not given back", living, 0);
+    printf("%ld allocations of a log, each refused in turn: %ld calls said ENOMEM and were made again\n", all, refused);
 }
 
 /* ---- bad words ---- */
@@ -192,5 +206,6 @@ static void bad_callers(void) {
 int main(void) {
     bad_callers();
     memory();
+    memory_of_a_log();
     return failures != 0;
 }
