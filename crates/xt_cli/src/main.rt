@@ -18,6 +18,7 @@ use std::alloc::{AllocError, Global};
 use std::fs::File;
 use std::io::{BufWriter, Input, IsTerminal, Stderr, Stdin};
 use std::net::TcpListener;
+use std::path::PathBuf;
 use std::process::ExitCode;
 use xt_base::names::Slot;
 use xt_cell::reserve::Blanks;
@@ -158,12 +159,12 @@ type Files = (Vec<File>, Vec<Opened>);
 
 /// Makes those files of volumes that are missing, locks all, recovers what is to be recovered, and opens all. What was locked and
 /// made is noted, up to a fault too.
-fn make_and_open<'a>(
+fn make_and_open(
     rt: &HostRuntime,
     alloc: Global,
-    options: &'a Options,
+    options: &Options,
     held: &mut Vec<File>,
-    made: &mut Vec<&'a str>,
+    made: &mut Vec<PathBuf>,
 ) -> Result<Vec<Opened>, ServeFault> {
     for volume in &options.volumes {
         make_and_hold(rt, alloc, volume, held, made)?;
