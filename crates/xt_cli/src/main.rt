@@ -2,6 +2,7 @@
 #![tactic(auto)]
 
 mod recovery;
+mod script;
 mod serve;
 
 use clap::error::ErrorKind;
@@ -9,6 +10,7 @@ use clap::{Arg, ArgMatches, Command};
 use recovery::files::recover_files;
 use recovery::options::{Asked, recover_command};
 use recovery::volumes::{empty_logs, recover_volumes};
+use script::script_on_streams;
 use serve::fault::ServeFault;
 use serve::files::{Opened, look, open};
 use serve::making::{make_and_hold, remove_made};
@@ -16,14 +18,14 @@ use serve::options::{Options, serve_command};
 use serve::running::{Orders, serve};
 use std::alloc::{AllocError, Global};
 use std::fs::File;
-use std::io::{BufWriter, Input, IsTerminal, Stderr, Stdin};
+use std::io::{BufWriter, IsTerminal, Stderr, Stdin};
 use std::net::TcpListener;
 use std::path::PathBuf;
 use std::process::ExitCode;
 use xt_base::names::Slot;
 use xt_cell::reserve::Blanks;
 use xt_offline::progress::Watched;
-use xt_offline::{LOG_BYTES, LogFault, ScriptFault, dump, run_script, tell};
+use xt_offline::{LOG_BYTES, LogFault, ScriptFault, dump, tell};
 use xt_volumes::Volume;
 
 /// How many bytes of output are written at once.
@@ -86,14 +88,6 @@ fn only_slot(matches: &ArgMatches) -> Option<Slot> {
 fn terminal(rt: &HostRuntime) -> Option<Stderr> {
     let err = rt.stderr();
     if err.is_terminal() { Some(err) } else { None }
-}
-
-/// Runs the script on standard input, or the steps of one slot of it.
-fn script_on_streams(rt: &HostRuntime, only: Option<Slot>) -> Result<u8, ScriptFault> {
-    let alloc = rt.alloc();
-    let mut writer = BufWriter::with_capacity(alloc, OUTPUT_BYTES, rt.stdout())?;
-    let mut reader = Watched::new(rt.reader(), terminal(rt));
-    Ok(run_script(alloc, &mut reader, &mut writer, &mut rt.stderr(), only))
 }
 
 /// Opens the file of a log, if it has at most 67,108,864 bytes.
