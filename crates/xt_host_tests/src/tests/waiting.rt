@@ -38,6 +38,8 @@ const YIELDS: u32 = 1_000;
 enum Scene {
     /// A block that a transaction of the other one has, until that is committed.
     Lock,
+    /// The content of such a block.
+    Content,
     /// A transaction of a mount that is frozen, until the other one thaws it.
     Thaw,
     /// The first checkpoint, until the other one has written it.
@@ -51,18 +53,23 @@ fn rest() {
     }
 }
 
-/// Opens a transaction, waits for a block that another one has, and gives up what it has: what it was told.
+/// Opens a transaction, waits for a block that another one has, or for its content, and gives up what it has: what it was told.
 fn wait_for_lock<H: House, D: Desk<H, R>, R: Abort + Wait>(
     rt: &R,
     host: &Host<H, D>,
     seat: &mut HostSeat<H>,
     at: &MountRef,
+    reads: bool,
 ) -> Result<(), Errno>
     requires board { seat.old.board.board ≡ host.now.board }
     ensures board { seat.new.board.board ≡ seat.old.board.board }
 {
     let mut trans = host.begin_trans(rt, seat, *at, 176, 1, false)?;
-    let told = host.get_wait(rt, seat, &mut trans, Block(7));
+    let told = if reads {
+        host.read_wait(rt, seat, &mut trans, Block(7))
+    } else {
+        host.get_wait(rt, seat, &mut trans, Block(7))
+    };
     give_up(rt, host, seat, trans);
     told
 }
@@ -79,7 +86,8 @@ fn waits<H: House, D: Desk<H, R>, R: Abort + Wait>(
     ensures board { seat.new.board.board ≡ seat.old.board.board }
 {
     match scene {
-        Scene::Lock => wait_for_lock(rt, host, seat, at),
+        Scene::Lock => wait_for_lock(rt, host, seat, at, false),
+        Scene::Content => wait_for_lock(rt, host, seat, at, true),
         Scene::Thaw => {
             let trans = host.begin_trans_wait(rt, seat, *at, 176, 1, false)?;
             give_up(rt, host, seat, trans);
@@ -149,7 +157,7 @@ fn does<H: House, D: Desk<H, R>, R: Abort + Wait>(
     ensures board { seat.new.board.board ≡ seat.old.board.board }
 {
     match scene {
-        Scene::Lock => free_lock(rt, host, seat, at, door),
+        Scene::Lock | Scene::Content => free_lock(rt, host, seat, at, door),
         Scene::Thaw => {
             host.freeze(rt, seat, *at)?;
             door.shut();
@@ -367,6 +375,15 @@ fn wanted(settled: u64) -> Result<Told, Errno> {
 fn a_commit_frees_a_lock(rt: HostRuntime) {
     assert_eq!(rt;
         plays(&rt, rt.alloc(), Blanks::new(), Scene::Lock),
+        wanted(3)
+    );
+}
+
+/// The content of a block, which another thread's commit frees: beside the tries there are the alloc, the last read, and the cancel.
+#[test]
+fn a_commit_frees_a_content(rt: HostRuntime) {
+    assert_eq!(rt;
+        plays(&rt, rt.alloc(), Blanks::new(), Scene::Content),
         wanted(3)
     );
 }
