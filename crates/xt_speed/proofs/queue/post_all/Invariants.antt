@@ -1,6 +1,6 @@
 use Rattle.std.proofs.Common.{◌+◌, ◌<◌, ◌≡◌, ◌⊎◌}
 use Rattle.xt_queue.specs.Names.{last_of, unposted}
-use Rattle.xt_queue_speed.proofs.post_all.Given as goal
+use Rattle.xt_speed.proofs.queue.post_all.Given as goal
 
 abbrev pub invariant-loop : goal.invariant-loop
 invariant-loop g l = record {

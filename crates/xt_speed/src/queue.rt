@@ -1,8 +1,4 @@
 //! How fast names go through the queue, beside a plain queue of the same capacity.
-//!
-//! `xt_queue_speed NAMES` sends so many names through each queue by 1, 2 and 4 threads, and prints
-//! names a second. Without NAMES it sends a few through and says how many.
-#![tactic(auto)]
 
 ghost use Rattle.std.specs.Prelude.{◌≡◌};
 ghost use Rattle.xt_queue.specs.Passes.{fresh_post};
@@ -11,11 +7,13 @@ use anyhow::{Context, Result};
 use crossbeam_queue::ArrayQueue;
 use std::alloc::Global;
 use std::sync::Wait;
-use std::thread::Threads;
+use std::thread::{self, Threads};
 use std::time::{Clock, Duration, Instant};
-use std::{env, thread};
 use xt_base::names::{JobKind, JobName, Life, Slot};
 use xt_queue::jobs::{JobQueue, PostPass, WorkPass};
+
+/// How many names are sent where no figures are wanted.
+const FEW: u32 = 1_000;
 
 /// A name of a slot's first life.
 fn name(slot: Slot, serial: u64) -> JobName
@@ -272,21 +270,22 @@ fn on_four<R: Threads + Wait + Sync + Clock>(
     Ok((ruled, start.elapsed(rt)?))
 }
 
-fn main(rt: HostRuntime) -> Result<()> {
-    let alloc = rt.alloc();
-    let word = env::args(&rt)?.nth(1);
-    let count = match &word {
-        Some(word) => word.parse::<u32>().context("NAMES")?,
-        None => 1000,
-    };
+/// Sends names through each queue by 1, 2 and 4 threads, and prints names a second. Where no number is asked for, it sends a few through and
+/// prints how many.
+pub fn print_queue<R: Print + Threads + Wait + Sync + Clock>(
+    rt: &R,
+    alloc: Global,
+    asked: Option<u32>,
+) -> Result<()> {
+    let count = asked.unwrap_or(FEW);
     let high = Slot::new(15).context("a slot")?;
     let low = Slot::new(14).context("a slot")?;
     let times = [
-        on_one(&rt, alloc, high, count)?,
-        on_two(&rt, alloc, high, count)?,
-        on_four(&rt, alloc, (high, low), count)?,
+        on_one(rt, alloc, high, count)?,
+        on_two(rt, alloc, high, count)?,
+        on_four(rt, alloc, (high, low), count)?,
     ];
-    if word.is_none() {
+    if asked.is_none() {
         println!(rt; "{count} names")?;
         return Ok(());
     }

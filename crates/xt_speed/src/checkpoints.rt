@@ -1,14 +1,9 @@
 //! How fast a checkpoint text is read, beside a plain copy of the same bytes.
-//!
-//! `xt_ckpt_speed ROUNDS` reads and copies a text of 64 whole blocks so often, and prints
-//! both rates. Without ROUNDS it reads the text once and says its length.
-#![tactic(auto)]
 
 use anyhow::{Context, Result};
 use std::alloc::{AllocError, Global};
-use std::env;
 use std::hint::black_box;
-use std::time::{Duration, Instant};
+use std::time::{Clock, Duration, Instant};
 use xt_ckpt::format::{END, START};
 use xt_ckpt::reading::read_checkpoint;
 
@@ -44,25 +39,28 @@ fn rate(bytes: usize, rounds: u32, took: Duration) -> u128 {
     }
 }
 
-fn main(rt: HostRuntime) -> Result<()> {
-    let alloc = rt.alloc();
+/// Reads a text once, and prints its length. Where ROUNDS is asked for, it reads and copies the text so often, and prints both rates in MB/s.
+pub fn print_checkpoints<R: Print + Clock>(
+    rt: &R,
+    alloc: Global,
+    asked: Option<u32>,
+) -> Result<()> {
     let text = full_text(alloc)?;
     let (_, len) = read_checkpoint(alloc, &text)?.context("the text is whole")?;
     println!(rt; "{len} bytes")?;
-    let Some(word) = env::args(&rt)?.nth(1) else {
+    let Some(rounds) = asked else {
         return Ok(());
     };
-    let rounds = word.parse::<u32>().context("ROUNDS")?;
-    let start = Instant::now(&rt)?;
+    let start = Instant::now(rt)?;
     for _ in 0..rounds {
         black_box(read_checkpoint(alloc, black_box(&text))?);
     }
-    let read = start.elapsed(&rt)?;
-    let start = Instant::now(&rt)?;
+    let read = start.elapsed(rt)?;
+    let start = Instant::now(rt)?;
     for _ in 0..rounds {
         black_box(text.to_vec(alloc)?);
     }
-    let copied = start.elapsed(&rt)?;
+    let copied = start.elapsed(rt)?;
     println!(rt; "read {} MB/s", rate(text.len(), rounds, read))?;
     println!(rt; "copied {} MB/s", rate(text.len(), rounds, copied))?;
     Ok(())

@@ -1,5 +1,5 @@
 use Rattle.std.proofs.Common.{◌≡◌}
-use Rattle.xt_queue_speed.proofs.take_all.Given as goal
+use Rattle.xt_speed.proofs.queue.take_all.Given as goal
 
 abbrev pub invariant-loop : goal.invariant-loop
 invariant-loop g l = l.pass.queue ≡ l.queue

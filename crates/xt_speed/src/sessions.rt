@@ -1,20 +1,18 @@
 //! How many lines a second go through a session over memory.
-//!
-//! `xt_service_speed LINES` sends so many lines through, of three kinds, and prints lines a second for each. Without
-//! LINES it sends a few through and says how many were answered.
-#![tactic(auto)]
 
 ghost use Rattle.std.specs.Prelude.{◌≡◌};
 
-use anyhow::{Context, Result};
+use anyhow::Result;
 use std::alloc::{AllocError, Global};
-use std::env;
 use std::io::{self, Write};
 use std::time::{Clock, Instant};
 use xt_base::steps::Reply;
 use xt_session::calls::Calls;
 use xt_session::session::session;
 use xt_text::line::Line;
+
+/// How many lines of each kind are sent where no figures are wanted.
+const FEW: u32 = 1_000;
 
 /// The lines that are sent, by their kind.
 const KINDS: [(&str, &str); 3] = [
@@ -86,19 +84,16 @@ fn rate<R: Clock>(rt: &R, alloc: Global, text: &[u8]) -> Result<u128> {
     })
 }
 
-fn main(rt: HostRuntime) -> Result<()> {
-    let alloc = rt.alloc();
-    let word = env::args(&rt)?.nth(1);
-    let count = match &word {
-        Some(word) => word.parse::<u32>().context("LINES")?,
-        None => 1000,
-    };
+/// Sends lines of three kinds through, and prints lines a second for each. Where no number is asked for, it sends a few through and prints how
+/// many were answered.
+pub fn print_sessions<R: Print + Clock>(rt: &R, alloc: Global, asked: Option<u32>) -> Result<()> {
+    let count = asked.unwrap_or(FEW);
     for (kind, line) in KINDS {
         let text = lines(alloc, line, count)?;
-        if word.is_none() {
+        if asked.is_none() {
             println!(rt; "{} lines of {kind}", answered(alloc, &text))?;
         } else {
-            println!(rt; "{kind}: {} lines/s", rate(&rt, alloc, &text)?)?;
+            println!(rt; "{kind}: {} lines/s", rate(rt, alloc, &text)?)?;
         }
     }
     Ok(())
