@@ -2,9 +2,9 @@
  *
  * Refskold is the transaction layer of a journaling file system: lock blocks, log changes to them, commit, force the log.
  * The library does no input and no output, starts no thread and takes no lock. You own two devices: a home device of
- * `blocks` blocks of 4,096 bytes, counted from 0, and a log, to which you only append. You ask a mount by calls; where it
- * needs a block, it says which one; where it owes a job (a checkpoint into the log, a flush of blocks home), you fetch
- * what is to be written, write it, and say what your device answered.
+ * `blocks` blocks, counted from 0, of 4,096 bytes each or of another size that you say, and a log, to which you only append.
+ * You ask a mount by calls; where it needs a block, it says which one; where it owes a job (a checkpoint into the log, a
+ * flush of blocks home), you fetch what is to be written, write it, and say what your device answered.
  *
  * That each call does what the definitions say of it is proved, of the library's code as it was before it was compiled.
  * Nothing is proved of the few lines in this header, which are tested, nor of your devices.
@@ -96,9 +96,9 @@ extern "C" {
 
 /* What this header says. The library says its own by refskold_version(): they must be equal. It goes up with each change
  * that a program that was compiled earlier would notice. */
-#define REFSKOLD_VERSION 1u
+#define REFSKOLD_VERSION 2u
 
-#define REFSKOLD_BLOCK 4096u                       /* bytes of a block, and of the longest piece */
+#define REFSKOLD_BLOCK 4096u                       /* bytes of the longest block, and of the longest piece */
 #define REFSKOLD_LEAST_LOG 65536u                  /* bytes of the smallest log */
 #define REFSKOLD_MOST_LOG 16777216u                /* bytes of the largest log */
 #define REFSKOLD_MOST_BLOCKS UINT64_C(1099511627776) /* blocks of the largest home device */
@@ -225,16 +225,17 @@ typedef struct refskold_request {
 
 uint32_t refskold_abi_version(void);
 int32_t refskold_abi_open(refskold *mount, uint32_t last, uint32_t log_bytes, uint64_t blocks);
+int32_t refskold_abi_open_sized(refskold *mount, uint32_t last, uint32_t log_bytes, uint64_t blocks, uint32_t size);
 void refskold_abi_close(refskold *mount);
 int32_t refskold_abi_shut(refskold *mount);
 
 /* Serves a request. `data` are the bytes of a LOG, for other words of length 0. `answered` (enum refskold_answer) is what
- * the home device answered, with the block in `content`. `room` is filled by a VIEW, and has then 4,096 bytes.
+ * the home device answered, with the block in `content`. `room` is filled by a VIEW, and is then as long as a block.
  *
  * Returns 0 with the reply; REFSKOLD_ASKS where the home device must be asked for block reply->number, and the call be
  * made again with its answer; or an error. The mount's own refusals come with a reply (REFUSED, ABORTED). Without one, and
  * with nothing changed: -EINVAL where the words spell no request, `data` has more than 4,096 bytes, `content` is no whole
- * block, `room` is of another length than 4,096 at a VIEW, or an answer has come that was not asked for; -ENODEV;
+ * block of the mount, `room` has another length at a VIEW, or an answer has come that was not asked for; -ENODEV;
  * -ENOMEM. */
 int32_t refskold_abi_call(refskold *mount, const refskold_request *request, const uint8_t *data, size_t data_len,
                           uint32_t answered, const uint8_t *content, size_t content_len, refskold_reply *reply,
@@ -305,12 +306,20 @@ static inline uint32_t refskold_version(void)
  * `last` is the last life of this volume, 0 at first; the mount's own is one more. `log_bytes` is the space that the
  * log's checkpoints may take, REFSKOLD_LEAST_LOG to REFSKOLD_MOST_LOG: more than that is never in use, though the log
  * itself grows until you empty it, while nothing that it says is wanted any more. `blocks` is the size of the home device,
- * 1 to REFSKOLD_MOST_BLOCKS.
+ * 1 to REFSKOLD_MOST_BLOCKS. A block has REFSKOLD_BLOCK bytes, and the log does not say so.
  *
  * -EBUSY: the handle holds a mount. -EINVAL: a size out of its range. -ENOSPC: `last` is 4,294,967,295. -ENOMEM. */
 static inline int refskold_open(refskold *mount, uint32_t last, uint32_t log_bytes, uint64_t blocks)
 {
     return mount == NULL ? -EINVAL : refskold_abi_open(mount, last, log_bytes, blocks);
+}
+
+/* The same with blocks of `size` bytes, 512, 1,024, 2,048 or 4,096, which each text of its log says. Of such a mount you call
+ * refskold_read_content_sized, refskold_view_sized and refskold_home_sized, with its size; without `_sized` they are of
+ * REFSKOLD_BLOCK bytes. -EINVAL also where a block may not have so many bytes. */
+static inline int refskold_open_sized(refskold *mount, uint32_t last, uint32_t log_bytes, uint64_t blocks, uint32_t size)
+{
+    return mount == NULL ? -EINVAL : refskold_abi_open_sized(mount, last, log_bytes, blocks, size);
 }
 
 /* Ends a mount, whatever is left of it, and gives its memory back; the handle then holds none. 0, also where it held none.
@@ -331,8 +340,8 @@ static inline int refskold_shut(refskold *mount)
 /* ---- Transactions -------------------------------------------------------------------------------------------------- */
 
 /* Opens a transaction, and writes its number. It may log `unit` bytes in each of `count` legs, 1 to REFSKOLD_MOST_LEGS;
- * `perm` not 0 means that it may be rolled. A leg that changes something costs 32 bytes, 16 for each block and 128 for
- * each of a block's 32 chunks that a change touches.
+ * `perm` not 0 means that it may be rolled. A leg that changes something costs 32 bytes, or 36 where the mount was opened
+ * with a size; 16 for each block, and 128 for each chunk of 128 bytes that a change touches.
  *
  * -EINVAL: `unit` is 0, `count` is out of its range or above 1 without `perm`, or unit * count is over the log.
  * -EIO: shut. -EAGAIN: frozen. -ENOSPC: no number is left. -EAGAIN: REFSKOLD_MOST_TRANS are open. -EAGAIN: there is no log
@@ -372,12 +381,20 @@ static inline int refskold_read(refskold *mount, uint64_t trans, uint64_t block)
     return refskold_ask_of(mount, REFSKOLD_READ, trans, block);
 }
 
-/* The same with the REFSKOLD_BLOCK bytes that the home device gave. -EINVAL also where it need not be asked. */
-static inline int refskold_read_content(refskold *mount, uint64_t trans, uint64_t block, const void *content)
+/* The same with the `size` bytes that the home device gave. -EINVAL also where it need not be asked, or a block of the mount
+ * has not so many bytes. */
+static inline int refskold_read_content_sized(refskold *mount, uint64_t trans, uint64_t block, const void *content,
+                                              size_t size)
 {
     refskold_request request = refskold_request_of(REFSKOLD_READ, trans, block);
     if (content == NULL) return -EINVAL;
-    return refskold_call(mount, &request, NULL, 0, REFSKOLD_CONTENT, content, REFSKOLD_BLOCK, NULL, NULL, 0);
+    return refskold_call(mount, &request, NULL, 0, REFSKOLD_CONTENT, content, size, NULL, NULL, 0);
+}
+
+/* The same with REFSKOLD_BLOCK bytes. */
+static inline int refskold_read_content(refskold *mount, uint64_t trans, uint64_t block, const void *content)
+{
+    return refskold_read_content_sized(mount, trans, block, content, REFSKOLD_BLOCK);
 }
 
 /* The same where the home device failed: -EIO, and the block is not locked; the mount is shut for REFSKOLD_META_IO_ERROR
@@ -388,21 +405,27 @@ static inline int refskold_read_failed(refskold *mount, uint64_t trans, uint64_t
     return refskold_call(mount, &request, NULL, 0, REFSKOLD_FAILED_READ, NULL, 0, NULL, NULL, 0);
 }
 
-/* Copies what the transaction sees of its block into a room of REFSKOLD_BLOCK bytes.
+/* Copies what the transaction sees of its block into a room of `size` bytes.
  *
- * -EINVAL: the transaction is not open, or does not have the block. -ENOMEM. */
-static inline int refskold_view(refskold *mount, uint64_t trans, uint64_t block, void *room)
+ * -EINVAL: a block of the mount has not so many bytes, the transaction is not open, or does not have the block. -ENOMEM. */
+static inline int refskold_view_sized(refskold *mount, uint64_t trans, uint64_t block, void *room, size_t size)
 {
     refskold_request request = refskold_request_of(REFSKOLD_VIEW, trans, block);
     if (room == NULL) return -EINVAL;
-    return refskold_call(mount, &request, NULL, 0, REFSKOLD_UNASKED, NULL, 0, NULL, room, REFSKOLD_BLOCK);
+    return refskold_call(mount, &request, NULL, 0, REFSKOLD_UNASKED, NULL, 0, NULL, room, size);
+}
+
+/* The same of a room of REFSKOLD_BLOCK bytes. */
+static inline int refskold_view(refskold *mount, uint64_t trans, uint64_t block, void *room)
+{
+    return refskold_view_sized(mount, trans, block, room, REFSKOLD_BLOCK);
 }
 
 /* Writes `length` bytes of `data` in a block of the transaction, from the offset `first` on. They are seen by this
  * transaction alone until it commits.
  *
  * -EINVAL: the transaction is not open, or does not have the block. -EINVAL: `length` is 0, or first + length is past
- * REFSKOLD_BLOCK. -EINVAL: the transaction has the block by refskold_get alone, or has invalidated it, and this is not the
+ * the end of a block. -EINVAL: the transaction has the block by refskold_get alone, or has invalidated it, and this is not the
  * whole block: read it (refskold_read) before you write a part of it, or write all of it first. -ENOSPC: the leg would
  * cost more than its `unit`. -ENOMEM. */
 static inline int refskold_log(refskold *mount, uint64_t trans, uint64_t block, uint32_t first, const void *data,
@@ -601,17 +624,23 @@ static inline int refskold_flush_plan(refskold *mount, refskold_plan *plan)
     return mount == NULL || plan == NULL ? -EINVAL : refskold_abi_plan(mount, plan);
 }
 
-/* Copies what is to be written home of the block at a place of the plan into a room of REFSKOLD_BLOCK bytes.
+/* Copies what is to be written home of the block at a place of the plan into a room of `size` bytes.
  *
- * -EINVAL: the plan has no such place. -ENODEV. */
+ * -EINVAL: the plan has no such place, or a block of the mount has not so many bytes. -ENODEV. */
+static inline int refskold_home_sized(refskold *mount, uint32_t index, void *room, size_t size)
+{
+    return mount == NULL || room == NULL ? -EINVAL : refskold_abi_home(mount, index, (uint8_t *)room, size);
+}
+
+/* The same of a room of REFSKOLD_BLOCK bytes. */
 static inline int refskold_home(refskold *mount, uint32_t index, void *room)
 {
-    return mount == NULL || room == NULL ? -EINVAL : refskold_abi_home(mount, index, (uint8_t *)room, REFSKOLD_BLOCK);
+    return refskold_home_sized(mount, index, room, REFSKOLD_BLOCK);
 }
 
 /* Both at once: writes which blocks a flush writes home now, and copies what is to be written of each to the front of a room
  * of `length` bytes, one after another in the order of the plan. Returns how many, 0 to REFSKOLD_PLAN. The plan is made
- * once, where refskold_home makes it anew for each block. A room of REFSKOLD_PLAN * REFSKOLD_BLOCK bytes fits each plan.
+ * once, where refskold_home makes it anew for each block. A room of REFSKOLD_PLAN blocks fits each plan.
  *
  * -EINVAL: the room is too short, and neither it nor the plan is written. */
 static inline int refskold_homes(refskold *mount, refskold_plan *plan, void *room, size_t length)
@@ -652,6 +681,7 @@ typedef struct refskold_log_told {
     uint64_t texts;               /* whole texts, one for each checkpoint */
     uint64_t rest;                /* bytes behind them, which are no whole text, as a crash leaves them */
     uint64_t blocks;              /* blocks of which the texts say something */
+    uint64_t size;                /* of a block, where the texts say it; else 0, and a block has 4,096 bytes */
     uint64_t at;                  /* where the log is broken: at which byte */
 } refskold_log_told;
 
@@ -666,7 +696,7 @@ typedef struct refskold_found {
 /* How a log or a text ends that is not as a checkpoint writes it. */
 enum refskold_log_end {
     REFSKOLD_BROKEN = 1,          /* a field breaks its rule */
-    REFSKOLD_SIZED = 2            /* a text is of blocks of another size than 4,096 bytes */
+    REFSKOLD_MIXED = 2            /* a text says something else of the size of a block than those before it */
 };
 
 /* The struct form, as above. */
@@ -686,14 +716,14 @@ int32_t refskold_abi_read_checkpoint(const uint8_t *input, size_t input_len, ref
  *     for (uint64_t k = 0; k < told.blocks; k++) {
  *         refskold_recovery_block(&recovery, k, &block);
  *         // read the block into `content`, then
- *         refskold_recovery_lay(&recovery, block, content);
+ *         refskold_recovery_lay(&recovery, block, content); // where told.size is not 0, refskold_recovery_lay_sized
  *         // and write it
  *     }
  *
  * Broken off and done again, from the first block on, it gives the same. What refskold_force said was on the log is then
  * home, and of each checkpoint all or nothing.
  *
- * REFSKOLD_BROKEN, REFSKOLD_SIZED: at the byte told.at; no crash leaves that, and nothing is gathered. -EBUSY: the handle
+ * REFSKOLD_BROKEN, REFSKOLD_MIXED: at the byte told.at; no crash leaves that, and nothing is gathered. -EBUSY: the handle
  * holds something. -ENOMEM. */
 static inline int refskold_recovery_open(refskold_recovery *recovery, const void *log, size_t length,
                                          refskold_log_told *told)
@@ -718,7 +748,7 @@ static inline int refskold_recovery_feed(refskold_recovery *recovery, const void
 /* Gathers what the texts of the log say that came in pieces: it returns and tells what refskold_recovery_open does of the
  * log whole. After 0 the handle holds that, and the bytes no more. A handle that holds nothing has a log of no bytes.
  *
- * REFSKOLD_BROKEN, REFSKOLD_SIZED: at the byte told.at; the bytes are held until refskold_recovery_close. -EBUSY: the handle
+ * REFSKOLD_BROKEN, REFSKOLD_MIXED: at the byte told.at; the bytes are held until refskold_recovery_close. -EBUSY: the handle
  * holds what texts say. -ENOMEM: the bytes are held, and this may be called again. */
 static inline int refskold_recovery_end(refskold_recovery *recovery, refskold_log_told *told)
 {
@@ -741,12 +771,18 @@ static inline int refskold_recovery_block(refskold_recovery *recovery, uint64_t 
     return recovery == NULL || block == NULL ? -EINVAL : refskold_abi_log_block(recovery, index, block);
 }
 
-/* Lays what the texts say of a block over the REFSKOLD_BLOCK bytes that the home device has of it, in place; where they say
- * nothing, these stay. -ENODEV: as above. */
-static inline int refskold_recovery_lay(refskold_recovery *recovery, uint64_t block, void *content)
+/* Lays what the texts say of a block over the `size` bytes that the home device has of it, in place; where they say nothing,
+ * these stay. -EINVAL: by the texts a block has not so many bytes. -ENODEV: as above. */
+static inline int refskold_recovery_lay_sized(refskold_recovery *recovery, uint64_t block, void *content, size_t size)
 {
     if (recovery == NULL || content == NULL) return -EINVAL;
-    return refskold_abi_log_lay(recovery, block, (uint8_t *)content, REFSKOLD_BLOCK);
+    return refskold_abi_log_lay(recovery, block, (uint8_t *)content, size);
+}
+
+/* The same over REFSKOLD_BLOCK bytes. */
+static inline int refskold_recovery_lay(refskold_recovery *recovery, uint64_t block, void *content)
+{
+    return refskold_recovery_lay_sized(recovery, block, content, REFSKOLD_BLOCK);
 }
 
 /* Reads the text of a checkpoint that begins the input. REFSKOLD_FOUND, and what is told of it is written; the next text

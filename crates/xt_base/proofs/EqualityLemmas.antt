@@ -37,7 +37,7 @@ calls_decide f g same_request same_answer s l r a t m q b = search (same_request
 
 -- steps, by the first of the two
 pub steps_decide : (a b : Step) → Decides (step_words.eq a b) (a ≡ b)
-steps_decide (Mount slot log_bytes blocks) b = search rules
+steps_decide (Mount slot log_bytes blocks size) b = search rules
 steps_decide (Call slot life request answer) (Call other_slot other_life asked got) = calls_decide request_words.eq answer_words.eq requests_decide contents_decide slot life request answer other_slot other_life asked got
 steps_decide (Call slot life request answer) b = search rules
 steps_decide (Post name) b = search rules

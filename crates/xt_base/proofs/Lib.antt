@@ -1,3 +1,4 @@
+pub mod FormLemmas
 pub mod ChunkLemmas
 pub mod PlaceLemmas
 pub mod LendLemmas

@@ -228,7 +228,7 @@ post_step kind s (Some m) = refl
 
 -- no step alone is answered ENOMEM
 pub alone_no_want : (x : Step) (s : Lone) → is_no_memory (alone x s).reply ≡ false
-alone_no_want (Mount slot log_bytes blocks) s = mount_no_want (mount_refusals log_bytes blocks s) s (mounted_new slot log_bytes blocks s) refl refl
+alone_no_want (Mount slot log_bytes blocks size) s = mount_no_want (mount_refusals log_bytes blocks size s) s (mounted_new slot log_bytes blocks size s) refl refl
 alone_no_want (Call slot life request answer) s = call_step [] life request answer s s.mounted
 alone_no_want (Post name) s = post_step name.kind s s.mounted
 alone_no_want (Take worker name) s = refl

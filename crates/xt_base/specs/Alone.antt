@@ -1,7 +1,7 @@
 -- One slot alone: any of its steps, and lists of them.
 use Rattle.std.specs.Prelude.{Bool, List, None, Option, Some, [], false, if◌then◌else◌, is_some, nat_lt, not, true, ℕ, ◌&&◌, ◌+◌, ◌==◌, ◌||◌, ◌∷◌, ◌≡◌, ◌⊎◌}
 use Rattle.xt_base.specs.Calls.{Outcome, alone_with, first_of, gives, is_unmount, log}
-use Rattle.xt_base.specs.Form.{form_one}
+use Rattle.xt_base.specs.Form.{form_of, is_size}
 use Rattle.xt_base.specs.Jobs.{begin, end, end_offers, flush, flush_offers, posted}
 use Rattle.xt_base.specs.Settle.{Dropped}
 use Rattle.xt_base.specs.State.{Lone, State, empty, mount_of}
@@ -32,16 +32,16 @@ turn r s = record { reply = r; slot = s; log = []; home = [] }
 
 -- ---- mount
 -- what refuses a mount
-abbrev pub mount_refusals : ℕ → ℕ → Lone → List (Bool × Errno)
-mount_refusals log_bytes blocks s =
+abbrev pub mount_refusals : ℕ → ℕ → Option ℕ → Lone → List (Bool × Errno)
+mount_refusals log_bytes blocks size s =
     (is_some s.mounted, Busy)
-    ∷ (nat_lt log_bytes LEAST_LOG || nat_lt MOST_LOG log_bytes || (blocks == 0) || nat_lt MOST_BLOCKS blocks, Invalid)
+    ∷ (nat_lt log_bytes LEAST_LOG || nat_lt MOST_LOG log_bytes || (blocks == 0) || nat_lt MOST_BLOCKS blocks || not (is_size size), Invalid)
     ∷ (s.last_life == 4294967295, NoSpace)
     ∷ []
 
 -- the next life
-abbrev pub mounted_new : ℕ → ℕ → ℕ → Lone → Turn
-mounted_new slot log_bytes blocks s = turn (Reply.Life (s.last_life + 1)) (record s { last_life = s.last_life + 1; mounted = Some (mount_of slot (s.last_life + 1) log_bytes blocks form_one) })
+abbrev pub mounted_new : ℕ → ℕ → ℕ → Option ℕ → Lone → Turn
+mounted_new slot log_bytes blocks size s = turn (Reply.Life (s.last_life + 1)) (record s { last_life = s.last_life + 1; mounted = Some (mount_of slot (s.last_life + 1) log_bytes blocks (form_of size)) })
 
 -- refused and unchanged, or else this
 abbrev pub unless_refused : Option Errno → Lone → Turn → Turn
@@ -49,8 +49,8 @@ unless_refused None s t = t
 unless_refused (Some e) s t = turn (Refused e) s
 
 -- makes an empty mount
-abbrev pub mount : ℕ → ℕ → ℕ → Lone → Turn
-mount slot log_bytes blocks s = unless_refused (first_of (mount_refusals log_bytes blocks s)) s (mounted_new slot log_bytes blocks s)
+abbrev pub mount : ℕ → ℕ → ℕ → Option ℕ → Lone → Turn
+mount slot log_bytes blocks size s = unless_refused (first_of (mount_refusals log_bytes blocks size s)) s (mounted_new slot log_bytes blocks size s)
 
 -- ---- a call
 -- whether a reply is ok
@@ -92,7 +92,7 @@ shown (Some m) s = record s { seen_life = m.life; seen_reason = m.shut }
 
 -- ---- any step; the blocks in dropped found no memory when they settled
 abbrev pub step_with : Dropped → Step → Lone → Turn
-step_with dropped (Mount slot log_bytes blocks) s = mount slot log_bytes blocks s
+step_with dropped (Mount slot log_bytes blocks size) s = mount slot log_bytes blocks size s
 step_with dropped (Call slot life request answer) s = call dropped life request answer s s.mounted
 step_with dropped (Post name) s = on_mount s.mounted s (λ m. turn Okay (with_mount (posted name.kind m) s))
 step_with dropped (Take worker name) s = turn Okay s
@@ -184,7 +184,7 @@ may_want_memory other reply = false
 
 -- the same of a step: a mount, a call, a post, and a begin that finds something to do
 abbrev pub step_may_want : Step → Reply → Bool
-step_may_want (Mount slot log_bytes blocks) reply = not (is_refusal reply)
+step_may_want (Mount slot log_bytes blocks size) reply = not (is_refusal reply)
 step_may_want (Call slot life request answer) reply = may_want_memory request reply
 step_may_want (Post name) reply = true
 step_may_want (Begin worker name) reply = has_begun reply

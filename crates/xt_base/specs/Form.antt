@@ -13,7 +13,7 @@ abbrev pub is_size : Option ℕ → Bool
 is_size None = true
 is_size (Some n) = (n == 512) || (n == 1024) || (n == 2048) || (n == BLOCK_BYTES)
 
--- blocks of 4,096 bytes, and texts that do not say so: the form of each mount of today
+-- blocks of 4,096 bytes, and texts that do not say so: the form of a mount with no size said
 abbrev pub form_one : Form
 form_one = record { size = BLOCK_BYTES; ends = ENDS; sized = false }
 
@@ -26,9 +26,10 @@ abbrev pub form_of : Option ℕ → Form
 form_of None = form_one
 form_of (Some size) = form_two size
 
--- a block has whole chunks, and a text has something beside its items
+-- a block has one of the four sizes, which are whole chunks, and a text has something beside its items
 pub record IsForm (f : Form) : Type 0 where
   pub least : 1 ≤ f.ends
   pub most : f.ends ≤ MOST_ENDS
   pub whole : f.size ≡ CHUNK_BYTES * (f.size / CHUNK_BYTES)
   pub small : f.size ≤ BLOCK_BYTES
+  pub one_of : is_size (Some f.size) ≡ true

@@ -143,9 +143,9 @@ has_size (Answer.Content content) (Some m) = length content == m.form.size
 has_size answer other = true
 
 -- what the slot's own state asks: a post names a job that is owed, a begin and a flush come before any other step on their job,
--- an end after its begin, answers have their shape, and a read is answered exactly where the device is asked
+-- an end after its begin, answers have their shape, and a read is answered exactly where the device is asked, a content of the mount's size
 abbrev pub suits : Step → Lone → Bool
-suits (Call slot life request answer) s = is_there (mount_is (of_life life request) s.mounted) answer
+suits (Call slot life request answer) s = is_there (mount_is (of_life life request) s.mounted) answer && has_size answer s.mounted
 suits (Post name) s = mount_is (is_owed_as name) s.mounted
 suits (Begin worker name) s = is_ckpt name.kind && mount_is (is_waiting name) s.mounted
 suits (End worker name answers) s = mount_is (λ m. is_begun name m && fits_pieces answers (length (flight_pieces m.items.flight))) s.mounted

@@ -5,7 +5,7 @@ use Rattle.xt_base.specs.declared.steps.Step.TheVariants.{Begin, Call, End, Flus
 
 -- the slot that a step names
 abbrev pub slot_of : Step → ℕ
-slot_of (Mount slot log_bytes blocks) = slot
+slot_of (Mount slot log_bytes blocks size) = slot
 slot_of (Call slot life request answer) = slot
 slot_of (Post name) = name.slot
 slot_of (Take worker name) = name.slot
@@ -22,7 +22,7 @@ strike steps m = filter (λ x. slot_of x == m) steps
 -- a request to a mount
 abbrev pub is_call : Step → Bool
 is_call (Call slot life request answer) = true
-is_call (Mount slot log_bytes blocks) = false
+is_call (Mount slot log_bytes blocks size) = false
 is_call (Post name) = false
 is_call (Take worker name) = false
 is_call (Begin worker name) = false

@@ -1,30 +1,32 @@
 //! Bytes: the content of a block, what a request carries, and lists of blocks that stay held.
 
 ghost use Rattle.std.specs.Bool.{IsTrue};
-ghost use Rattle.std.specs.Prelude.{◌≡◌, ◌==◌, ◌+◌, ◌≤◌, ◌<◌, ◌++◌, ◌↔◌, List, ℕ, length, take, drop, replicate, IfOk, IsSome, IfSome, OnErr};
+ghost use Rattle.std.specs.Prelude.{◌≡◌, ◌==◌, ◌+◌, ◌*◌, ◌/◌, ◌≤◌, ◌<◌, ◌++◌, ◌↔◌, List, ℕ, Some, true, length, take, drop, replicate, IfOk, IsSome, IfSome, OnErr};
+ghost use Rattle.xt_base.specs.Form.{is_size};
 ghost use Rattle.xt_base.specs.Kept.{kept_bytes, IsStretch};
+ghost use Rattle.xt_base.specs.declared.sizes.TheConstants.{BLOCK_BYTES, CHUNK_BYTES};
 
-use crate::form::Form;
+use crate::form::{Form, is_block_size};
 use crate::names::Block;
-use crate::sizes::{BLOCK_BYTES, BUSY_BLOCKS, DATA_BYTES};
+use crate::sizes::{BUSY_BLOCKS, DATA_BYTES};
 use std::alloc::{AllocError, Global};
 use std::marker::Model;
 
-/// The content of a block: exactly 4,096 bytes, in a box, so that what has a content is small.
+/// The content of a block: 512, 1,024, 2,048 or 4,096 bytes, in a box, so that what has a content is small.
 #[derive(Debug, Drop)]
 pub struct Content {
     bytes: Box<Vec<u8>>,
 }
 
 impl Model for Content {
-    ghost use Rattle.std.specs.Prelude.{◌≡◌, List, ℕ, length};
-    ghost use Rattle.xt_base.specs.declared.sizes.TheConstants.{BLOCK_BYTES};
+    ghost use Rattle.std.specs.Prelude.{◌≡◌, List, ℕ, Some, length, true};
+    ghost use Rattle.xt_base.specs.Form.{is_size};
 
     ghost Value = { List ℕ };
 
     ghost view = { λ c. c.bytes.value.items };
 
-    ghost invariant = { λ c. length c.bytes.value.items ≡ BLOCK_BYTES };
+    ghost invariant = { λ c. is_size (Some (length c.bytes.value.items)) ≡ true };
 }
 
 impl Content {
@@ -36,36 +38,36 @@ impl Content {
         Ok(Content { bytes })
     }
 
-    /// The content of these bytes, which are copied; None where they are not 4,096. The one error is want of memory.
+    /// The content of these bytes, which are copied; None where they are of none of the four sizes. The one error is want of memory.
     pub fn of(alloc: Global, bytes: &[u8]) -> Result<Option<Self>, AllocError>
-        ensures whole { IfOk result (λ found. IsSome found ↔ (length bytes.now ≡ BLOCK_BYTES)) }
+        ensures whole { IfOk result (λ found. IsSome found ↔ (is_size (Some (length bytes.now)) ≡ true)) }
         ensures value { IfOk result (λ found. IfSome found (λ content. content ≡ bytes.now)) }
     {
-        if bytes.len() != BLOCK_BYTES {
+        if !is_block_size(bytes.len()) {
             return Ok(None);
         }
         let copy = bytes.to_vec(alloc)?;
         Content::of_vec(alloc, copy)
     }
 
-    /// The content of these boxed bytes, which are taken over; None where they are not 4,096. It takes no memory.
+    /// The content of these boxed bytes, which are taken over; None where they are of none of the four sizes. It takes no memory.
     pub fn of_boxed(bytes: Box<Vec<u8>>) -> Option<Self>
-        ensures whole { IsSome result ↔ (length bytes.value.items ≡ BLOCK_BYTES) }
+        ensures whole { IsSome result ↔ (is_size (Some (length bytes.value.items)) ≡ true) }
         ensures value { IfSome result (λ content. content ≡ bytes.value.items) }
     {
-        if bytes.len() == BLOCK_BYTES {
+        if is_block_size(bytes.len()) {
             Some(Content { bytes })
         } else {
             None
         }
     }
 
-    /// The content of these bytes, which are taken over; None where they are not 4,096. The one error is want of memory.
+    /// The content of these bytes, which are taken over; None where they are of none of the four sizes. The one error is want of memory.
     pub fn of_vec(alloc: Global, bytes: Vec<u8>) -> Result<Option<Self>, AllocError>
-        ensures whole { IfOk result (λ found. IsSome found ↔ (length bytes.items ≡ BLOCK_BYTES)) }
+        ensures whole { IfOk result (λ found. IsSome found ↔ (is_size (Some (length bytes.items)) ≡ true)) }
         ensures value { IfOk result (λ found. IfSome found (λ content. content ≡ bytes.items)) }
     {
-        if bytes.len() != BLOCK_BYTES {
+        if !is_block_size(bytes.len()) {
             return Ok(None);
         }
         let bytes = Box::new(alloc, bytes)?;
@@ -76,7 +78,7 @@ impl Content {
     pub fn copy(&self, alloc: Global) -> Result<Self, AllocError>
         ensures { IfOk result (λ content. content ≡ self.now) }
     {
-        let mut bytes = Vec::with_capacity(alloc, BLOCK_BYTES)?;
+        let mut bytes = Vec::with_capacity(alloc, self.bytes.len())?;
         bytes.extend_from_slice(&self.bytes)?;
         let bytes = Box::new(alloc, bytes)?;
         Ok(Content { bytes })
@@ -85,25 +87,31 @@ impl Content {
     /// Its bytes.
     pub fn bytes(&self) -> &[u8]
         ensures value { result.now ≡ self.now }
-        ensures whole { length result.now ≡ BLOCK_BYTES }
+        ensures one_of { is_size (Some (length result.now)) ≡ true }
+        ensures short { length result.now ≤ BLOCK_BYTES }
+        ensures chunks { length result.now ≡ CHUNK_BYTES * (length result.now / CHUNK_BYTES) }
     {
         &self.bytes
     }
 
     /// Writes bytes from `first` on.
     pub fn write(&mut self, first: usize, bytes: &[u8])
-        requires { first + length bytes.now ≤ BLOCK_BYTES }
+        requires { first + length bytes.now ≤ length self.old }
         ensures { self.new ≡ take first self.old ++ bytes.now ++ drop (first + length bytes.now) self.old }
     {
+        // The bound of the sum, for the proof.
+        let _room = self.bytes.len();
         let end = first + bytes.len();
         self.bytes[first..end].copy_from_slice(bytes);
     }
 
     /// Writes data from `first` on.
     pub fn write_data(&mut self, first: usize, bytes: &Data)
-        requires { first + length bytes.now ≤ BLOCK_BYTES }
+        requires { first + length bytes.now ≤ length self.old }
         ensures { self.new ≡ take first self.old ++ bytes.now ++ drop (first + length bytes.now) self.old }
     {
+        // The bound of the sum, for the proof.
+        let _room = self.bytes.len();
         let end = first + bytes.len();
         bytes.copy_to(&mut self.bytes[first..end]);
     }

@@ -1,7 +1,7 @@
 //! What differs from mount to mount in its sizes.
 
-ghost use Rattle.std.specs.Prelude.{◌≡◌, ◌≤◌, Some};
-ghost use Rattle.xt_base.specs.Form.{form_one, is_size};
+ghost use Rattle.std.specs.Prelude.{◌≡◌, ◌≤◌, ◌↔◌, Some, IfSome, IsSome, true};
+ghost use Rattle.xt_base.specs.Form.{form_of, form_one, is_size};
 ghost use Rattle.xt_base.specs.declared.sizes.TheConstants.{BLOCK_BYTES, MOST_ENDS};
 
 use crate::sizes::{self, ENDS};
@@ -15,7 +15,7 @@ pub fn is_block_size(bytes: usize) -> bool
 }
 
 /// The form of a mount: the bytes of a block, the bytes that the text of a checkpoint has beside its items, and whether
-/// a text says the size of a block. One value of a mount and of its layers. Today each block has 4,096 bytes.
+/// a text says the size of a block. One value of a mount and of its layers.
 #[derive(Clone, Copy, Debug)]
 pub struct Form {
     size: u32,
@@ -24,21 +24,19 @@ pub struct Form {
 }
 
 impl Model for Form {
-    ghost use Rattle.std.specs.Prelude.{◌≡◌};
     ghost use Rattle.xt_base.specs.Form.{Form as FormValue, IsForm};
-    ghost use Rattle.xt_base.specs.declared.sizes.TheConstants.{BLOCK_BYTES};
 
     ghost Value = { FormValue };
 
     ghost view = { λ f. record { size = f.size; ends = f.ends; sized = f.sized } };
 
-    ghost invariant = { λ f. IsForm (record { size = f.size; ends = f.ends; sized = f.sized }) × (f.size ≡ BLOCK_BYTES) };
+    ghost invariant = { λ f. IsForm (record { size = f.size; ends = f.ends; sized = f.sized }) };
 
     ghost inverse = { λ v. record { size = v.size; ends = v.ends; sized = v.sized } };
 }
 
 impl Form {
-    /// The form of a mount of today: blocks of 4,096 bytes, and texts that do not say so.
+    /// The form of a mount with no size said: blocks of 4,096 bytes, and texts that do not say so.
     pub fn one() -> Self
         ensures { result ≡ form_one }
     {
@@ -49,7 +47,24 @@ impl Form {
         }
     }
 
-    /// Whether the text of a checkpoint says the size of a block. That of a mount of today does not.
+    /// The form of a mount: where a size is said, blocks of that size, and texts that say it. None where a block may not have so
+    /// many bytes.
+    pub fn of(size: Option<u32>) -> Option<Self>
+        ensures one_of { IsSome result ↔ (is_size size ≡ true) }
+        ensures value { IfSome result (λ form. form ≡ form_of size) }
+    {
+        match size {
+            None => Some(Form::one()),
+            Some(size) if is_block_size(size as usize) => Some(Form {
+                size,
+                ends: sizes::MOST_ENDS,
+                sized: true,
+            }),
+            Some(_) => None,
+        }
+    }
+
+    /// Whether the text of a checkpoint says the size of a block.
     pub fn is_sized(self) -> bool
         ensures { result ≡ self.sized }
     {
@@ -64,10 +79,11 @@ impl Form {
         self.size
     }
 
-    /// The bytes of a block, as many as a content has today.
+    /// The bytes of a block, as many as a content of the mount has: 512, 1,024, 2,048 or 4,096.
     pub fn block_bytes(self) -> usize
         ensures value { result ≡ self.size }
-        ensures today { result ≡ BLOCK_BYTES }
+        ensures one_of { is_size (Some result) ≡ true }
+        ensures short { result ≤ BLOCK_BYTES }
     {
         self.size as usize
     }

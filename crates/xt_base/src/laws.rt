@@ -1,8 +1,8 @@
 //! Laws of the definitions. Each function does nothing: its clause is the law.
 
-ghost use Rattle.std.specs.Prelude.{◌≡◌, ◌≤◌, ◌==◌, ◌+◌, [], ℕ, Bool, List, Some, true, false, is_none, length, sum_by};
+ghost use Rattle.std.specs.Prelude.{◌≡◌, ◌≤◌, ◌==◌, ◌+◌, [], ℕ, Bool, List, Option, Some, true, false, is_none, length, sum_by};
 ghost use Rattle.xt_base.specs.Calls.{alloc, alone_with, is_own};
-ghost use Rattle.xt_base.specs.Form.{Form as AnyForm, IsForm};
+ghost use Rattle.xt_base.specs.Form.{Form as AnyForm, IsForm, form_of, is_size};
 ghost use Rattle.xt_base.specs.Jobs.{begin as begin_job, end as end_job, flush as flush_job, flush_plan, is_ckpt, is_owed, is_waiting, posted};
 ghost use Rattle.xt_base.specs.Laws.{LooksAlike, after_calls, is_look, landed_since, names, uses};
 ghost use Rattle.xt_base.specs.Maps.{is_in};
@@ -44,10 +44,11 @@ pub fn clean_cancel()
         → IsWithoutTrace s (alone_with [] (AnyRequest.Cancel t) answer (after_calls looks (alloc unit count perm s).state)).state }
 {}
 
-/// A new mount is sound, and each step keeps a mount so: every call, whatever the home device
-/// answers and whatever finds no memory as it settles, a post of a job that is owed, a begin of a
-/// checkpoint that waits, and the end of a checkpoint and of a flush, whatever the devices answer.
+/// The form by a size that a block may have, or by none, is one. A new mount of a form is sound, and each step keeps a mount so:
+/// every call, whatever the home device answers and whatever finds no memory as it settles, a post of a job that is owed, a begin
+/// of a checkpoint that waits, and the end of a checkpoint and of a flush, whatever the devices answer.
 pub fn stays_sound()
+    ensures forms { (size : Option ℕ) → is_size size ≡ true → IsForm (form_of size) }
     ensures first { (slot life log_bytes blocks : ℕ) (form : AnyForm) → IsForm form → log_bytes ≤ MOST_LOG → IsSound (mount_of slot life log_bytes blocks form) }
     ensures calls { (s : State) (request : AnyRequest) (answer : AnyAnswer) (dropped : Dropped) → IsSound s → IsSound (alone_with dropped request answer s).state }
     ensures posts { (s : State) (kind : AnyKind) → IsSound s → is_owed kind s ≡ true → IsSound (posted kind s) }

@@ -99,7 +99,7 @@ impl Model for Life {
     ghost inverse = { λ n. record { 0 = n } };
 }
 
-/// A block of a home device, 4,096 bytes long, counted from 0.
+/// A block of a home device, counted from 0. How long it is its mount says.
 #[derive(Clone, Copy, Debug, PartialEq, Eq, PartialOrd, Ord)]
 pub struct Block(pub u64);
 

@@ -234,11 +234,12 @@ pub struct HomeAnswers {
 /// One line of a script.
 #[derive(Debug, Drop, PartialEq)]
 pub enum Step {
-    /// Mounts a slot with a log of so many bytes and a home device of so many blocks.
+    /// Mounts a slot with a log of so many bytes and a home device of so many blocks, of a size where one is named.
     Mount {
         slot: Slot,
         log_bytes: u32,
         blocks: u64,
+        size: Option<u32>,
     },
     /// A request to one life of a slot, with the home device's answer where it was asked.
     Call {
@@ -404,10 +405,12 @@ impl Step {
                 slot,
                 log_bytes,
                 blocks,
+                size,
             } => Step::Mount {
                 slot,
                 log_bytes,
                 blocks,
+                size,
             },
             Step::Call { .. } => unreachable!(),
             Step::Post(name) => Step::Post(name),

@@ -19,19 +19,19 @@ room_more front more old room n m len is =
     subst (λ r. take n r ++ more ++ drop (n + m) r ≡ (front ++ more) ++ drop (n + m) old) (sym is)
     (ap (λ t. t ++ more ++ drop (n + m) (front ++ drop n old)) (take_at front (drop n old) n len) ∙ ap (λ d. front ++ more ++ d) (behind front old n m len))
 
--- one block more of those whose contents stand at the front of a room
-pub next : (f : ℕ → List ℕ) (blocks : List ℕ) (k block : ℕ) (content old room new : List ℕ)
-    → k < length blocks → get_or blocks k block ≡ block → content ≡ f block → length content ≡ 4096
-    → room ≡ flat_map f (take k blocks) ++ drop (k * 4096) old → length (flat_map f (take k blocks)) ≡ k * 4096
-    → new ≡ take (k * 4096) room ++ content ++ drop (k * 4096 + 4096) room
-    → (new ≡ flat_map f (take (k + 1) blocks) ++ drop ((k + 1) * 4096) old) × (length (flat_map f (take (k + 1) blocks)) ≡ (k + 1) * 4096)
-next f blocks k block content old room new within found is whole here far put =
+-- one block more of those whose contents, of a size, stand at the front of a room
+pub next : (size : ℕ) (f : ℕ → List ℕ) (blocks : List ℕ) (k block : ℕ) (content old room new : List ℕ)
+    → k < length blocks → get_or blocks k block ≡ block → content ≡ f block → length content ≡ size
+    → room ≡ flat_map f (take k blocks) ++ drop (k * size) old → length (flat_map f (take k blocks)) ≡ k * size
+    → new ≡ take (k * size) room ++ content ++ drop (k * size + length content) room
+    → (new ≡ flat_map f (take (k + 1) blocks) ++ drop ((k + 1) * size) old) × (length (flat_map f (take (k + 1) blocks)) ≡ (k + 1) * size)
+next size f blocks k block content old room new within found is whole here far put =
     let front = flat_map f (take k blocks) in
     let more : flat_map f (take (k + 1) blocks) ≡ front ++ content =
     one_more f blocks k block within ∙ ap (λ b. front ++ f b) found ∙ ap (λ z. front ++ z) (sym is) in
-    let place : k * 4096 + 4096 ≡ (k + 1) * 4096 = omega arith in
-    let long : length front + length content ≡ (k + 1) * 4096 = omega (arith, far, whole) in (
-      put ∙ room_more front content old room (k * 4096) 4096 far here ∙ ap (λ z. z ++ drop (k * 4096 + 4096) old) (sym more)
+    let place : k * size + length content ≡ (k + 1) * size = omega (arith, whole) in
+    let long : length front + length content ≡ (k + 1) * size = omega (arith, far, place) in (
+      put ∙ room_more front content old room (k * size) (length content) far here ∙ ap (λ z. z ++ drop (k * size + length content) old) (sym more)
           ∙ ap (λ n. flat_map f (take (k + 1) blocks) ++ drop n old) place,
       ap length more ∙ length-append front content ∙ long,
     )

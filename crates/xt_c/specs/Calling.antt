@@ -1,11 +1,10 @@
 -- What becomes of a mount that a caller opens, calls and closes.
-use Rattle.std.specs.Prelude.{List, [], None, Option, Some, if◌then◌else◌, is_some, not, pos, true, unwrap_or, Bool, ℕ, ℤ, ◌+◌, ◌==◌, ◌||◌, ◌∷◌, ◌≡◌, ◌⊎◌}
+use Rattle.std.specs.Prelude.{List, [], None, Option, Some, if◌then◌else◌, is_some, not, pos, true, unwrap_or, Bool, ℕ, ℤ, ◌&&◌, ◌+◌, ◌==◌, ◌||◌, ◌∷◌, ◌≡◌, ◌⊎◌}
 use Rattle.xt_base.specs.Alone.{mount_after, may_want_memory}
 use Rattle.xt_base.specs.Calls.{Outcome, alone_with, asks, first_of, gives}
-use Rattle.xt_base.specs.Form.{form_one}
-use Rattle.xt_base.specs.Order.{is_answer, is_there}
+use Rattle.xt_base.specs.Form.{form_of}
+use Rattle.xt_base.specs.Order.{has_size, is_answer, is_there}
 use Rattle.xt_base.specs.State.{State, mount_of}
-use Rattle.xt_base.specs.declared.sizes.TheConstants.{BLOCK_BYTES}
 use Rattle.xt_base.specs.declared.steps.Answer.{Answer}
 use Rattle.xt_base.specs.declared.steps.Errno.{Errno}
 use Rattle.xt_base.specs.declared.steps.Errno.TheVariants.{Busy, Invalid, NoDevice, NoMemory}
@@ -22,18 +21,18 @@ use Rattle.xt_mount.specs.Come.{new_refusals, read_block}
 
 -- ---- open
 -- what refuses an open: the handle holds a mount already, a size out of its range, a last life that is the greatest
-abbrev pub open_refusal : ℕ → ℕ → ℕ → Option State → Option Errno
-open_refusal last log_bytes blocks old = first_of ((is_some old, Busy) ∷ new_refusals last log_bytes blocks)
+abbrev pub open_refusal : ℕ → ℕ → ℕ → Option ℕ → Option State → Option Errno
+open_refusal last log_bytes blocks size old = first_of ((is_some old, Busy) ∷ new_refusals last log_bytes blocks size)
 
 -- refused, and nothing is changed; else 0, and the handle holds this mount
 abbrev pub IsMade : Option Errno → State → ℤ → Option State → Option State → Type 0
 IsMade (Some e) made status new old = (status ≡ refusal e) × (new ≡ old)
 IsMade None made status new old = (status ≡ pos 0) × (new ≡ Some made)
 
--- an open: a new mount of the life after the last; or ENOMEM, and nothing is changed
-abbrev pub IsOpened : ℕ → ℕ → ℕ → ℤ → Option State → Option State → Type 0
-IsOpened last log_bytes blocks status new old =
-    IsMade (open_refusal last log_bytes blocks old) (mount_of 0 (last + 1) log_bytes blocks form_one) status new old ⊎ ((status ≡ refusal NoMemory) × (new ≡ old))
+-- an open: a new mount of the life after the last, with blocks of a size where one is said; or ENOMEM, and nothing is changed
+abbrev pub IsOpened : ℕ → ℕ → ℕ → Option ℕ → ℤ → Option State → Option State → Type 0
+IsOpened last log_bytes blocks size status new old =
+    IsMade (open_refusal last log_bytes blocks size old) (mount_of 0 (last + 1) log_bytes blocks (form_of size)) status new old ⊎ ((status ≡ refusal NoMemory) × (new ≡ old))
 
 -- ---- a call
 -- what a call comes to before it is served: it is barred, the home device is to be asked for a block, or it is served with this answer
@@ -42,16 +41,16 @@ pub data Verdict : Type 0 where
   Asks : ℕ → Verdict
   Serves : Request → Answer → Verdict
 
--- whether the caller's room is as long as the content that a view gives
-abbrev pub has_room : ℕ → Request → Bool
-has_room room (View trans block) = room == BLOCK_BYTES
-has_room room other = true
+-- whether the caller's room is as long as the content that a view gives of a block of this size
+abbrev pub has_room : ℕ → ℕ → Request → Bool
+has_room size room (View trans block) = room == size
+has_room size room other = true
 
--- served where an answer is there exactly if the device is asked; an answer that nobody asked for is barred
+-- served where an answer is there exactly if the device is asked, a content of the mount's size; another answer is barred
 abbrev pub judged : ℕ → State → Request → Answer → Verdict
 judged room m request answer =
-    if not (has_room room request) then Barred Invalid
-    else (if is_there (asks request m) answer then Serves request answer
+    if not (has_room m.form.size room request) then Barred Invalid
+    else (if is_there (asks request m) answer && has_size answer (Some m) then Serves request answer
     else (if is_answer answer then Barred Invalid else Asks (unwrap_or (read_block request) 0)))
 
 -- what a request and an answer come to, as far as the words spell them

@@ -1,6 +1,7 @@
 -- Requests and answers as a caller's words spell them.
 use Rattle.std.specs.Prelude.{List, None, Option, Some, if◌then◌else◌, length, nat_le, nat_lt, not, ℕ, ◌&&◌, ◌==◌}
-use Rattle.xt_base.specs.declared.sizes.TheConstants.{BLOCK_BYTES, DATA_BYTES}
+use Rattle.xt_base.specs.Form.{is_size}
+use Rattle.xt_base.specs.declared.sizes.TheConstants.{DATA_BYTES}
 use Rattle.xt_base.specs.declared.steps.Answer.{Answer}
 use Rattle.xt_base.specs.declared.steps.Request.{Request}
 use Rattle.xt_base.specs.declared.steps.Request.TheVariants.{Alloc, Cancel, Commit, Force, ForceTo, Freeze, Get, Hold, Inval, Join, Log, Push, Read, Release, Relse, Roll, Shutdown, Thaw, Unhold, Unmount, View}
@@ -46,10 +47,10 @@ request_of w bytes =
     if w.word == 4 then logged w bytes
     else (if nat_lt 0 w.word && nat_lt w.word 11 then of_block w else of_mount w)
 
--- what was answered for a block: nothing yet, a whole content, or a failure; none where the words say none of these
+-- what was answered for a block: nothing yet, a content of a length that a block may have, or a failure; none where the words say none of these
 abbrev pub answer_of : ℕ → List ℕ → Option Answer
 answer_of word content =
     if word == 0 then Some Answer.None
-    else (if word == 1 then (if length content == BLOCK_BYTES then Some (Answer.Content content) else None)
+    else (if word == 1 then (if is_size (Some (length content)) then Some (Answer.Content content) else None)
     else (if word == 2 then Some Answer.Failed
     else None))

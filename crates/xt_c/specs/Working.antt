@@ -7,7 +7,6 @@ use Rattle.xt_base.specs.State.{State}
 use Rattle.xt_base.specs.declared.names.JobKind.{JobKind}
 use Rattle.xt_base.specs.declared.names.JobKind.TheVariants.{Ckpt, Flush}
 use Rattle.xt_base.specs.declared.names.JobName.{JobName}
-use Rattle.xt_base.specs.declared.sizes.TheConstants.{BLOCK_BYTES}
 use Rattle.xt_base.specs.declared.steps.Errno.TheVariants.{Invalid, NoDevice, NoMemory}
 use Rattle.xt_base.specs.declared.steps.HomeAnswers.{HomeAnswers}
 use Rattle.xt_base.specs.declared.steps.LogAnswers.{LogAnswers}
@@ -112,11 +111,11 @@ abbrev pub IsPlanOf : Option State → ℤ → PlanWords → PlanWords → Type 
 IsPlanOf None status new old = (status ≡ refusal NoDevice) × (new ≡ old)
 IsPlanOf (Some m) status new old = (status ≡ pos (length (flush_plan m))) × ShowsPlan (flush_plan m) new
 
--- the content of a block of the plan fills a room of its length; else nothing is written
+-- the content of a block of the plan fills a room of the mount's size; else nothing is written
 abbrev pub IsHome : Option ℕ → State → ℤ → List ℕ → List ℕ → Type 0
 IsHome None m status new old = (status ≡ refusal Invalid) × (new ≡ old)
 IsHome (Some block) m status new old =
-    MatchBool (length old == BLOCK_BYTES) ((status ≡ pos 0) × (at block m.frames.committed ≡ Some new)) ((status ≡ refusal Invalid) × (new ≡ old))
+    MatchBool (length old == m.form.size) ((status ≡ pos 0) × (at block m.frames.committed ≡ Some new)) ((status ≡ refusal Invalid) × (new ≡ old))
 
 -- the block at a place of the plan
 abbrev pub IsHomeOf : ℕ → Option State → ℤ → List ℕ → List ℕ → Type 0
@@ -130,8 +129,8 @@ content_in m block = unwrap_or (at block m.frames.committed) []
 -- a plan and its contents, one after another at the front of a room; where the room is too short nothing is written
 abbrev pub AreHomes : List ℕ → State → ℤ → PlanWords → PlanWords → List ℕ → List ℕ → Type 0
 AreHomes plan m status new_plan old_plan new old =
-    MatchBool (nat_le (length plan * BLOCK_BYTES) (length old))
-    ((status ≡ pos (length plan)) × ShowsPlan plan new_plan × (new ≡ flat_map (content_in m) plan ++ drop (length plan * BLOCK_BYTES) old))
+    MatchBool (nat_le (length plan * m.form.size) (length old))
+    ((status ≡ pos (length plan)) × ShowsPlan plan new_plan × (new ≡ flat_map (content_in m) plan ++ drop (length plan * m.form.size) old))
     ((status ≡ refusal Invalid) × (new_plan ≡ old_plan) × (new ≡ old))
 
 -- the blocks that a flush writes home now, with their contents

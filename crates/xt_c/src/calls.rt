@@ -1,9 +1,9 @@
 //! Requests to a mount.
 
-ghost use Rattle.std.specs.Prelude.{◌≡◌, ◌&&◌, Some, None, false, true, length, IfNone, IfSome};
+ghost use Rattle.std.specs.Prelude.{◌≡◌, ◌==◌, ◌&&◌, Some, None, false, true, length, IfNone, IfSome};
 ghost use Rattle.xt_base.specs.Alone.{is_okay};
 ghost use Rattle.xt_base.specs.Calls.{asks, is_unmount};
-ghost use Rattle.xt_base.specs.Order.{is_there};
+ghost use Rattle.xt_base.specs.Order.{has_size, is_there};
 ghost use Rattle.xt_c.specs.Calling.{IsAsJudged, IsCalled, Serves, carries, has_room, judged, seen, seen_after, spelled, verdict};
 ghost use Rattle.xt_c.specs.Holding.{held};
 ghost use Rattle.xt_c.specs.Requests.{answer_of, request_of};
@@ -15,7 +15,8 @@ use crate::requests::{answer_of, request_of};
 use crate::status::{refusal, status_of};
 use crate::words::{ReplyWords, RequestWords};
 use std::alloc::Global;
-use xt_base::sizes::BLOCK_BYTES;
+use xt_base::content::Content;
+use xt_base::form::Form;
 use xt_base::steps::{Answer, Errno, Reply, Request};
 use xt_mount::mount::Mount;
 
@@ -30,27 +31,42 @@ enum Unserved {
     Asks(u64),
 }
 
-/// Whether a room is as long as the content that a request may fill it with.
-fn has_room(room: usize, request: &Request) -> bool
-    ensures { result ≡ has_room room request.now }
+/// Whether a room is as long as the content that a request may fill it with, of a mount of this form.
+fn has_room(form: Form, room: usize, request: &Request) -> bool
+    ensures { result ≡ has_room form.size room request.now }
 {
     match request {
-        Request::View { trans: _, block: _ } => room == BLOCK_BYTES,
+        Request::View { trans: _, block: _ } => room == form.block_bytes(),
         _ => true,
     }
+}
+
+/// Whether a content is as long as a block of a mount of this form.
+fn is_whole(form: Form, content: &Content) -> bool
+    ensures { result ≡ (length content.now == form.size) }
+{
+    content.bytes().len() == form.block_bytes()
 }
 
 /// Why a request is not served, if it isn't.
 fn why_unserved(mount: &Mount, request: &Request, answer: &Answer, room: usize) -> Option<Unserved>
     ensures served { IfNone result (judged room mount.now request.now answer.now ≡ Serves request.now answer.now) }
     ensures there { IfNone result (is_there (asks request.now mount.now) answer.now ≡ true) }
+    ensures size { IfNone result (has_size answer.now (Some mount.now) ≡ true) }
     ensures why { IfSome result (λ why. judged room mount.now request.now answer.now ≡ verdict_of why) }
 {
-    if !has_room(room, request) {
+    if !has_room(mount.form(), room, request) {
         return Some(Unserved::Barred(Errno::Invalid));
     }
     match (mount.needs(request), answer) {
         (Some(block), Answer::None) => Some(Unserved::Asks(block.0)),
+        (Some(_), Answer::Content(content)) => {
+            if is_whole(mount.form(), content) {
+                None
+            } else {
+                Some(Unserved::Barred(Errno::Invalid))
+            }
+        }
         (None, Answer::Content(_)) | (None, Answer::Failed) => {
             Some(Unserved::Barred(Errno::Invalid))
         }

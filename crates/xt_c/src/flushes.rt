@@ -3,7 +3,6 @@
 ghost use Rattle.std.specs.Prelude.{◌≡◌, ◌==◌, ◌≤◌, ◌+◌, ◌*◌, ◌++◌, All, MatchBool, Some, drop, flat_map, length, pos, slice_get, take, true};
 ghost use Rattle.xt_base.specs.Jobs.{flush_plan};
 ghost use Rattle.xt_base.specs.Maps.{is_in};
-ghost use Rattle.xt_base.specs.declared.sizes.TheConstants.{BLOCK_BYTES};
 ghost use Rattle.xt_base.specs.declared.steps.Errno.TheVariants.{Invalid};
 ghost use Rattle.xt_c.specs.Holding.{held};
 ghost use Rattle.xt_c.specs.Status.{refusal};
@@ -17,7 +16,6 @@ use crate::status::{refusal, status_of};
 use crate::words::{PlanWords, ReplyWords};
 use std::alloc::Global;
 use xt_base::names::{Block, JobKind};
-use xt_base::sizes::BLOCK_BYTES;
 use xt_base::steps::{Errno, HomeAnswers};
 use xt_items::plan::FlushPlan;
 use xt_mount::mount::Mount;
@@ -64,8 +62,7 @@ fn block_at(blocks: &[Block], index: usize) -> Option<Block>
 
 /// Copies a content into a room of its length.
 fn put_home(content: &[u8], room: &mut [u8]) -> i32
-    requires { length content.now ≡ BLOCK_BYTES }
-    ensures { MatchBool (length room.old == BLOCK_BYTES) ((result ≡ pos 0) × (room.new ≡ content.now)) ((result ≡ refusal Invalid) × (room.new ≡ room.old)) }
+    ensures { MatchBool (length room.old == length content.now) ((result ≡ pos 0) × (room.new ≡ content.now)) ((result ≡ refusal Invalid) × (room.new ≡ room.old)) }
 {
     if room.len() != content.len() {
         return refusal(Errno::Invalid);
@@ -74,7 +71,7 @@ fn put_home(content: &[u8], room: &mut [u8]) -> i32
     0
 }
 
-/// Copies the content of a block of the plan into a room of its length.
+/// Copies the content of a block of the plan into a room of the mount's size.
 fn home_of(mount: &Mount, block: Block, room: &mut [u8]) -> i32
     requires unchanged { IsUnchanged block mount.now.transactions }
     requires committed { is_in block mount.now.frames.committed ≡ true }
@@ -86,7 +83,7 @@ fn home_of(mount: &Mount, block: Block, room: &mut [u8]) -> i32
     }
 }
 
-/// Copies the content of the block at a place of the plan into a room of its length.
+/// Copies the content of the block at a place of the plan into a room of the mount's size.
 fn home(mount: &Mount, index: u32, room: &mut [u8]) -> i32
     ensures { IsHomeOf index (Some mount.now) result room.new room.old }
 {
@@ -99,7 +96,8 @@ fn home(mount: &Mount, index: u32, room: &mut [u8]) -> i32
     }
 }
 
-/// Copies what is written home of the block at a place of the plan into a room of 4,096 bytes; else EINVAL, and nothing is written.
+/// Copies what is written home of the block at a place of the plan into a room of the mount's size; else EINVAL, and nothing is
+/// written.
 #[unsafe(no_mangle)]
 pub extern "C" fn refskold_abi_home(
     alloc: Global,
@@ -123,7 +121,7 @@ fn content_of(mount: &Mount, block: Block) -> &[u8]
     requires unchanged { IsUnchanged block mount.now.transactions }
     requires committed { is_in block mount.now.frames.committed ≡ true }
     ensures value { result.now ≡ content_in mount.now block }
-    ensures whole { length result.now ≡ BLOCK_BYTES }
+    ensures whole { length result.now ≡ mount.now.form.size }
 {
     match mount.committed(block) {
         Some(content) => content,
@@ -133,23 +131,23 @@ fn content_of(mount: &Mount, block: Block) -> &[u8]
 
 /// Copies a content into a room from `first` on.
 fn put_content_at(content: &[u8], first: usize, room: &mut [u8])
-    requires whole { length content.now ≡ BLOCK_BYTES }
-    requires room { first + BLOCK_BYTES ≤ length room.old }
-    ensures put { room.new ≡ take first room.old ++ content.now ++ drop (first + BLOCK_BYTES) room.old }
+    requires room { first + length content.now ≤ length room.old }
+    ensures put { room.new ≡ take first room.old ++ content.now ++ drop (first + length content.now) room.old }
     ensures same { length room.new ≡ length room.old }
 {
-    room[first..first + BLOCK_BYTES].copy_from_slice(content);
+    room[first..first + content.len()].copy_from_slice(content);
 }
 
 /// Copies the contents of blocks to the front of a room, one after another.
 fn put_contents(mount: &Mount, blocks: &[Block], room: &mut [u8])
     requires unchanged { All (λ b. IsUnchanged b mount.now.transactions) blocks.now }
     requires committed { All (λ b. is_in b mount.now.frames.committed ≡ true) blocks.now }
-    requires room { length blocks.now * BLOCK_BYTES ≤ length room.old }
-    ensures { room.new ≡ flat_map (content_in mount.now) blocks.now ++ drop (length blocks.now * BLOCK_BYTES) room.old }
+    requires room { length blocks.now * mount.now.form.size ≤ length room.old }
+    ensures { room.new ≡ flat_map (content_in mount.now) blocks.now ++ drop (length blocks.now * mount.now.form.size) room.old }
 {
+    let size = mount.form().block_bytes();
     for k in 0..blocks.len() {
-        put_content_at(content_of(mount, blocks[k]), k * BLOCK_BYTES, room);
+        put_content_at(content_of(mount, blocks[k]), k * size, room);
     }
 }
 
@@ -160,7 +158,7 @@ fn homes(mount: &Mount, plan: &mut PlanWords, room: &mut [u8]) -> i32
     let Ok(now) = mount.flush_plan() else {
         unreachable!();
     };
-    if room.len() < usize::from(now.count()) * BLOCK_BYTES {
+    if room.len() < usize::from(now.count()) * mount.form().block_bytes() {
         return refusal(Errno::Invalid);
     }
     put_plan(&now, plan);
@@ -169,7 +167,7 @@ fn homes(mount: &Mount, plan: &mut PlanWords, room: &mut [u8]) -> i32
 }
 
 /// The blocks that a flush writes home now, in the order of their writes, and how many, 0 to 8; what is written of each is copied to the front of
-/// the room, one after another, 4,096 bytes each. EINVAL where the room is too short, and nothing is written.
+/// the room, one after another. EINVAL where the room is too short, and nothing is written.
 #[unsafe(no_mangle)]
 pub extern "C" fn refskold_abi_homes(
     alloc: Global,

@@ -2,7 +2,7 @@
 
 ghost use Rattle.std.specs.Prelude.{◌≡◌, ◌+◌, ◌⊎◌, IfErr, IfOk, None, Some, pos};
 ghost use Rattle.xt_base.specs.Calls.{first_of};
-ghost use Rattle.xt_base.specs.Form.{form_one};
+ghost use Rattle.xt_base.specs.Form.{form_of};
 ghost use Rattle.xt_base.specs.State.{mount_of};
 ghost use Rattle.xt_base.specs.declared.steps.Errno.TheVariants.{NoMemory};
 ghost use Rattle.xt_c.specs.Calling.{IsOpened, reason_status, shut_status};
@@ -20,7 +20,7 @@ use xt_frames::table::FrameTable;
 use xt_mount::mount::Mount;
 
 /// What an export of this library promises: it goes up with each change of what C sees.
-const VERSION: u32 = 1;
+const VERSION: u32 = 2;
 
 /// The version of what C sees.
 #[unsafe(no_mangle)]
@@ -54,13 +54,19 @@ fn share_of_one(alloc: Global) -> Result<FrameShare, Errno>
     }
 }
 
-/// A new mount of the life after `last`.
-pub fn new_mount(alloc: Global, last: u32, log_bytes: u32, blocks: u64) -> Result<Box<Mount>, Errno>
-    ensures ok { IfOk result (λ mount. (first_of (new_refusals last log_bytes blocks) ≡ None) × (mount.value ≡ mount_of 0 (last + 1) log_bytes blocks form_one)) }
-    ensures err { IfErr result (λ errno. (first_of (new_refusals last log_bytes blocks) ≡ Some errno) ⊎ (errno ≡ NoMemory)) }
+/// A new mount of the life after `last`, with blocks of a size where one is said.
+pub fn new_mount(
+    alloc: Global,
+    last: u32,
+    log_bytes: u32,
+    blocks: u64,
+    size: Option<u32>,
+) -> Result<Box<Mount>, Errno>
+    ensures ok { IfOk result (λ mount. (first_of (new_refusals last log_bytes blocks size) ≡ None) × (mount.value ≡ mount_of 0 (last + 1) log_bytes blocks (form_of size))) }
+    ensures err { IfErr result (λ errno. (first_of (new_refusals last log_bytes blocks size) ≡ Some errno) ⊎ (errno ≡ NoMemory)) }
 {
     let share = share_of_one(alloc)?;
-    match Mount::new(alloc, share, Life(last), log_bytes, blocks) {
+    match Mount::new(alloc, share, Life(last), log_bytes, blocks, size) {
         Ok(mount) => match Box::new(alloc, mount) {
             Ok(mount) => Ok(mount),
             Err(_) => Err(Errno::NoMemory),
@@ -69,7 +75,32 @@ pub fn new_mount(alloc: Global, last: u32, log_bytes: u32, blocks: u64) -> Resul
     }
 }
 
-/// Makes a mount, which a handle that holds none then holds; or an errno, and nothing is changed.
+/// Makes a mount, with blocks of a size where one is said, which a handle that holds none then holds.
+fn open(
+    alloc: Global,
+    handle: &mut Handle,
+    last: u32,
+    log_bytes: u32,
+    blocks: u64,
+    size: Option<u32>,
+) -> i32
+    ensures { IsOpened last log_bytes blocks size result (held handle.new) (held handle.old) }
+{
+    if let Some(mount) = handle.take(alloc) {
+        handle.put(mount);
+        return refusal(Errno::Busy);
+    }
+    match new_mount(alloc, last, log_bytes, blocks, size) {
+        Ok(mount) => {
+            handle.put(mount);
+            0
+        }
+        Err(errno) => refusal(errno),
+    }
+}
+
+/// Makes a mount with blocks of 4,096 bytes, whose checkpoints do not say so, which a handle that holds none then holds; or an errno,
+/// and nothing is changed.
 #[unsafe(no_mangle)]
 pub extern "C" fn refskold_abi_open(
     alloc: Global,
@@ -78,19 +109,24 @@ pub extern "C" fn refskold_abi_open(
     log_bytes: u32,
     blocks: u64,
 ) -> i32
-    ensures { IsOpened last log_bytes blocks result (held handle.new) (held handle.old) }
+    ensures { IsOpened last log_bytes blocks None result (held handle.new) (held handle.old) }
 {
-    if let Some(mount) = handle.take(alloc) {
-        handle.put(mount);
-        return refusal(Errno::Busy);
-    }
-    match new_mount(alloc, last, log_bytes, blocks) {
-        Ok(mount) => {
-            handle.put(mount);
-            0
-        }
-        Err(errno) => refusal(errno),
-    }
+    open(alloc, handle, last, log_bytes, blocks, None)
+}
+
+/// The same with blocks of a size, 512, 1,024, 2,048 or 4,096 bytes, which its checkpoints say.
+#[unsafe(no_mangle)]
+pub extern "C" fn refskold_abi_open_sized(
+    alloc: Global,
+    handle: &mut Handle,
+    last: u32,
+    log_bytes: u32,
+    blocks: u64,
+    size: u32,
+) -> i32
+    ensures { IsOpened last log_bytes blocks (Some size) result (held handle.new) (held handle.old) }
+{
+    open(alloc, handle, last, log_bytes, blocks, Some(size))
 }
 
 /// Ends a mount, whatever is left of it, and gives its memory back; the handle then holds none.

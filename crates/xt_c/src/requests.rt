@@ -107,8 +107,8 @@ pub fn request_of(alloc: Global, from: RequestWords, bytes: &[u8]) -> Result<Req
     }
 }
 
-/// What was answered for a block: nothing yet, this content, or a failure. `Invalid` where the word says none of these, or the content
-/// is no whole block.
+/// What was answered for a block: nothing yet, this content, or a failure. `Invalid` where the word says none of these, or a block may
+/// not have the content's length.
 pub fn answer_of(alloc: Global, word: u32, content: &[u8]) -> Result<Answer, Errno>
     ensures ok { IfOk result (λ answer. answer_of word content.now ≡ Some answer) }
     ensures err { IfErr result (λ errno. ((errno ≡ Invalid) × (answer_of word content.now ≡ None)) ⊎ ((errno ≡ NoMemory) × ((word == 1) ≡ true))) }

@@ -1,10 +1,10 @@
 -- What exports return, and what they tell.
-use Rattle.std.specs.Prelude.{IsSomeAnd, List, MatchBool, None, Option, Some, length, negsuc, pos, slice_get, ℕ, ℤ, ◌++◌, ◌==◌, ◌≡◌, ◌⊎◌}
-use Rattle.xt_base.specs.declared.sizes.TheConstants.{BLOCK_BYTES}
+use Rattle.std.specs.Prelude.{IsSomeAnd, List, MatchBool, None, Option, Some, length, negsuc, pos, slice_get, unwrap_or, ℕ, ℤ, ◌++◌, ◌==◌, ◌≡◌, ◌⊎◌}
 use Rattle.xt_c_log.specs.Logs.{Log, Bytes, texts_of}
 use Rattle.xt_c_log.specs.Texts.{IsOf, Texts}
 use Rattle.xt_c_log.specs.declared.words.LogWords.{LogWords}
 use Rattle.xt_recover.specs.Gathering.{IsWhyLog}
+use Rattle.xt_recover.specs.Sizes.{block_size}
 use Rattle.xt_recover.specs.Writing.{laid_over}
 use Rattle.xt_recover.specs.declared.gather.LogFault.{LogFault}
 
@@ -27,12 +27,13 @@ pub record IsOpen (log : List ℕ) (told : LogWords) (t : Texts) : Type 0 where
   pub texts : told.texts ≡ t.counts.texts
   pub rest : told.rest ≡ t.counts.rest
   pub blocks : told.blocks ≡ length t.blocks
+  pub size : told.size ≡ unwrap_or t.laid.size 0
 
--- a log was not gathered, by what is returned: 1 the field at the byte that is told breaks its rule; 2 the text that begins there says another size of a
--- block; ENOMEM
+-- a log was not gathered, by what is returned: 1 the field at the byte that is told breaks its rule; 2 the text that begins there says something
+-- else of the size of a block than those before it; ENOMEM
 abbrev pub IsRefused : List ℕ → ℤ → LogWords → Type 0
 IsRefused log status told =
-    ((status ≡ pos 1) × IsWhyLog log (LogFault.Broken told.at)) ⊎ ((status ≡ pos 2) × IsWhyLog log (LogFault.Sized told.at)) ⊎ (status ≡ no_memory)
+    ((status ≡ pos 1) × IsWhyLog log (LogFault.Broken told.at)) ⊎ ((status ≡ pos 2) × IsWhyLog log (LogFault.Mixed told.at)) ⊎ (status ≡ no_memory)
 
 -- a log was gathered: 0, and what its texts say is held; or it was not, and what is held is as it was
 abbrev pub IsGathering : List ℕ → ℤ → LogWords → Option Log → Option Log → Type 0
@@ -63,7 +64,7 @@ abbrev pub IsBlockOf : ℕ → Option Texts → ℤ → ℕ → ℕ → Type 0
 IsBlockOf index None status new old = (status ≡ no_device) × (new ≡ old)
 IsBlockOf index (Some t) status new old = IsBlock (slice_get t.blocks index) status new old
 
--- what the texts say of a block is laid over the bytes that the home device has of it
+-- what the texts say of a block is laid over the bytes that the home device has of it, which are as many as a block has by the texts
 abbrev pub IsLaid : ℕ → Option Texts → ℤ → List ℕ → List ℕ → Type 0
 IsLaid block None status new old = (status ≡ no_device) × (new ≡ old)
-IsLaid block (Some t) status new old = MatchBool (length old == BLOCK_BYTES) ((status ≡ pos 0) × (new ≡ laid_over t.laid block old)) ((status ≡ invalid) × (new ≡ old))
+IsLaid block (Some t) status new old = MatchBool (length old == block_size t.laid.size) ((status ≡ pos 0) × (new ≡ laid_over t.laid block old)) ((status ≡ invalid) × (new ≡ old))

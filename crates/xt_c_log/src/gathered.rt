@@ -6,19 +6,19 @@ ghost use Rattle.xt_c_log.specs.Texts.{IsOf};
 ghost use Rattle.xt_c_log.specs.Told.{IsBlock, IsBlockOf, IsLaid, IsOpen, IsRefused};
 ghost use Rattle.xt_recover.specs.Gathering.{IsWhyLog};
 
+use crate::reading::size_of;
 use crate::status::{INVALID, NO_MEMORY};
 use crate::words::LogWords;
 use std::alloc::{AllocError, Global};
 use std::marker::Model;
-use xt_base::sizes::BLOCK_BYTES;
-use xt_recover::gather::{LogCounts, LogFault, gather};
+use xt_recover::gather::{Gathered as GatheredTexts, LogCounts, LogFault, gather};
 use xt_recover::overlay::Overlay;
 
 /// What a gathering returns where a field of a text breaks its rule.
 const BROKEN: i32 = 1;
 
-/// What it returns where a text says another size of a block.
-const SIZED: i32 = 2;
+/// What it returns where a text says something else of the size of a block than those before it.
+const MIXED: i32 = 2;
 
 /// What the texts of a log say of each block, and which blocks these are, ascending.
 #[derive(Drop)]
@@ -49,9 +49,8 @@ fn gather_texts(alloc: Global, log: &[u8]) -> Result<Gathered, LogFault>
     ensures ok { IfOk result (λ gathered. IsOf log.now gathered) }
     ensures why { IfErr result (λ fault. IsWhyLog log.now fault) }
 {
-    let mut overlay = Overlay::new(alloc);
     let mut rest = log;
-    let counts = gather(alloc, &mut rest, &mut overlay)?;
+    let GatheredTexts { overlay, counts } = gather(alloc, &mut rest)?;
     let Ok(blocks) = blocks_of(alloc, &overlay) else {
         return Err(LogFault::Memory);
     };
@@ -63,7 +62,7 @@ fn gather_texts(alloc: Global, log: &[u8]) -> Result<Gathered, LogFault>
 }
 
 /// Gathers the texts of a log, and writes what is told of it. Else what is to be returned: 1, and the field at the byte that is written breaks its rule; 2,
-/// and the text that begins there is of blocks of another size; ENOMEM.
+/// and the text that begins there says something else of the size of a block than those before it; ENOMEM.
 pub fn read_log(alloc: Global, log: &[u8], told: &mut LogWords) -> Result<Gathered, i32>
     ensures ok { IfOk result (λ gathered. IsOpen log.now told.new gathered) }
     ensures refused { IfErr result (λ status. IsRefused log.now status told.new) }
@@ -73,15 +72,16 @@ pub fn read_log(alloc: Global, log: &[u8], told: &mut LogWords) -> Result<Gather
             told.texts = gathered.counts.texts;
             told.rest = gathered.counts.rest;
             told.blocks = gathered.blocks.len() as u64;
+            told.size = size_of(gathered.overlay.size());
             Ok(gathered)
         }
         Err(LogFault::Broken(at)) => {
             told.at = at;
             Err(BROKEN)
         }
-        Err(LogFault::Sized(at)) => {
+        Err(LogFault::Mixed(at)) => {
             told.at = at;
-            Err(SIZED)
+            Err(MIXED)
         }
         Err(_) => Err(NO_MEMORY),
     }
@@ -115,11 +115,11 @@ impl Gathered {
         put_block(block_at(&self.blocks, index as usize), block)
     }
 
-    /// Lays what the texts say of a block over its bytes.
+    /// Lays what the texts say of a block over its bytes, which are as many as a block has by the texts; else EINVAL.
     pub fn lay(&self, block: u64, content: &mut [u8]) -> i32
         ensures { IsLaid block (Some self.now) result content.new content.old }
     {
-        if content.len() != BLOCK_BYTES {
+        if content.len() != self.overlay.block_bytes() {
             return INVALID;
         }
         self.overlay.lay_over(block, content);

@@ -108,7 +108,8 @@ pub extern "C" fn refskold_abi_log_block(
     status
 }
 
-/// Lays what the texts say of a block over the 4,096 bytes that the home device has of it, in place; where they say nothing, these stay.
+/// Lays what the texts say of a block over the bytes that the home device has of it, in place; where they say nothing, these stay. EINVAL where these
+/// are not as many as a block has by the texts.
 #[unsafe(no_mangle)]
 pub extern "C" fn refskold_abi_log_lay(
     alloc: Global,

@@ -14,8 +14,8 @@ const FOUND: i32 = 1;
 /// What it returns where a field breaks its rule.
 const BROKEN: i32 = 2;
 
-/// The size of a block that a checkpoint says; 0 where it says none.
-fn size_of(size: Option<u32>) -> u64
+/// The size of a block that texts say; 0 where they say none.
+pub fn size_of(size: Option<u32>) -> u64
     ensures { result ≡ unwrap_or size 0 }
 {
     match size {

@@ -11,13 +11,14 @@ pub struct FoundWords {
     pub size: u64,
 }
 
-/// A log: how many texts it has, how many bytes behind them are no text yet, and of how many blocks the texts say something. Where it is broken, at
-/// which byte.
+/// A log: how many texts it has, how many bytes behind them are no text yet, of how many blocks the texts say something, and the size of a block that
+/// they say; 0 where they say none, and then a block has 4,096 bytes. Where it is broken, at which byte.
 #[repr(C)]
 #[derive(Drop)]
 pub struct LogWords {
     pub texts: u64,
     pub rest: u64,
     pub blocks: u64,
+    pub size: u64,
     pub at: u64,
 }

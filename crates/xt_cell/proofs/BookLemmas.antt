@@ -24,7 +24,7 @@ count_snoc entries e = sum_by-append _ entries (e ∷ [])
 
 -- a call is no post
 pub call_counts : (step : Step) → is_call step ≡ true → is_post step ≡ false
-call_counts (Mount slot log_bytes blocks) call = refl
+call_counts (Mount slot log_bytes blocks size) call = refl
 call_counts (Call slot life request answer) call = refl
 call_counts (Post name) call = absurd (false≢true call)
 call_counts (Take worker name) call = refl

@@ -1,3 +1,4 @@
+mod AskingLemmas
 mod BookLemmas
 mod ServedLemmas
 mod FactLemmas

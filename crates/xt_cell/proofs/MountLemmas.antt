@@ -78,12 +78,12 @@ next_last p last_life serial zero before =
     (subst (λ b. (if b then nat_lt p.0 (last_life + 1) else (p.0 == last_life + 1) && (p.1 == serial)) ≡ true) (sym (eq-eqb serial 0 zero))
     (let le = leb-true p.0 last_life before in lt-ltb p.0 (last_life + 1) (omega (arith, le))))
 
-module _ (slot log_bytes blocks : ℕ) (s : Lone) where
-  mounts_by : (e : Option Errno) → first_of (mount_refusals log_bytes blocks s) ≡ e
-      → Mounts (unless_refused e s (mounted_new slot log_bytes blocks s)).reply (unless_refused e s (mounted_new slot log_bytes blocks s)).slot s
+module _ (slot log_bytes blocks : ℕ) (size : Option ℕ) (s : Lone) where
+  mounts_by : (e : Option Errno) → first_of (mount_refusals log_bytes blocks size s) ≡ e
+      → Mounts (unless_refused e s (mounted_new slot log_bytes blocks size s)).reply (unless_refused e s (mounted_new slot log_bytes blocks size s)).slot s
   mounts_by None is = record {
     life = refl;
-    last = λ p kept. next_last p s.last_life 0 refl (sym (ap (is_last_of p s.last_life) (empty_if s.mounted (drop 1 (mount_refusals log_bytes blocks s)) is)) ∙ kept);
+    last = λ p kept. next_last p s.last_life 0 refl (sym (ap (is_last_of p s.last_life) (empty_if s.mounted (drop 1 (mount_refusals log_bytes blocks size s)) is)) ∙ kept);
     idle = λ kept. refl;
     there = λ n e. (refl, refl);
     kept = λ e bad. absurd (false≢true (ap is_refusal bad));
@@ -97,11 +97,11 @@ module _ (slot log_bytes blocks : ℕ) (s : Lone) where
   }
 
 -- a mount that was served
-pub mounts : (slot log_bytes blocks : ℕ) (r : Reply) (new old : SlotState) → IsServed (Mount slot log_bytes blocks) r new old → Mounts r (lone_with 0 None new) (lone_with 0 None old)
-mounts slot log_bytes blocks r new old served =
+pub mounts : (slot log_bytes blocks : ℕ) (size : Option ℕ) (r : Reply) (new old : SlotState) → IsServed (Mount slot log_bytes blocks size) r new old → Mounts r (lone_with 0 None new) (lone_with 0 None old)
+mounts slot log_bytes blocks size r new old served =
     let s : Lone = lone_with 0 None old in
     subst (λ q. Mounts q (lone_with 0 None new) s) (sym (served.reply 0 None))
-    (subst (λ l. Mounts (alone (Mount slot log_bytes blocks) s).reply l s) (sym (served.state 0 None)) (mounts_by slot log_bytes blocks s (first_of (mount_refusals log_bytes blocks s)) refl))
+    (subst (λ l. Mounts (alone (Mount slot log_bytes blocks size) s).reply l s) (sym (served.state 0 None)) (mounts_by slot log_bytes blocks size s (first_of (mount_refusals log_bytes blocks size s)) refl))
 
 -- ---- an unmount
 -- it is answered ok, or refused

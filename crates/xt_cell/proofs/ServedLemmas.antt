@@ -66,7 +66,7 @@ content_keeps (Call slot life request answer) r new old call carries served = by
     by Request.Freeze is view = absurd (false≢true (sym (ap is_view is) ∙ view))
     by Request.Thaw is view = absurd (false≢true (sym (ap is_view is) ∙ view))
     by Request.Unmount is view = absurd (false≢true (sym (ap is_view is) ∙ view))
-content_keeps (Mount slot log_bytes blocks) r new old call carries served = absurd (false≢true call)
+content_keeps (Mount slot log_bytes blocks size) r new old call carries served = absurd (false≢true call)
 content_keeps (Post name) r new old call carries served = absurd (false≢true call)
 content_keeps (Take worker name) r new old call carries served = absurd (false≢true call)
 content_keeps (Begin worker name) r new old call carries served = absurd (false≢true call)
@@ -78,7 +78,7 @@ content_keeps (Peek slot) r new old call carries served = absurd (false≢true c
 -- a call that names held blocks may leave some
 pub held_if : (x : Step) (r : Reply) (new old : SlotState) → is_call x ≡ true → names_held r ≡ true → IsServed x r new old → may_hold x ≡ true
 held_if (Call slot life request answer) r new old call names served = step_held_only slot life request answer (lone_with 0 None old) (ap names_held (sym (served.reply 0 None)) ∙ names)
-held_if (Mount slot log_bytes blocks) r new old call names served = absurd (false≢true call)
+held_if (Mount slot log_bytes blocks size) r new old call names served = absurd (false≢true call)
 held_if (Post name) r new old call names served = absurd (false≢true call)
 held_if (Take worker name) r new old call names served = absurd (false≢true call)
 held_if (Begin worker name) r new old call names served = absurd (false≢true call)
@@ -105,7 +105,7 @@ plain_end answers m (Some f) = plain_either (is_ok answers.sync) _ _ (refl, refl
 
 -- a step that is no call has such a reply
 pub plain_step : (x : Step) (s : Lone) → is_call x ≡ false → IsPlain (alone x s).reply
-plain_step (Mount slot log_bytes blocks) s other = plain_mount (first_of (mount_refusals log_bytes blocks s)) s _ (refl, refl)
+plain_step (Mount slot log_bytes blocks size) s other = plain_mount (first_of (mount_refusals log_bytes blocks size s)) s _ (refl, refl)
 plain_step (Call slot life request answer) s other = absurd (false≢true (sym other))
 plain_step (Post name) s other = by s.mounted
   where

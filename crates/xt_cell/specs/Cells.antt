@@ -1,7 +1,7 @@
 -- What a call makes of a locked slot.
 use Rattle.std.specs.Prelude.{Bool, List, None, Option, Some, if◌then◌else◌, is_some, not, true, ℕ, ◌&&◌, ◌||◌, ◌≡◌, false}
 use Rattle.xt_base.specs.Jobs.{is_begun}
-use Rattle.xt_base.specs.Order.{is_there, mount_is, of_life}
+use Rattle.xt_base.specs.Order.{has_size, is_there, mount_is, of_life}
 use Rattle.xt_base.specs.State.{State}
 use Rattle.xt_base.specs.declared.names.JobName.{JobName}
 use Rattle.xt_base.specs.declared.steps.Answer.{Answer}
@@ -20,11 +20,12 @@ use Rattle.xt_queue.specs.Passes.{PostView}
 use Rattle.xt_queue.specs.Seats.{SeatView}
 use Rattle.xt_queue.specs.Words.{word_of}
 
--- the step of a request to a life of a slot, with an answer exactly where its mount asks for one
+-- the step of a request to a life of a slot, with an answer exactly where its mount asks for one; a content has the size of the mount's blocks
 pub record IsStepOf (slot life : ℕ) (request : Request) (o : Option State) (step : Step) : Type 0 where
   pub answer : Answer
   pub is : step ≡ Call slot life request answer
   pub there : is_there (mount_is (of_life life request) o) answer ≡ true
+  pub size : has_size answer o ≡ true
 
 -- an event: the step was served and booked with its receipt, and then what it made owed was posted
 pub record IsEvent (slot : ℕ) (step : Step) (reply : Reply) (book after : BookView) (seat later : HostSeatView) (pass passed : PostView) : Type 0 where

@@ -1,9 +1,11 @@
 //! What a slot's home device is asked, and what it answered.
 
-ghost use Rattle.std.specs.Prelude.{◌≡◌, ◌<◌, ◌≤◌, ◌+◌, ◌-◌, ◌∷◌, ◌++◌, All, [], Some, true, length, map, take, drop, replicate, false, is_ok, IfOk};
+ghost use Rattle.std.specs.Prelude.{◌≡◌, ◌<◌, ◌≤◌, ◌+◌, ◌-◌, ◌∷◌, ◌++◌, All, [], Option, Some, true, length, map, take, drop, replicate, false, is_ok, IfOk};
+ghost use Rattle.xt_base.specs.Form.{is_size};
 ghost use Rattle.xt_base.specs.Jobs.{fits_plan, sync_offer, write_answers, writes};
 ghost use Rattle.xt_base.specs.Maps.{is_in};
-ghost use Rattle.xt_base.specs.Order.{is_answer};
+ghost use Rattle.xt_base.specs.Order.{has_size, is_answer};
+ghost use Rattle.xt_base.specs.State.{State};
 ghost use Rattle.xt_base.specs.declared.sizes.TheConstants.{FLUSH_BLOCKS as MOST_WRITES};
 ghost use Rattle.xt_cell.specs.Asking.{committed_write, failed_reads, flush_calls, nearest, read_calls};
 ghost use Rattle.xt_dev.specs.Devices.{Tells};
@@ -12,25 +14,28 @@ ghost use Rattle.xt_mount.specs.Slots.{IsUnchangedIn, contents_in, form_in, plan
 
 use std::alloc::{AllocError, Global};
 use xt_base::content::Content;
+use xt_base::form::Form;
 use xt_base::names::Block;
-use xt_base::sizes::{BLOCK_BYTES, FLUSH_BLOCKS};
+use xt_base::sizes::FLUSH_BLOCKS;
 use xt_base::steps::{Answer, HomeAnswers};
 use xt_dev::home::HomeDevice;
 use xt_dev::offer_home::offer_home;
 use xt_mount::slot::MountSlot;
 
-/// The place of a block that is going to be read. The one error is want of memory.
-pub fn place(alloc: Global) -> Result<Box<Vec<u8>>, AllocError>
-    ensures { IfOk result (λ bytes. length bytes.value.items ≡ BLOCK_BYTES) }
+/// The place of a block that is going to be read, as long as a mount's form says. The one error is want of memory.
+pub fn place(alloc: Global, form: Form) -> Result<Box<Vec<u8>>, AllocError>
+    ensures size { IfOk result (λ bytes. length bytes.value.items ≡ form.size) }
+    ensures one_of { IfOk result (λ bytes. is_size (Some (length bytes.value.items)) ≡ true) }
 {
-    let bytes = vec![in alloc; 0u8; BLOCK_BYTES]?;
+    let bytes = vec![in alloc; 0u8; form.block_bytes()]?;
     Ok(Box::new(alloc, bytes)?)
 }
 
-/// Asks the home device for a block, once.
+/// Asks the home device for a block, once. A content that it answers is as long as the place.
 pub fn read(home: &mut dyn HomeDevice, block: Block, bytes: Box<Vec<u8>>) -> Answer
-    requires whole { length bytes.value.items ≡ BLOCK_BYTES }
+    requires whole { is_size (Some (length bytes.value.items)) ≡ true }
     ensures answer { is_answer result ≡ true }
+    ensures size { (mounted : Option State) → length bytes.value.items ≡ (form_in mounted).size → has_size result mounted ≡ true }
     ensures asked { Tells (home_tells home.old) (home_taken home.old) (read_calls (Some block) result) (home_tells home.new) (home_taken home.new) }
     ensures failures { home_failures home.new ≡ home_failures home.old + failed_reads result }
 {
@@ -50,7 +55,7 @@ fn write_at<'a>(slot: &'a MountSlot, blocks: &[Block], place: usize) -> (Block, 
     requires committed { All (λ b. is_in b (contents_in slot.now.mounted) ≡ true) blocks.now }
     requires unchanged { All (λ b. IsUnchangedIn b slot.now.mounted) blocks.now }
     ensures write { (result.0, result.1.now) ≡ committed_write slot.now.mounted (nearest blocks.now place) }
-    ensures whole { length result.1.now ≡ BLOCK_BYTES }
+    ensures whole { is_size (Some (length result.1.now)) ≡ true }
 {
     let block = blocks[place.min(blocks.len() - 1)];
     match slot.committed(block) {
@@ -66,7 +71,7 @@ fn writes_of<'a>(slot: &'a MountSlot, blocks: &[Block]) -> [(Block, &'a [u8]); F
     requires committed { All (λ b. is_in b (contents_in slot.now.mounted) ≡ true) blocks.now }
     requires unchanged { All (λ b. IsUnchangedIn b slot.now.mounted) blocks.now }
     ensures writes { contents (take (length blocks.now) result) ≡ map (committed_write slot.now.mounted) blocks.now }
-    ensures whole { All (λ w. length w.1.now ≡ BLOCK_BYTES) (take (length blocks.now) result) }
+    ensures whole { All (λ w. is_size (Some (length w.1.now)) ≡ true) (take (length blocks.now) result) }
 {
     [
         write_at(slot, blocks, 0),

@@ -248,21 +248,27 @@ impl<H: House, const S: u8> SlotBook<H, S> {
 
     /// Mounts the slot anew, and books it with its receipt; or it is refused memory, and nothing changes.
     #[tactic(auto, using(crate::proofs::BookLemmas::few_events))]
-    pub(crate) fn mount(&mut self, seat: &mut HostSeat<H>, log_bytes: u32, blocks: u64) -> Reply
+    pub(crate) fn mount(
+        &mut self,
+        seat: &mut HostSeat<H>,
+        log_bytes: u32,
+        blocks: u64,
+        size: Option<u32>,
+    ) -> Reply
     where
         Shares<H>: Counts<H, S>,
         requires room { 1 ≤ self.old.room }
         requires seat { 1 ≤ seat.old.room }
-        ensures booked { is_no_memory result ≡ false → IsBooked S (AStep.Mount S log_bytes blocks) result self.old self.new seat.old seat.new }
+        ensures booked { is_no_memory result ≡ false → IsBooked S (AStep.Mount S log_bytes blocks size) result self.old self.new seat.old seat.new }
         ensures counted { is_no_memory result ≡ false → ⟦<Shares<H> as Counts<H, S>>⟧.counts seat.new.counts ≡ counted S (⟦<Shares<H> as Counts<H, S>>⟧.counts seat.old.counts) }
         ensures refused { is_no_memory result ≡ true → (self.new ≡ self.old) × (seat.new ≡ seat.old) }
         ensures room { is_no_memory result ≡ false → self.new.room + 1 ≡ self.old.room }
     {
         let number = self.next_number();
         let slot = self.mount.slot();
-        match serve_mount(&mut self.mount, log_bytes, blocks) {
+        match serve_mount(&mut self.mount, log_bytes, blocks, size) {
             Ok((reply, told)) => {
-                let step = mount_twin(slot, log_bytes, blocks);
+                let step = mount_twin(slot, log_bytes, blocks, size);
                 write(
                     &mut self.entries,
                     &mut self.count,
@@ -429,14 +435,15 @@ fn serve_mount(
     slot: &mut MountSlot,
     log_bytes: u32,
     blocks: u64,
+    size: Option<u32>,
 ) -> Result<(Reply, Twin<Reply>), Errno>
-    ensures served { IfOk result (λ told. IsServed (AStep.Mount slot.old.slot log_bytes blocks) told.0 slot.new slot.old) }
+    ensures served { IfOk result (λ told. IsServed (AStep.Mount slot.old.slot log_bytes blocks size) told.0 slot.new slot.old) }
     ensures twice { IfOk result (λ told. told.1.booked ≡ told.0) }
     ensures happened { IfOk result (λ told. is_no_memory told.0 ≡ false) }
     ensures refused { IfErr result (λ errno. errno ≡ NoMemory) }
     ensures kept { OnErr result (slot.new ≡ slot.old) }
 {
-    let reply = slot.mount(log_bytes, blocks);
+    let reply = slot.mount(log_bytes, blocks, size);
     if reply.is_no_memory() {
         return Err(Errno::NoMemory);
     }
@@ -507,13 +514,14 @@ fn serve_flush(
 }
 
 /// The step of a mount, twice.
-fn mount_twin(slot: Slot, log_bytes: u32, blocks: u64) -> Twin<Step>
-    ensures { result.booked ≡ AStep.Mount slot log_bytes blocks }
+fn mount_twin(slot: Slot, log_bytes: u32, blocks: u64, size: Option<u32>) -> Twin<Step>
+    ensures { result.booked ≡ AStep.Mount slot log_bytes blocks size }
 {
     let first = Step::Mount {
         slot,
         log_bytes,
         blocks,
+        size,
     };
     Twin::of(
         first,
@@ -521,6 +529,7 @@ fn mount_twin(slot: Slot, log_bytes: u32, blocks: u64) -> Twin<Step>
             slot,
             log_bytes,
             blocks,
+            size,
         },
     )
 }

@@ -4,7 +4,7 @@ ghost use Rattle.std.specs.Prelude.{◌≡◌, ◌+◌, ◌++◌, ◌<◌, ◌�
 ghost use Rattle.xt_base.specs.Alone.{reason_of};
 ghost use Rattle.xt_base.specs.Calls.{is_unmount};
 ghost use Rattle.xt_base.specs.Isolation.{is_no_memory};
-ghost use Rattle.xt_base.specs.Order.{is_there, mount_is, of_life};
+ghost use Rattle.xt_base.specs.Order.{has_size, is_there, mount_is, of_life};
 ghost use Rattle.xt_base.specs.Replies.{is_read, may_get};
 ghost use Rattle.xt_base.specs.declared.sizes.TheConstants.{SLOTS};
 ghost use Rattle.xt_base.specs.declared.steps.Answer.{Answer as AnAnswer};
@@ -186,8 +186,8 @@ fn is_shutdown(request: &Request) -> bool
     matches!(request, Request::Shutdown)
 }
 
-/// The home device's answer to a request to one life of a slot, where it must be asked; it is asked once. The one error is want
-/// of memory, and then it was not asked.
+/// The home device's answer to a request to one life of a slot, where it must be asked; it is asked once, for as many bytes as the blocks
+/// of the mount have. The one error is want of memory, and then it was not asked.
 fn asked<H: House, const S: u8>(
     alloc: Global,
     book: &SlotBook<H, S>,
@@ -197,15 +197,17 @@ fn asked<H: House, const S: u8>(
 ) -> Result<Answer, AllocError>
     requires home { is_some home.old ≡ is_some book.now.state.mounted }
     ensures there { IfOk result (λ answer. is_there (mount_is (of_life life request.now) book.now.state.mounted) answer ≡ true) }
+    ensures size { IfOk result (λ answer. has_size answer book.now.state.mounted ≡ true) }
     ensures home { is_some home.new ≡ is_some home.old }
     ensures unasked { OnErr result (home.new ≡ home.old) }
     ensures asked { IfOk result (λ answer. MatchOption home.old (home.new ≡ None) (λ h. IfSome home.new (λ k. Tells (home_tells h) (home_taken h) (read_calls (read_block request.now) answer) (home_tells k) (home_taken k)))) }
     ensures failures { IfOk result (λ answer. MatchOption home.old (home.new ≡ None) (λ h. IfSome home.new (λ k. home_failures k ≡ home_failures h + failed_reads answer))) }
 {
-    let Some(block) = book.slot().needs(life, request) else {
+    let slot = book.slot();
+    let Some(block) = slot.needs(life, request) else {
         return Ok(Answer::None);
     };
-    let place = asking::place(alloc)?;
+    let place = asking::place(alloc, slot.form())?;
     match home {
         Some(home) => Ok(asking::read(&mut **home, block, place)),
         None => unreachable!(),

@@ -44,8 +44,9 @@ pub struct MountRefused {
 
 impl<H: House, const S: u8> SlotCell<H, S> {
     /// Mounts the slot anew, with a log of `log_bytes` bytes and a home device of `blocks` blocks, over these devices, and shows the
-    /// new life on the board. Where it is refused both devices come back: `Busy` where the slot is in use, `Invalid` and `NoSpace`
-    /// for a log or a home device of a wrong size, and these are booked; ENOMEM, and then nothing was booked.
+    /// new life on the board. A block has `size` bytes, or 4,096 where none is said; then checkpoints do not say the size either. Where
+    /// it is refused both devices come back: `Busy` where the slot is in use, `Invalid` for a log, a home device or a block of a wrong
+    /// size, and `NoSpace` where lives are at their end, and these are booked; ENOMEM, and then nothing was booked.
     pub fn mount<R: Wait>(
         &mut self,
         rt: &R,
@@ -53,6 +54,7 @@ impl<H: House, const S: u8> SlotCell<H, S> {
         board: &Board,
         log_bytes: u32,
         blocks: u64,
+        size: Option<u32>,
         home: Box<dyn HomeDevice + Send>,
         log: Box<dyn LogDevice + Send>,
     ) -> Result<MountRef, MountRefused>
@@ -60,8 +62,8 @@ impl<H: House, const S: u8> SlotCell<H, S> {
         Shares<H>: Counts<H, S>,
         requires board { seat.old.board.board ≡ board.now }
         ensures refused { IfErr result (λ back. is_no_memory (Refused back.errno) ≡ true → IsSameBook self.old.book self.new.book × IsSameSeat seat.old seat.new) }
-        ensures mounted { IfOk result (λ at. (at.slot ≡ S) × IsEvent S (AStep.Mount S log_bytes blocks) (LifeReply at.life) self.old.book self.new.book seat.old seat.new self.old.poster self.new.poster) }
-        ensures booked { IfErr result (λ back. is_no_memory (Refused back.errno) ≡ false → IsEvent S (AStep.Mount S log_bytes blocks) (Refused back.errno) self.old.book self.new.book seat.old seat.new self.old.poster self.new.poster) }
+        ensures mounted { IfOk result (λ at. (at.slot ≡ S) × IsEvent S (AStep.Mount S log_bytes blocks size) (LifeReply at.life) self.old.book self.new.book seat.old seat.new self.old.poster self.new.poster) }
+        ensures booked { IfErr result (λ back. is_no_memory (Refused back.errno) ≡ false → IsEvent S (AStep.Mount S log_bytes blocks size) (Refused back.errno) self.old.book self.new.book seat.old seat.new self.old.poster self.new.poster) }
         ensures counted_mounted { OnOk result (⟦<Shares<H> as Counts<H, S>>⟧.counts seat.new.counts ≡ counted S (⟦<Shares<H> as Counts<H, S>>⟧.counts seat.old.counts)) }
         ensures counted { IfErr result (λ back. is_no_memory (Refused back.errno) ≡ false → ⟦<Shares<H> as Counts<H, S>>⟧.counts seat.new.counts ≡ counted S (⟦<Shares<H> as Counts<H, S>>⟧.counts seat.old.counts)) }
         ensures taken { OnOk result ((self.new.home ≡ Some home) × (self.new.log ≡ Some log)) }
@@ -81,7 +83,7 @@ impl<H: House, const S: u8> SlotCell<H, S> {
             log: log_place,
             ..
         } = self;
-        match serve_mount(rt, book, poster, seat, log_bytes, blocks) {
+        match serve_mount(rt, book, poster, seat, log_bytes, blocks, size) {
             Ok(life) => {
                 *home_place = Some(home);
                 *log_place = Some(log);
@@ -135,6 +137,7 @@ fn serve_mount<H: House, R: Wait, const S: u8>(
     seat: &mut HostSeat<H>,
     log_bytes: u32,
     blocks: u64,
+    size: Option<u32>,
 ) -> Result<Life, Errno>
 where
     Shares<H>: Counts<H, S>,
@@ -146,15 +149,15 @@ where
     ensures kept { OnErr result ((is_some book.new.state.mounted ≡ is_some book.old.state.mounted) × (has_log book.new.state.mounted ≡ has_log book.old.state.mounted)) }
     ensures board { seat.new.board ≡ seat.old.board }
     ensures refused { IfErr result (λ errno. is_no_memory (Refused errno) ≡ true → IsSameBook book.old book.new × IsSameSeat seat.old seat.new) }
-    ensures mounted { IfOk result (λ life. IsEvent S (AStep.Mount S log_bytes blocks) (LifeReply life) book.old book.new seat.old seat.new poster.old poster.new) }
-    ensures booked { IfErr result (λ errno. is_no_memory (Refused errno) ≡ false → IsEvent S (AStep.Mount S log_bytes blocks) (Refused errno) book.old book.new seat.old seat.new poster.old poster.new) }
+    ensures mounted { IfOk result (λ life. IsEvent S (AStep.Mount S log_bytes blocks size) (LifeReply life) book.old book.new seat.old seat.new poster.old poster.new) }
+    ensures booked { IfErr result (λ errno. is_no_memory (Refused errno) ≡ false → IsEvent S (AStep.Mount S log_bytes blocks size) (Refused errno) book.old book.new seat.old seat.new poster.old poster.new) }
     ensures counted_mounted { OnOk result (⟦<Shares<H> as Counts<H, S>>⟧.counts seat.new.counts ≡ counted S (⟦<Shares<H> as Counts<H, S>>⟧.counts seat.old.counts)) }
     ensures counted { IfErr result (λ errno. is_no_memory (Refused errno) ≡ false → ⟦<Shares<H> as Counts<H, S>>⟧.counts seat.new.counts ≡ counted S (⟦<Shares<H> as Counts<H, S>>⟧.counts seat.old.counts)) }
 {
     let Ok(()) = make_room(book, seat) else {
         return Err(Errno::NoMemory);
     };
-    let reply = book.mount(seat, log_bytes, blocks);
+    let reply = book.mount(seat, log_bytes, blocks, size);
     if reply.is_no_memory() {
         return Err(Errno::NoMemory);
     }

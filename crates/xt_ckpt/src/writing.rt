@@ -3,8 +3,10 @@
 ghost use Rattle.std.specs.Prelude.{◌≡◌, ◌≤◌, None, All, Some, true, length, IfOk, IfErr};
 ghost use Rattle.std.specs.List.{concat, flat_map};
 ghost use Rattle.xt_base.specs.Form.{is_size};
+ghost use Rattle.xt_base.specs.Sized.{IsWithin};
 ghost use Rattle.xt_base.specs.Text.{pieces as pieces_of, text_in};
 ghost use Rattle.xt_base.specs.declared.steps.Errno.TheVariants.{NoMemory};
+ghost use Rattle.xt_ckpt.specs.declared.item.Item.{Item as AnItem};
 ghost use Rattle.xt_ckpt.specs.Items.{checkpoint_text, checkpoint_text_in, item_bytes, FitsSize, HasForm, IsStored, BlocksRise};
 ghost use Rattle.xt_ckpt.specs.Grammar.{IsText, IsTextIn, entries};
 
@@ -95,13 +97,15 @@ pub fn write_checkpoint2(
     write_pieces(alloc, no, Some(size), items).map_err(|_| Errno::NoMemory)
 }
 
-/// The text that a mount of this form writes: it says the size of a block, or does not. The one error is `NoMemory`.
+/// The text that a mount of this form writes: it says the size of a block, or does not. No item may log a chunk that a block of the mount
+/// lacks. The one error is `NoMemory`.
 pub fn write_checkpoint_in(
     alloc: Global,
     form: Form,
     no: CkptNo,
     items: &[Item],
 ) -> Result<Vec<Bytes>, Errno>
+    requires within { All (λ (item : AnItem). IsWithin form.size item.chunks) items.now }
     requires number { 1 ≤ no }
     requires count { (1 ≤ length items.now) × (length items.now ≤ BUSY_BLOCKS) }
     requires form { All HasForm items.now }

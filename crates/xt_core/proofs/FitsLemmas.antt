@@ -117,7 +117,7 @@ pub common_step : (h : List Event) (queue : List JobName) (hand : ℕ → Option
     → keeps_turn queue hand x ≡ true → suits x s ≡ true → keeps_common h x ≡ true
 common_step h queue hand s (Post name) t below turn suit = ap not (fresh s name (posted h) below suit)
 common_step h queue hand s (Take worker name) t below turn suit = take_common h queue hand worker name t ∙ turn
-common_step h queue hand s (Mount slot log_bytes blocks) t below turn suit = refl
+common_step h queue hand s (Mount slot log_bytes blocks size) t below turn suit = refl
 common_step h queue hand s (Call slot life request answer) t below turn suit = refl
 common_step h queue hand s (Begin worker name) t below turn suit = refl
 common_step h queue hand s (End worker name answers) t below turn suit = refl
@@ -147,7 +147,7 @@ fits_is h queue hand s (Post name) t below e =
     ∙ fits_post (not (is_among (posted h) name)) (suits (Post name) s) (λ owed. ap not (fresh s name (posted h) below owed))
 fits_is h queue hand s (Take worker name) t below e =
     ap (λ b. b && true) (take_common h queue hand worker name t)
-fits_is h queue hand s (Mount slot log_bytes blocks) t below e = refl
+fits_is h queue hand s (Mount slot log_bytes blocks size) t below e = refl
 fits_is h queue hand s (Call slot life request answer) t below e = ap (suits (Call slot life request answer)) (sym e)
 fits_is h queue hand s (Begin worker name) t below e =
     ap (λ b. b && suits (Begin worker name) (state_of name.slot h)) (hand_of_slot h queue hand worker name t) ∙ ap (λ u. is_first name (held_in hand worker) && suits (Begin worker name) u) (sym e)

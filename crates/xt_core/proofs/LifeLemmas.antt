@@ -58,10 +58,10 @@ later_either slot s true x y hx hy = hx
 later_either slot s false x y hx hy = hy
 
 module _ (slot last life : ℕ) (reason : Option Reason) where
-  later_mount : (log_bytes blocks : ℕ) (o : Option State) → IsOwnIn slot last o → IsLater slot (lone_of last life reason o) (mount slot log_bytes blocks (lone_of last life reason o)).slot
-  later_mount log_bytes blocks (Some m) own = later_same slot (lone_of last life reason (Some m)) own
-  later_mount log_bytes blocks None own =
-      later_unless slot (lone_of last life reason None) (first_of (mount_refusals log_bytes blocks (lone_of last life reason None))) (mounted_new slot log_bytes blocks (lone_of last life reason None)) own
+  later_mount : (log_bytes blocks : ℕ) (size : Option ℕ) (o : Option State) → IsOwnIn slot last o → IsLater slot (lone_of last life reason o) (mount slot log_bytes blocks size (lone_of last life reason o)).slot
+  later_mount log_bytes blocks size (Some m) own = later_same slot (lone_of last life reason (Some m)) own
+  later_mount log_bytes blocks size None own =
+      later_unless slot (lone_of last life reason None) (first_of (mount_refusals log_bytes blocks size (lone_of last life reason None))) (mounted_new slot log_bytes blocks size (lone_of last life reason None)) own
       (record { own = (refl, refl); given = λ n h. inl (let old : n.life ≤ last = h in omega arith) })
 
   later_gone : (m : State) → m.life ≡ last → IsLater slot (lone_of last life reason (Some m)) (lone_of last life reason None)
@@ -103,7 +103,7 @@ module _ (slot last life : ℕ) (reason : Option Reason) where
 
 -- over any step of a slot its life does not fall, and within a life not the last serial
 pub later_step : (dropped : Dropped) (x : Step) (s : Lone) → IsOwnOf (slot_of x) s → IsLater (slot_of x) s (step_with dropped x s).slot
-later_step dropped (Mount slot log_bytes blocks) s own = later_mount slot s.last_life s.seen_life s.seen_reason log_bytes blocks s.mounted own
+later_step dropped (Mount slot log_bytes blocks size) s own = later_mount slot s.last_life s.seen_life s.seen_reason log_bytes blocks size s.mounted own
 later_step dropped (Call slot life request answer) s own = later_call slot s.last_life s.seen_life s.seen_reason dropped life request answer s.mounted own
 later_step dropped (Post name) s own = later_post name.slot s.last_life s.seen_life s.seen_reason name.kind s.mounted own
 later_step dropped (Take worker name) s own = later_same name.slot s own

@@ -167,7 +167,7 @@ in_hand hand worker w name first same = ap hand (sym (eqb-true worker w same)) �
 -- a step that the common part and the turn let come
 pub turn_step : (h : List Event) (queue : List JobName) (hand : ℕ → Option JobName) (x : Step) (r : Reply) → IsTurn h queue hand
     → keeps_common h x ≡ true → keeps_turn queue hand x ≡ true → IsTurnAfter h queue hand x r
-turn_step h queue hand (Mount slot log_bytes blocks) r t common turn = turn_still h queue hand _ t refl refl (λ w. refl) (λ w. refl)
+turn_step h queue hand (Mount slot log_bytes blocks size) r t common turn = turn_still h queue hand _ t refl refl (λ w. refl) (λ w. refl)
 turn_step h queue hand (Call slot life request answer) r t common turn = turn_still h queue hand _ t refl refl (λ w. refl) (λ w. refl)
 turn_step h queue hand (Post name) r t common turn = turn_post h queue hand name r t (not-true (is_among (posted h) name) common)
 turn_step h queue hand (Take worker name) r t common turn =

@@ -3,7 +3,7 @@
 ghost use Rattle.std.specs.Prelude.{◌≡◌, ◌&&◌, length, true, IfOk, OnErr};
 ghost use Rattle.xt_base.specs.Alone.{alone, reason_of, shown};
 ghost use Rattle.xt_base.specs.Jobs.{fits_pieces, fits_plan, flight_pieces, flush_plan, is_begun, is_owed_as, is_waiting};
-ghost use Rattle.xt_base.specs.Order.{is_answer, is_there, mount_is, of_life, suits};
+ghost use Rattle.xt_base.specs.Order.{has_size, is_answer, is_there, mount_is, of_life, suits};
 ghost use Rattle.xt_base.specs.State.{empty};
 ghost use Rattle.xt_base.specs.Steps.{slot_of};
 ghost use Rattle.xt_base.specs.declared.steps.Step.{Step as AStep};
@@ -79,6 +79,18 @@ impl SlotCell {
         }
     }
 
+    /// Whether a content that a device answered has the size of the mount's blocks; an empty slot has none.
+    fn has_size(&self, answer: &Answer) -> bool
+        ensures { result ≡ has_size answer.now self.now.lone.mounted }
+    {
+        match answer {
+            Answer::Content(content) if self.mount.life().is_some() => {
+                content.bytes().len() == self.mount.form().block_bytes()
+            }
+            _ => true,
+        }
+    }
+
     /// Whether a job of this name is owed.
     fn is_owed(&self, name: &JobName) -> bool
         ensures { result ≡ mount_is (is_owed_as name.now) self.now.lone.mounted }
@@ -125,7 +137,7 @@ impl SlotCell {
                 request,
                 answer,
                 ..
-            } => self.is_answered(*life, request, answer),
+            } => self.is_answered(*life, request, answer) && self.has_size(answer),
             Step::Post(name) => self.is_owed(name),
             Step::Begin { name, .. } => name.kind.is_ckpt() && self.is_waiting(name),
             Step::End { name, answers, .. } => self.fits_end(name, answers),
@@ -189,8 +201,9 @@ impl SlotCell {
             Step::Mount {
                 log_bytes,
                 blocks,
+                size,
                 ..
-            } => self.mount.mount(*log_bytes, *blocks),
+            } => self.mount.mount(*log_bytes, *blocks, *size),
             Step::Call {
                 life,
                 request,

@@ -1,6 +1,7 @@
 //! Calls as a record says them: copies of what was asked, with the answer.
 
-ghost use Rattle.std.specs.Prelude.{◌≡◌, ◌≤◌, length, IfSome};
+ghost use Rattle.std.specs.Prelude.{◌≡◌, ◌≤◌, length, IfSome, Some, true};
+ghost use Rattle.xt_base.specs.Form.{is_size};
 ghost use Rattle.xt_base.specs.declared.steps.HomeOffer.{HomeOffer};
 ghost use Rattle.xt_base.specs.declared.steps.LogOffer.{LogOffer};
 ghost use Rattle.xt_dev.specs.declared.call.HomeCall.{HomeCall};
@@ -9,7 +10,7 @@ use crate::call::HomeCall;
 use std::alloc::Global;
 use xt_base::content::{Content, Data};
 use xt_base::names::Block;
-use xt_base::sizes::{BLOCK_BYTES, PIECE_BYTES};
+use xt_base::sizes::PIECE_BYTES;
 use xt_base::steps::{HomeOffer, LogOffer};
 
 /// A piece as a record says it; None where there is no memory for it.
@@ -23,7 +24,7 @@ pub(crate) fn piece_offer(alloc: Global, piece: &[u8], ok: bool) -> Option<LogOf
 
 /// A copy of the content of a block; None where there is no memory for it.
 pub(crate) fn content_of(alloc: Global, content: &[u8]) -> Option<Content>
-    requires whole { length content.now ≡ BLOCK_BYTES }
+    requires whole { is_size (Some (length content.now)) ≡ true }
     ensures { IfSome result (λ copy. copy ≡ content.now) }
 {
     Content::of(alloc, content).ok()?
@@ -31,7 +32,7 @@ pub(crate) fn content_of(alloc: Global, content: &[u8]) -> Option<Content>
 
 /// A read that did not fail, as a record says it; None where there is no memory for it.
 pub(crate) fn read_call(alloc: Global, block: Block, content: &[u8]) -> Option<HomeCall>
-    requires whole { length content.now ≡ BLOCK_BYTES }
+    requires whole { is_size (Some (length content.now)) ≡ true }
     ensures { IfSome result (λ call. call ≡ HomeCall.Read block (Some content.now)) }
 {
     let content = content_of(alloc, content)?;
@@ -43,7 +44,7 @@ pub(crate) fn read_call(alloc: Global, block: Block, content: &[u8]) -> Option<H
 
 /// A write as a record says it; None where there is no memory for it.
 pub(crate) fn write_call(alloc: Global, block: Block, content: &[u8], ok: bool) -> Option<HomeCall>
-    requires whole { length content.now ≡ BLOCK_BYTES }
+    requires whole { is_size (Some (length content.now)) ≡ true }
     ensures { IfSome result (λ call. call ≡ HomeCall.Offer (HomeOffer.Write block content.now ok)) }
 {
     let content = content_of(alloc, content)?;

@@ -1,13 +1,16 @@
-//! Which blocks of a home device may be read: not those that were written before a sync that failed.
+//! Which sectors of a home device may be read: not those that were written before a sync that failed.
 
-ghost use Rattle.std.specs.Prelude.{◌≡◌, ◌≤◌, ◌+◌, ◌∷◌, ◌++◌, [], OnErr, OnOk, filter, not};
+ghost use Rattle.std.specs.Bool.{IsTrue};
+ghost use Rattle.std.specs.Prelude.{◌≡◌, ◌≤◌, ◌+◌, ◌++◌, ◌↔◌, [], OnErr, OnOk, filter, not};
 ghost use Rattle.std.specs.Vec.{vec_capacity, vec_len};
-ghost use Rattle.xt_dev.specs.Doubting.{is_among};
+ghost use Rattle.xt_dev.specs.Doubting.{HasAmong, is_among, sectors_from};
 
+use crate::sectors::Sectors;
 use std::alloc::{AllocError, Global};
 
 /// What was written since the last sync, and what is in doubt: it was written before a sync that failed, and not written and synced
-/// since. A file may show such a block as it was written, where no crash would keep it.
+/// since. A file may show such bytes as they were written, where no crash would keep them. They are noted by sector, so that blocks
+/// of one size are seen to lie over those of another: a device may be mounted again with blocks of another size.
 #[derive(Drop)]
 pub(crate) struct Doubts {
     written: Vec<u64>,
@@ -27,33 +30,45 @@ impl Doubts {
         }
     }
 
-    /// Whether a block is in doubt.
-    pub(crate) fn has(&self, block: u64) -> bool
-        ensures { result ≡ is_among self.now.doubtful.items block }
+    /// Whether one of these sectors is in doubt.
+    pub(crate) fn has(&self, sectors: Sectors) -> bool
+        ensures { IsTrue result ↔ HasAmong self.now.doubtful.items sectors.first sectors.count }
     {
-        self.doubtful.contains(&block)
+        for k in 0..sectors.count {
+            if self.has_one(sectors.first + k as u64) {
+                return true;
+            }
+        }
+        false
     }
 
-    /// Notes that a block will be written. Where memory is refused nothing is noted, and it must not be written.
-    pub(crate) fn note(&mut self, block: u64) -> Result<(), AllocError>
-        ensures written { OnOk result (self.new.written.items ≡ self.old.written.items ++ block ∷ []) }
+    /// Whether a sector is in doubt.
+    fn has_one(&self, sector: u64) -> bool
+        ensures { result ≡ is_among self.now.doubtful.items sector }
+    {
+        self.doubtful.contains(&sector)
+    }
+
+    /// Notes that sectors will be written. Where memory is refused nothing is noted, and they must not be written.
+    pub(crate) fn note(&mut self, sectors: Sectors) -> Result<(), AllocError>
+        ensures written { OnOk result (self.new.written.items ≡ self.old.written.items ++ sectors_from sectors.first sectors.count) }
         ensures refused { OnErr result (self.new.written.items ≡ self.old.written.items) }
         ensures doubtful { self.new.doubtful.items ≡ self.old.doubtful.items }
     {
         let Doubts { written, doubtful } = self;
-        written.reserve(1)?;
-        doubtful.reserve(written.len() + 1)?;
-        written.push_reserved(block);
+        written.reserve(sectors.count)?;
+        doubtful.reserve(written.len() + sectors.count)?;
+        push_all(written, sectors);
         Ok(())
     }
 
     /// Notes that a sync was good: what was written is in doubt no more.
     pub(crate) fn synced(&mut self)
-        ensures doubtful { self.new.doubtful.items ≡ filter (λ b. not (is_among self.old.written.items b)) self.old.doubtful.items }
+        ensures doubtful { self.new.doubtful.items ≡ filter (λ s. not (is_among self.old.written.items s)) self.old.doubtful.items }
         ensures written { self.new.written.items ≡ [] }
     {
         let Doubts { written, doubtful } = self;
-        doubtful.retain(|block| !written.contains(block));
+        doubtful.retain(|sector| !written.contains(sector));
         written.clear();
     }
 
@@ -67,5 +82,16 @@ impl Doubts {
             Ok(()) => {}
             Err(AllocError) => unreachable!(),
         }
+    }
+}
+
+/// Puts sectors behind others, for which there is room.
+fn push_all(written: &mut Vec<u64>, sectors: Sectors)
+    requires room { vec_len written.old + sectors.count ≤ vec_capacity written.old }
+    ensures items { written.new.items ≡ written.old.items ++ sectors_from sectors.first sectors.count }
+    ensures len { vec_len written.new ≡ vec_len written.old + sectors.count }
+{
+    for k in 0..sectors.count {
+        written.push_reserved(sectors.first + k as u64);
     }
 }

@@ -1,6 +1,7 @@
 //! A device that fails once.
 
-ghost use Rattle.std.specs.Prelude.{◌≡◌, ◌≢◌, ◌≤◌, ◌<◌, ◌-◌, ◌+◌, ◌==◌, ◌∷◌, [], true, length, IfSome, IsSomeAnd, IsErr, is_ok, if◌then◌else◌};
+ghost use Rattle.std.specs.Prelude.{◌≡◌, ◌≢◌, ◌≤◌, ◌<◌, ◌-◌, ◌+◌, ◌==◌, ◌∷◌, [], None, Some, true, length, IfSome, IsSomeAnd, IsErr, is_ok, if◌then◌else◌};
+ghost use Rattle.xt_base.specs.Form.{is_size};
 ghost use Rattle.xt_base.specs.declared.steps.HomeOffer.{HomeOffer};
 ghost use Rattle.xt_base.specs.declared.steps.LogOffer.{LogOffer};
 ghost use Rattle.xt_dev.specs.Devices.{IsCut, Tells, failures_after};
@@ -14,7 +15,7 @@ use crate::log::LogDevice;
 use crate::record::Record;
 use std::alloc::Global;
 use xt_base::names::Block;
-use xt_base::sizes::{BLOCK_BYTES, PIECE_BYTES};
+use xt_base::sizes::PIECE_BYTES;
 use xt_base::steps::{HomeOffer, LogOffer};
 
 /// A device over another one, that fails one call and hands on every other. The call that it
@@ -166,7 +167,7 @@ impl<D: HomeDevice> HomeDevice for FailAt<D, HomeCall> {
     ghost home_failures = { λ d. D.home_failures d.device + (if d.left == 0 then 1 else 0) };
 
     fn read(&mut self, block: Block, into: &mut [u8]) -> Result<(), DevFault>
-        requires whole { length into.old ≡ BLOCK_BYTES }
+        requires whole { is_size (Some (length into.old)) ≡ true }
         ensures told { Tells (⟦<FailAt<D, HomeCall> as HomeDevice>⟧.home_tells self.old) (⟦<FailAt<D, HomeCall> as HomeDevice>⟧.home_taken self.old) (HomeCall.Read block (if is_ok result then Some into.new else None) ∷ []) (⟦<FailAt<D, HomeCall> as HomeDevice>⟧.home_tells self.new) (⟦<FailAt<D, HomeCall> as HomeDevice>⟧.home_taken self.new) }
         ensures failures { ⟦<FailAt<D, HomeCall> as HomeDevice>⟧.home_failures self.new ≡ failures_after (is_ok result) (⟦<FailAt<D, HomeCall> as HomeDevice>⟧.home_failures self.old) }
         ensures left { self.new.left ≡ self.old.left - 1 }
@@ -192,7 +193,7 @@ impl<D: HomeDevice> HomeDevice for FailAt<D, HomeCall> {
     }
 
     fn write(&mut self, block: Block, content: &[u8]) -> Result<(), DevFault>
-        requires whole { length content.now ≡ BLOCK_BYTES }
+        requires whole { is_size (Some (length content.now)) ≡ true }
         ensures told { Tells (⟦<FailAt<D, HomeCall> as HomeDevice>⟧.home_tells self.old) (⟦<FailAt<D, HomeCall> as HomeDevice>⟧.home_taken self.old) (HomeCall.Offer (HomeOffer.Write block content.now (is_ok result)) ∷ []) (⟦<FailAt<D, HomeCall> as HomeDevice>⟧.home_tells self.new) (⟦<FailAt<D, HomeCall> as HomeDevice>⟧.home_taken self.new) }
         ensures failures { ⟦<FailAt<D, HomeCall> as HomeDevice>⟧.home_failures self.new ≡ failures_after (is_ok result) (⟦<FailAt<D, HomeCall> as HomeDevice>⟧.home_failures self.old) }
         ensures left { self.new.left ≡ self.old.left - 1 }

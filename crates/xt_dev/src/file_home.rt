@@ -1,12 +1,13 @@
 //! A home device in a file. It tells nothing: no clause can say what a file has.
 
-ghost use Rattle.std.specs.Prelude.{◌≡◌, ◌*◌, ◌^◌, ◌<◌, [], None, Some, false, if◌then◌else◌, nat_lt, is_ok, IfOk};
+ghost use Rattle.std.specs.Prelude.{◌≡◌, [], false, is_ok, IfOk};
 ghost use Rattle.xt_dev.specs.Devices.{failures_after};
 
 use crate::doubts::Doubts;
 use crate::failures::Failures;
 use crate::fault::{DevFault, FileFault};
 use crate::home::HomeDevice;
+use crate::sectors::Sectors;
 use std::alloc::Global;
 use std::fs::File;
 use std::io::ErrorKind;
@@ -14,12 +15,8 @@ use std::os::unix::fs::FileExt;
 use std::path::AsPath;
 use std::rt::Files;
 use xt_base::names::Block;
-use xt_base::sizes::BLOCK_BYTES;
 
-/// How many blocks a file can have, since the end of the last is below 2^63: 2^51 - 1.
-pub const FILE_BLOCKS: u64 = 0x7_ffff_ffff_ffff;
-
-/// A home device in a file: block B begins at B * 4,096. What lies behind the file's end is read as zeros. A call for
+/// A home device in a file: block B begins at B times its size. What lies behind the file's end is read as zeros. A call for
 /// a block from `FILE_BLOCKS` on fails. So does a read of a block that was written before a sync that failed, until it is written and
 /// synced again: what the file shows of it may not be what a crash leaves.
 #[derive(Drop)]
@@ -60,13 +57,21 @@ impl HomeDevice for FileHome {
     ghost home_failures = { λ d. d.failures.count };
 
     fn read(&mut self, block: Block, into: &mut [u8]) -> Result<(), DevFault> {
-        let is_read = !self.doubts.has(block.0) && is_block_read(&self.file, block, into);
+        let is_read = match Sectors::of(block, into.len()) {
+            Some(sectors) => !self.doubts.has(sectors) && is_read_at(&self.file, sectors, into),
+            None => false,
+        };
         self.failures.answer(is_read)
     }
 
     fn write(&mut self, block: Block, content: &[u8]) -> Result<(), DevFault> {
-        let is_noted = self.doubts.note(block.0).is_ok();
-        let is_written = is_noted && is_block_written(&self.file, block, content);
+        let is_written = match Sectors::of(block, content.len()) {
+            Some(sectors) => {
+                self.doubts.note(sectors).is_ok()
+                    && self.file.write_all_at(content, sectors.begin()).is_ok()
+            }
+            None => false,
+        };
         self.failures.answer(is_written)
     }
 
@@ -81,33 +86,11 @@ impl HomeDevice for FileHome {
     }
 }
 
-/// Where a block begins; None where a file can't have it.
-fn offset_of(block: Block) -> Option<u64>
-    ensures { result ≡ (if nat_lt block FILE_BLOCKS then Some (block * BLOCK_BYTES) else None) }
-{
-    if block.0 < FILE_BLOCKS {
-        Some(block.0 * BLOCK_BYTES as u64)
-    } else {
-        None
-    }
-}
-
 /// Reads a block, with zeros for what lies behind the file's end; whether it could.
-fn is_block_read(file: &File, block: Block, into: &mut [u8]) -> bool {
-    let Some(offset) = offset_of(block) else {
-        return false;
-    };
+fn is_read_at(file: &File, sectors: Sectors, into: &mut [u8]) -> bool {
     into.fill(0);
-    match file.read_exact_at(into, offset) {
+    match file.read_exact_at(into, sectors.begin()) {
         Ok(()) => true,
         Err(error) => error.kind() == ErrorKind::UnexpectedEof,
-    }
-}
-
-/// Writes a whole block; whether it could.
-fn is_block_written(file: &File, block: Block, content: &[u8]) -> bool {
-    match offset_of(block) {
-        Some(offset) => file.write_all_at(content, offset).is_ok(),
-        None => false,
     }
 }

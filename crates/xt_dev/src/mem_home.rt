@@ -1,10 +1,10 @@
 //! A home device in memory.
 
-ghost use Rattle.std.specs.Prelude.{◌≡◌, ◌∷◌, [], true, false, length, IsOk, IfSome, IsSomeAnd, OnOk, OnErr, is_ok, if◌then◌else◌};
+ghost use Rattle.std.specs.Prelude.{◌≡◌, ◌∷◌, [], None, Some, true, false, length, IsOk, IfSome, IsSomeAnd, OnOk, OnErr, is_ok, if◌then◌else◌};
+ghost use Rattle.xt_base.specs.Form.{is_size};
 ghost use Rattle.xt_base.specs.Maps.{put};
-ghost use Rattle.xt_base.specs.Text.{content_at};
 ghost use Rattle.xt_base.specs.declared.steps.HomeOffer.{HomeOffer};
-ghost use Rattle.xt_dev.specs.Devices.{Tells, failures_after};
+ghost use Rattle.xt_dev.specs.Devices.{Tells, as_asked, failures_after, kept_at};
 ghost use Rattle.xt_dev.specs.declared.call.HomeCall.{HomeCall};
 
 use crate::call::HomeCall;
@@ -17,11 +17,11 @@ use std::alloc::Global;
 use std::collections::BTreeMap;
 use xt_base::content::Content;
 use xt_base::names::Block;
-use xt_base::sizes::BLOCK_BYTES;
 use xt_base::steps::HomeOffer;
 
-/// A home device in memory. It reads zeros where nothing was written, fails a write that it
-/// can't keep for want of memory, and nothing else. It tells what it was asked until a record
+/// A home device in memory. It keeps what was written by block, with its length; it reads zeros
+/// where nothing of the length that is asked was written. It fails a write that it can't keep
+/// for want of memory, and nothing else. It tells what it was asked until a record
 /// finds no memory; then it tells no more, and answers as before.
 #[derive(Drop)]
 pub struct MemHome {
@@ -56,20 +56,20 @@ impl MemHome {
         self.kept.told()
     }
 
-    /// Gives what a block has: zeros where nothing was written.
+    /// Gives what a block has: zeros where nothing was written, or something of another length. That is so where a slot is
+    /// mounted again with blocks of another size, which are none of those that were written.
     fn give(&self, block: Block, into: &mut [u8])
-        requires whole { length into.old ≡ BLOCK_BYTES }
-        ensures { into.new ≡ content_at BLOCK_BYTES block self.now.blocks.entries }
+        ensures { into.new ≡ kept_at (length into.old) block self.now.blocks.entries }
     {
         match self.blocks.get(&block.0) {
-            Some(content) => into.copy_from_slice(content.bytes()),
+            Some(content) => copy_whole(content.bytes(), into),
             None => into.fill(0),
         }
     }
 
     /// Keeps the content of a block; false where there is no memory for it.
     fn keep(&mut self, block: Block, content: &[u8]) -> bool
-        requires whole { length content.now ≡ BLOCK_BYTES }
+        requires whole { is_size (Some (length content.now)) ≡ true }
         ensures kept { result ≡ true → self.new.blocks.entries ≡ put block content.now self.old.blocks.entries }
         ensures lost { result ≡ false → self.new.blocks.entries ≡ self.old.blocks.entries }
         ensures rest { (self.new.kept ≡ self.old.kept) × (self.new.failures ≡ self.old.failures) }
@@ -89,11 +89,11 @@ impl HomeDevice for MemHome {
     ghost home_failures = { λ d. d.failures.count };
 
     fn read(&mut self, block: Block, into: &mut [u8]) -> Result<(), DevFault>
-        requires whole { length into.old ≡ BLOCK_BYTES }
+        requires whole { is_size (Some (length into.old)) ≡ true }
         ensures told { Tells (⟦<MemHome as HomeDevice>⟧.home_tells self.old) (⟦<MemHome as HomeDevice>⟧.home_taken self.old) (HomeCall.Read block (if is_ok result then Some into.new else None) ∷ []) (⟦<MemHome as HomeDevice>⟧.home_tells self.new) (⟦<MemHome as HomeDevice>⟧.home_taken self.new) }
         ensures failures { ⟦<MemHome as HomeDevice>⟧.home_failures self.new ≡ failures_after (is_ok result) (⟦<MemHome as HomeDevice>⟧.home_failures self.old) }
         ensures ok { IsOk result }
-        ensures content { into.new ≡ content_at BLOCK_BYTES block self.old.blocks.entries }
+        ensures content { into.new ≡ kept_at (length into.old) block self.old.blocks.entries }
         ensures same { self.new.blocks ≡ self.old.blocks }
     {
         self.give(block, into);
@@ -103,7 +103,7 @@ impl HomeDevice for MemHome {
     }
 
     fn write(&mut self, block: Block, content: &[u8]) -> Result<(), DevFault>
-        requires whole { length content.now ≡ BLOCK_BYTES }
+        requires whole { is_size (Some (length content.now)) ≡ true }
         ensures told { Tells (⟦<MemHome as HomeDevice>⟧.home_tells self.old) (⟦<MemHome as HomeDevice>⟧.home_taken self.old) (HomeCall.Offer (HomeOffer.Write block content.now (is_ok result)) ∷ []) (⟦<MemHome as HomeDevice>⟧.home_tells self.new) (⟦<MemHome as HomeDevice>⟧.home_taken self.new) }
         ensures failures { ⟦<MemHome as HomeDevice>⟧.home_failures self.new ≡ failures_after (is_ok result) (⟦<MemHome as HomeDevice>⟧.home_failures self.old) }
         ensures kept { OnOk result (self.new.blocks.entries ≡ put block content.now self.old.blocks.entries) }
@@ -129,5 +129,16 @@ impl HomeDevice for MemHome {
         self.kept
             .note(Some(HomeCall::Offer(HomeOffer::Sync { ok: true })));
         Ok(())
+    }
+}
+
+/// Copies bytes where they are as many as are asked for; else gives zeros.
+fn copy_whole(bytes: &[u8], into: &mut [u8])
+    ensures { into.new ≡ as_asked (length into.old) bytes.now }
+{
+    if bytes.len() == into.len() {
+        into.copy_from_slice(bytes);
+    } else {
+        into.fill(0);
     }
 }

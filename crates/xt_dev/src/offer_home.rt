@@ -1,6 +1,7 @@
 //! What is offered to a home device, and what it answered.
 
-ghost use Rattle.std.specs.Prelude.{◌≡◌, ◌≤◌, ◌+◌, ◌-◌, ◌++◌, All, ℕ, List, count_by, length, map, not, take, drop, replicate, false};
+ghost use Rattle.std.specs.Prelude.{◌≡◌, ◌≤◌, ◌+◌, ◌-◌, ◌++◌, All, Some, ℕ, List, count_by, length, map, not, take, drop, replicate, false, true};
+ghost use Rattle.xt_base.specs.Form.{is_size};
 ghost use Rattle.xt_base.specs.Jobs.{write_answers, writes as planned_writes, sync_offer};
 ghost use Rattle.xt_base.specs.Text.{content_at};
 ghost use Rattle.xt_dev.specs.Devices.{Tells};
@@ -9,16 +10,16 @@ ghost use Rattle.xt_dev.specs.declared.call.HomeCall.{HomeCall};
 
 use crate::home::HomeDevice;
 use xt_base::names::Block;
-use xt_base::sizes::{BLOCK_BYTES, FLUSH_BLOCKS};
+use xt_base::sizes::FLUSH_BLOCKS;
 use xt_base::steps::HomeAnswers;
 
 /// Offers each write once in order, whatever is answered, then one sync; says what was
-/// answered. There are at most 8 writes, each of the 4,096 bytes of a block; for none nothing
+/// answered. There are at most 8 writes, each of all bytes of a block; for none nothing
 /// is offered, and the count of answers is 0. It takes no memory.
 #[tactic(auto, using(crate::proofs::Answered::answered_plan))]
 pub fn offer_home(home: &mut dyn HomeDevice, writes: &[(Block, &[u8])]) -> HomeAnswers
     requires count { length writes.now ≤ FLUSH_BLOCKS }
-    requires whole { All (λ w. length w.1.now ≡ BLOCK_BYTES) writes.now }
+    requires whole { All (λ w. is_size (Some (length w.1.now)) ≡ true) writes.now }
     // Each write has its answer.
     ensures count { result.count ≡ length writes.now }
     // What stands for no answer is false.
@@ -45,7 +46,7 @@ pub fn offer_home(home: &mut dyn HomeDevice, writes: &[(Block, &[u8])]) -> HomeA
 /// Offers each write once in order, and says which were answered Ok.
 fn write_all(home: &mut dyn HomeDevice, writes: &[(Block, &[u8])]) -> [bool; FLUSH_BLOCKS]
     requires count { length writes.now ≤ FLUSH_BLOCKS }
-    requires whole { All (λ w. length w.1.now ≡ BLOCK_BYTES) writes.now }
+    requires whole { All (λ w. is_size (Some (length w.1.now)) ≡ true) writes.now }
     ensures unused { drop (length writes.now) result ≡ replicate (FLUSH_BLOCKS - length writes.now) false }
     ensures offers { Tells (home_tells home.old) (home_taken home.old) (map HomeCall.Offer (answered (contents writes.now) (take (length writes.now) result))) (home_tells home.new) (home_taken home.new) }
     ensures failures { home_failures home.new ≡ home_failures home.old + count_by not (take (length writes.now) result) }

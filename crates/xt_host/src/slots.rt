@@ -1,6 +1,6 @@
 //! The calls of a host, each to one locked slot.
 
-ghost use Rattle.std.specs.Prelude.{◌≡◌, ◌<◌, ◌++◌, ◌∷◌, [], IfErr, IfOk, IfSome, MatchOption, None, OnErr, OnOk, false, slice_index, true};
+ghost use Rattle.std.specs.Prelude.{◌≡◌, ◌<◌, ◌++◌, ◌∷◌, [], IfErr, IfOk, IfSome, MatchOption, None, OnErr, OnOk, Some, false, slice_index, true};
 ghost use Rattle.std.specs.Arc.{arc_value};
 ghost use Rattle.xt_base.specs.Calls.{is_unmount};
 ghost use Rattle.xt_base.specs.Isolation.{is_no_memory};
@@ -71,8 +71,9 @@ impl<H: House, D> Host<H, D> {
 }
 
 impl<H: House> Host<H, Slots<H>> {
-    /// Mounts a slot anew over these devices, and shows the new life on the board. Where it is refused both devices come back: `Busy`
-    /// where the slot is in use, `Invalid` and `NoSpace` for a log or a home device of a wrong size; ENOMEM, and then nothing was booked.
+    /// Mounts a slot anew over these devices, with blocks of 4,096 bytes and texts that do not say so, and shows the new life on the board.
+    /// Where it is refused both devices come back: `Busy` where the slot is in use, `Invalid` for a log or a home device of a wrong size,
+    /// `NoSpace` where lives are at their end; ENOMEM, and then nothing was booked.
     pub fn mount<R: Wait>(
         &self,
         rt: &R,
@@ -85,8 +86,56 @@ impl<H: House> Host<H, Slots<H>> {
     ) -> Result<MountRef, MountRefused>
         requires board { seat.old.board.board ≡ self.now.board }
         ensures refused { IfErr result (λ back. is_no_memory (Refused back.errno) ≡ true → IsSameSeat seat.old seat.new) }
-        ensures mounted { IfOk result (λ at. (at.slot ≡ slot) × Receives slot (AStep.Mount slot log_bytes blocks) (LifeReply at.life) seat.old seat.new) }
-        ensures received { IfErr result (λ back. is_no_memory (Refused back.errno) ≡ false → Receives slot (AStep.Mount slot log_bytes blocks) (Refused back.errno) seat.old seat.new) }
+        ensures mounted { IfOk result (λ at. (at.slot ≡ slot) × Receives slot (AStep.Mount slot log_bytes blocks None) (LifeReply at.life) seat.old seat.new) }
+        ensures received { IfErr result (λ back. is_no_memory (Refused back.errno) ≡ false → Receives slot (AStep.Mount slot log_bytes blocks None) (Refused back.errno) seat.old seat.new) }
+        ensures back { IfErr result (λ back. (back.home ≡ home) × (back.log ≡ log)) }
+        ensures shown { IfOk result (λ at. Shows slot (word_of at.life None) seat.old.board seat.new.board) }
+        ensures unshown { OnErr result (seat.new.board ≡ seat.old.board) }
+        ensures board { seat.new.board.board ≡ seat.old.board.board }
+    {
+        self.mount_as(rt, seat, slot, log_bytes, blocks, None, home, log)
+    }
+
+    /// The same with blocks of `size` bytes, and texts that say so; `Invalid` also where a block may not have so many.
+    pub fn mount_sized<R: Wait>(
+        &self,
+        rt: &R,
+        seat: &mut HostSeat<H>,
+        slot: Slot,
+        log_bytes: u32,
+        blocks: u64,
+        size: u32,
+        home: Box<dyn HomeDevice + Send>,
+        log: Box<dyn LogDevice + Send>,
+    ) -> Result<MountRef, MountRefused>
+        requires board { seat.old.board.board ≡ self.now.board }
+        ensures refused { IfErr result (λ back. is_no_memory (Refused back.errno) ≡ true → IsSameSeat seat.old seat.new) }
+        ensures mounted { IfOk result (λ at. (at.slot ≡ slot) × Receives slot (AStep.Mount slot log_bytes blocks (Some size)) (LifeReply at.life) seat.old seat.new) }
+        ensures received { IfErr result (λ back. is_no_memory (Refused back.errno) ≡ false → Receives slot (AStep.Mount slot log_bytes blocks (Some size)) (Refused back.errno) seat.old seat.new) }
+        ensures back { IfErr result (λ back. (back.home ≡ home) × (back.log ≡ log)) }
+        ensures shown { IfOk result (λ at. Shows slot (word_of at.life None) seat.old.board seat.new.board) }
+        ensures unshown { OnErr result (seat.new.board ≡ seat.old.board) }
+        ensures board { seat.new.board.board ≡ seat.old.board.board }
+    {
+        self.mount_as(rt, seat, slot, log_bytes, blocks, Some(size), home, log)
+    }
+
+    /// Mounts a slot anew over these devices, with blocks of a size where one is named.
+    fn mount_as<R: Wait>(
+        &self,
+        rt: &R,
+        seat: &mut HostSeat<H>,
+        slot: Slot,
+        log_bytes: u32,
+        blocks: u64,
+        size: Option<u32>,
+        home: Box<dyn HomeDevice + Send>,
+        log: Box<dyn LogDevice + Send>,
+    ) -> Result<MountRef, MountRefused>
+        requires board { seat.old.board.board ≡ self.now.board }
+        ensures refused { IfErr result (λ back. is_no_memory (Refused back.errno) ≡ true → IsSameSeat seat.old seat.new) }
+        ensures mounted { IfOk result (λ at. (at.slot ≡ slot) × Receives slot (AStep.Mount slot log_bytes blocks size) (LifeReply at.life) seat.old seat.new) }
+        ensures received { IfErr result (λ back. is_no_memory (Refused back.errno) ≡ false → Receives slot (AStep.Mount slot log_bytes blocks size) (Refused back.errno) seat.old seat.new) }
         ensures back { IfErr result (λ back. (back.home ≡ home) × (back.log ≡ log)) }
         ensures shown { IfOk result (λ at. Shows slot (word_of at.life None) seat.old.board seat.new.board) }
         ensures unshown { OnErr result (seat.new.board ≡ seat.old.board) }
@@ -100,6 +149,7 @@ impl<H: House> Host<H, Slots<H>> {
                 slot,
                 log_bytes,
                 blocks,
+                size,
                 home,
                 log,
             },

@@ -12,6 +12,7 @@ mod lines;
 mod place;
 mod replay;
 mod rows;
+mod sizes;
 mod taking;
 mod tape;
 mod threads;

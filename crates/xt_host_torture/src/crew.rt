@@ -4,7 +4,7 @@ ghost use Rattle.std.specs.Prelude.{◌≡◌, ◌<◌, ◌-◌, ◌^◌, All, I
 ghost use Rattle.std.specs.Arc.{arc_value};
 ghost use Rattle.xt_cell.specs.Ledgers.{AreCut, AreNamed};
 
-use crate::guest::{Guest, Lived, live, size_in};
+use crate::guest::{Guest, Lived, live, volume_in};
 use crate::replay::{Tally, gives_replies};
 use crate::working::Workplace;
 use anyhow::{Context, Error, Result};
@@ -205,7 +205,7 @@ fn mount<H: House, D: Workplace<H, R>, R: Wait>(
     ensures board { seat.new.board.board ≡ seat.old.board.board }
 {
     let slot = Slot::new(index).context("a slot")?;
-    let mounted = D::mount(rt, host, seat, &size_in(slot), devices);
+    let mounted = D::mount(rt, host, seat, &volume_in(slot), devices);
     mounted.map_err(|(_devices, errno)| refused(errno))
 }
 

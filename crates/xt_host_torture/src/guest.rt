@@ -3,7 +3,7 @@
 ghost use Rattle.std.specs.Prelude.{◌≡◌};
 ghost use Rattle.std.specs.Arc.{arc_value};
 
-use crate::working::{Size, Workplace};
+use crate::working::{Volume, Workplace};
 use std::alloc::{AllocError, Global};
 use std::sync::Wait;
 use xt_base::names::{Life, Slot};
@@ -21,13 +21,29 @@ use xt_trials::guess::{BLOCKS, Guess};
 /// The bytes of a log.
 const LOG_BYTES: u32 = 65_536;
 
+/// The sizes of a block that slots are mounted with: none is said, or one of the four.
+const SIZES: [Option<u32>; 5] = [None, Some(512), Some(1_024), Some(2_048), Some(4_096)];
+
 /// What is mounted in a slot.
-pub fn size_in(slot: Slot) -> Size {
-    Size {
+pub fn volume_in(slot: Slot) -> Volume {
+    Volume {
         slot,
         log_bytes: LOG_BYTES,
         blocks: u64::from(BLOCKS),
+        size: match SIZES.get(slot.index() % SIZES.len()) {
+            Some(size) => *size,
+            None => None,
+        },
     }
+}
+
+/// What is guessed of a slot at first: the size of its blocks is known, whoever mounts it.
+fn guess_of(alloc: Global, slot: Slot) -> Result<Guess, AllocError> {
+    let mut guess = Guess::new(alloc, slot, BLOCKS)?;
+    if let Some(size) = volume_in(slot).size {
+        guess.set_size(size);
+    }
+    Ok(guess)
 }
 
 /// What a thread does next.
@@ -53,7 +69,7 @@ impl Mind {
         let mut guesses = Vec::with_capacity(alloc, SLOTS)?;
         for index in 0..SLOTS as u8 {
             if let Some(slot) = Slot::new(index) {
-                guesses.push(Guess::new(alloc, slot, BLOCKS)?)?;
+                guesses.push(guess_of(alloc, slot)?)?;
             }
         }
         Ok(Mind {
@@ -133,7 +149,7 @@ fn mount<H: House, D: Workplace<H, R>, R: Wait>(
     let Some(devices) = stock.pop() else {
         return;
     };
-    if let Err((devices, _errno)) = D::mount(rt, host, seat, &size_in(slot), devices) {
+    if let Err((devices, _errno)) = D::mount(rt, host, seat, &volume_in(slot), devices) {
         let _ = stock.push(devices);
     }
 }

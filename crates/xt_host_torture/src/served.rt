@@ -4,7 +4,7 @@ ghost use Rattle.std.specs.Prelude.{◌≡◌, ◌-◌, ◌^◌};
 ghost use Rattle.std.specs.Arc.{arc_value};
 ghost use Rattle.xt_cell.specs.Ledgers.{AreCut, AreNamed};
 
-use crate::working::{Size, Workplace};
+use crate::working::{Volume, Workplace};
 use std::alloc::{AllocError, Global};
 use std::marker::Brand;
 use std::sync::Wait;
@@ -23,18 +23,20 @@ use xt_trials::row::{Row, RowFault, is_printed};
 use xt_trials::seen::Seen;
 
 /// The mount that a row begins with.
-fn size_of(row: &Row) -> Result<Size, RowFault> {
+fn volume_of(row: &Row) -> Result<Volume, RowFault> {
     match row.steps.first() {
         Some(
             Step::Mount {
                 slot,
                 log_bytes,
                 blocks,
+                size,
             },
-        ) => Ok(Size {
+        ) => Ok(Volume {
             slot: *slot,
             log_bytes: *log_bytes,
             blocks: *blocks,
+            size: *size,
         }),
         _ => Err(RowFault::Input),
     }
@@ -45,19 +47,19 @@ fn mount<H: House, D: Workplace<H, R>, R: Wait>(
     rt: &R,
     host: &Host<H, D>,
     seat: &mut HostSeat<H>,
-    size: &Size,
+    volume: &Volume,
     devices: D::Devices,
     seen: &mut Seen,
 )
     requires board { seat.old.board.board ≡ host.now.board }
     ensures board { seat.new.board.board ≡ seat.old.board.board }
 {
-    let Err((devices, errno)) = D::mount(rt, host, seat, size, devices) else {
+    let Err((devices, errno)) = D::mount(rt, host, seat, volume, devices) else {
         return;
     };
     seen.refuse();
     seen.judge(errno == Errno::NoMemory);
-    let again = D::mount(rt, host, seat, size, devices);
+    let again = D::mount(rt, host, seat, volume, devices);
     seen.judge(again.is_ok());
 }
 
@@ -185,7 +187,7 @@ fn run<H: House, R: Wait>(
     requires parts { AreCut H.all blanks }
     requires all { H.all ≡ 2 ^ 64 - 1 }
 {
-    let size = size_of(row)?;
+    let volume = volume_of(row)?;
     let mut seats = Vec::with_capacity(alloc, 1)?;
     let (host, mut seat, mut passes) = match Host::<H>::new(alloc, blanks, 1, BOOK_ENTRIES) {
         Ok(made) => made,
@@ -198,7 +200,7 @@ fn run<H: House, R: Wait>(
     let mut pass = passes.pop().ok_or(RowFault::Input)?;
     let home = Box::new(alloc, MemHome::new(alloc)).map_err(|_| RowFault::Memory)?;
     let log = Box::new(alloc, MemLog::new(alloc)).map_err(|_| RowFault::Memory)?;
-    mount(rt, &host, &mut seat, &size, (home, log), seen);
+    mount(rt, &host, &mut seat, &volume, (home, log), seen);
     take_all(rt, alloc, &host, &mut seat, &mut pass, row, seen)?;
     compare(alloc, row, seat.receipts(), seen)?;
     seats.push_reserved(seat);

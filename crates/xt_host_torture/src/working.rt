@@ -10,6 +10,7 @@ use xt_base::steps::Errno;
 use xt_cell::house::House;
 use xt_cell::job::DoneJob;
 use xt_cell::mount_ref::MountRef;
+use xt_cell::mounting::MountRefused;
 use xt_cell::seat::HostSeat;
 use xt_dev::home::HomeDevice;
 use xt_dev::log::LogDevice;
@@ -18,12 +19,13 @@ use xt_host::gate::Gate;
 use xt_host::host::Host;
 use xt_queue::jobs::WorkPass;
 
-/// What is mounted: a slot, with so many bytes of log and so many blocks.
+/// What is mounted: a slot, with so many bytes of log and so many blocks, of a size where one is said.
 #[derive(Clone, Copy)]
-pub struct Size {
+pub struct Volume {
     pub slot: Slot,
     pub log_bytes: u32,
     pub blocks: u64,
+    pub size: Option<u32>,
 }
 
 /// A desk at whose host slots are mounted, and names are done. A trial is written over it, and names no slot.
@@ -36,7 +38,7 @@ pub trait Workplace<H: House, R: Wait>: Desk<H, R> {
         rt: &R,
         host: &Host<H, Self>,
         seat: &mut HostSeat<H>,
-        size: &Size,
+        volume: &Volume,
         devices: Self::Devices,
     ) -> Result<(), (Self::Devices, Errno)>
     where
@@ -96,6 +98,30 @@ fn end<H: House, R: Wait>(rt: &R, host: &Host<H>, seat: &mut HostSeat<H>, done: 
     unreachable!()
 }
 
+/// Mounts a slot over devices, with blocks of a size where one is said.
+fn mounted<H: House, R: Wait>(
+    rt: &R,
+    host: &Host<H>,
+    seat: &mut HostSeat<H>,
+    volume: &Volume,
+    devices: BoxedDevices,
+) -> Result<MountRef, MountRefused>
+    requires board { seat.old.board.board ≡ host.now.board }
+    ensures board { seat.new.board.board ≡ seat.old.board.board }
+{
+    let (home, log) = devices;
+    let Volume {
+        slot,
+        log_bytes,
+        blocks,
+        size,
+    } = *volume;
+    match size {
+        None => host.mount(rt, seat, slot, log_bytes, blocks, home, log),
+        Some(size) => host.mount_sized(rt, seat, slot, log_bytes, blocks, size, home, log),
+    }
+}
+
 impl<H: House, R: Wait> Workplace<H, R> for Slots<H> {
     type Devices = BoxedDevices;
 
@@ -103,11 +129,10 @@ impl<H: House, R: Wait> Workplace<H, R> for Slots<H> {
         rt: &R,
         host: &Host<H, Slots<H>>,
         seat: &mut HostSeat<H>,
-        size: &Size,
+        volume: &Volume,
         devices: BoxedDevices,
     ) -> Result<(), (BoxedDevices, Errno)> {
-        let (home, log) = devices;
-        match host.mount(rt, seat, size.slot, size.log_bytes, size.blocks, home, log) {
+        match mounted(rt, host, seat, volume, devices) {
             Ok(_at) => Ok(()),
             Err(back) => Err(((back.home, back.log), back.errno)),
         }

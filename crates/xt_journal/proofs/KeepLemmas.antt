@@ -5,8 +5,9 @@ use Rattle.std.specs.Prelude.{is_some, ◌&&◌}
 use Rattle.xt_base.proofs.KeyLemmas.{at_filter_kept}
 use Rattle.xt_base.proofs.MapLemmas.{at_first, at_later, at_put_other, at_put_same, at_without_other, length_put_le, length_without_le, without_first, without_later}
 use Rattle.xt_base.proofs.RisingLemmas.{none_below, rises_filter, rises_put, rises_without}
-use Rattle.xt_base.specs.Legs.{with_edit, with_lost}
+use Rattle.xt_base.specs.Legs.{joined_marks, with_edit, with_lost}
 use Rattle.xt_base.specs.Maps.{at, has, is_in, put, without}
+use Rattle.xt_base.specs.Sized.{IsWithin}
 use Rattle.xt_base.specs.Sound.{RisesFrom}
 use Rattle.xt_base.specs.State.{Change, Frames, Leg}
 use Rattle.xt_frames.proofs.ContentLemmas.{kept_committed, logged_committed, put_committed, saved_contents, undone_committed, without_committed}
@@ -16,8 +17,8 @@ use Rattle.xt_frames.specs.Kept.{Framed, IsClean, clean_of, committed_now, logge
 use Rattle.xt_frames.specs.Settling.{bufs_saved_by}
 use Rattle.xt_journal.proofs.OverLemmas.{alike_above, changed_over}
 use Rattle.xt_journal.specs.Journals.{JournalState}
-use Rattle.xt_journal.specs.Keeping.{AreFramed, change_kept, change_lost, changes_kept, changes_lost, edits_kept, frames_with_edit, fresh_lost, is_saved, leg_lost, lost_with, marks_kept}
-use Rattle.xt_journal.specs.Over.{changes_over, edit_over, frame_bytes, leg_over}
+use Rattle.xt_journal.specs.Keeping.{AreFramed, HaveChunks, change_kept, change_lost, changes_kept, changes_lost, edits_kept, frames_with_edit, fresh_lost, is_saved, leg_lost, lost_with, marks_kept}
+use Rattle.xt_journal.specs.Over.{changes_over, edit_over, frame_bytes, leg_over, shown_over}
 use Rattle.xt_vectors.specs.Edits.{is_in_place}
 
 abbrev FramedBlocks : Type 0
@@ -150,6 +151,20 @@ kept_contents n (e ∷ es) j rises framed =
 pub kept_rest : (cs : Changes) (j : JournalState) → changes_kept cs j ≡ record j { lists = (changes_kept cs j).lists; frames = (changes_kept cs j).frames }
 kept_rest [] j = refl
 kept_rest (e ∷ es) j = kept_rest es (change_kept e.0 e.1 j)
+
+-- ---- chunks that contents have of their items
+-- later changes have them still where the item of an earlier block changes
+chunks_beside : (fs : FramedBlocks) (b : ℕ) (set : List ℕ) (cil : List (ℕ × List ℕ)) (n : ℕ) (cs : Changes) → b < n → RisesFrom n cs → HaveChunks cil (changes_over fs cs) → HaveChunks (put b set cil) (changes_over fs cs)
+chunks_beside fs b set cil n [] less rises have = tt
+chunks_beside fs b set cil n (e ∷ es) less rises have =
+    let shown : Change = shown_over fs e.0 e.1 in (
+      subst (λ o. IfSome shown.edit (λ content. IsWithin (length content) (joined_marks o shown))) (sym (at_put_other b e.0 set cil (λ is. omega (arith, is, less, rises.0)))) have.0,
+      chunks_beside fs b set cil (suc e.0) es (omega (arith, less, rises.0)) rises.1 have.1,
+    )
+
+pub chunks_after : (b : ℕ) (o : Option (List ℕ)) (fs : FramedBlocks) (set : List ℕ) (cil : List (ℕ × List ℕ)) (cs : Changes) → RisesFrom (suc b) cs → HaveChunks cil (changes_over fs cs)
+    → HaveChunks (put b set cil) (changes_over (frames_with_edit b o fs) cs)
+chunks_after b o fs set cil cs rises have = subst (HaveChunks (put b set cil)) (sym (same_after b o fs cs rises)) (chunks_beside fs b set cil (suc b) cs (omega arith) rises have)
 
 -- ---- a leg is given up
 pub lost_others : (cs : Changes) (holds : List ℕ) (f : Bufs) (b : ℕ) → is_in b cs ≡ false → at b (changes_lost cs holds f).frames ≡ at b f.frames

@@ -1,7 +1,8 @@
 -- The end of a leg, as far as it touches the frames and the commit list.
-use Rattle.std.specs.Prelude.{Bool, List, None, Option, Some, [], filter, if◌then◌else◌, not, true, unwrap_or, ℕ, ◌∷◌, ◌≡◌}
+use Rattle.std.specs.Prelude.{Bool, IfSome, List, None, Option, Some, [], filter, if◌then◌else◌, length, not, true, unwrap_or, ℕ, ◌∷◌, ◌≡◌}
 use Rattle.xt_base.specs.Legs.{is_lost, joined_marks, with_edits, with_lost, with_marks}
 use Rattle.xt_base.specs.Maps.{at, has, is_in, put, with_member, without}
+use Rattle.xt_base.specs.Sized.{IsWithin}
 use Rattle.xt_base.specs.Sound.{Each}
 use Rattle.xt_base.specs.State.{Change, Frames, Leg}
 use Rattle.xt_frames.specs.Busy.{changed_in}
@@ -17,6 +18,14 @@ use Rattle.xt_vectors.specs.Vectors.{Vector, vector}
 -- each block that is changed in place has a frame
 abbrev pub AreFramed : List (ℕ × Framed) → List (ℕ × Change) → Type 0
 AreFramed frames cs = Each (λ e. is_in_place e.1.edit ≡ true → is_in e.0 frames ≡ true) cs
+
+-- the content that a change leaves has the chunks of which its block's item is, once the change's marks are joined to those that stand there
+abbrev pub HasChunks : Option (List ℕ) → Change → Type 0
+HasChunks stands change = IfSome change.edit (λ content. IsWithin (length content) (joined_marks stands change))
+
+-- each content that a leg wrote has the chunks of which its item is, once the leg's marks are joined to a commit list
+abbrev pub HaveChunks : List (ℕ × List ℕ) → List (ℕ × Change) → Type 0
+HaveChunks cil changes = Each (λ c. HasChunks (at c.0 cil) c.1) changes
 
 -- the contents with the edits of a leg
 abbrev pub edits_kept : List (ℕ × Change) → Frames → Frames

@@ -3,13 +3,14 @@
 ghost use Rattle.std.specs.Prelude.{ℕ, ◌≡◌, ◌+◌, ◌≤◌, ◌<◌, [], IfSome, false, length, true, unwrap_or};
 ghost use Rattle.xt_base.specs.Chunks.{union};
 ghost use Rattle.xt_base.specs.Maps.{at, is_in, put, without};
+ghost use Rattle.xt_base.specs.Sized.{IsWithin};
 ghost use Rattle.xt_base.specs.Sound.{IsRising};
 ghost use Rattle.xt_frames.specs.Busy.{changed_in};
 ghost use Rattle.xt_frames.specs.Contents.{contents_of};
 ghost use Rattle.xt_frames.specs.Kept.{IsClean, clean_of, committed_now};
 ghost use Rattle.xt_items.specs.Lists.{marked};
-ghost use Rattle.xt_journal.specs.Keeping.{AreFramed, change_kept, changes_kept, edits_kept, marks_kept};
-ghost use Rattle.xt_journal.specs.Over.{changes_over, frame_bytes};
+ghost use Rattle.xt_journal.specs.Keeping.{AreFramed, HasChunks, HaveChunks, change_kept, changes_kept, edits_kept, marks_kept};
+ghost use Rattle.xt_journal.specs.Over.{changes_over, frame_bytes, shown_over};
 ghost use Rattle.xt_vectors.specs.Edits.{is_in_place};
 ghost use Rattle.xt_vectors.specs.Vectors.{no_vector};
 
@@ -27,6 +28,7 @@ impl Journal {
         requires framed { AreFramed self.old.frames.frames leg.old.changes }
         requires frames { length self.old.frames.frames + length leg.old.changes ≤ ROOM }
         requires cil { length self.old.lists.cil + length leg.old.changes ≤ ROOM }
+        requires chunks { HaveChunks self.old.lists.cil (changes_over self.old.frames.frames leg.old.changes) }
         ensures lists { self.new.lists ≡ marks_kept (changes_over self.old.frames.frames leg.old.changes) self.old.lists }
         ensures contents { contents_of self.new.frames ≡ edits_kept (changes_over self.old.frames.frames leg.old.changes) (contents_of self.old.frames) }
         ensures others { (b : ℕ) → is_in b leg.old.changes ≡ false → at b self.new.frames.frames ≡ at b self.old.frames.frames }
@@ -44,6 +46,7 @@ impl Journal {
         requires rising { IsRising leg.old.changes }
         requires frames { length self.old.frames.frames + length leg.old.changes ≤ ROOM }
         requires cil { length self.old.lists.cil + length leg.old.changes ≤ ROOM }
+        requires chunks { HaveChunks self.old.lists.cil (changes_over self.old.frames.frames leg.old.changes) }
         ensures { self.new ≡ changes_kept leg.old.changes self.old }
     {
         while let Some((block, change)) = leg.take_change() {
@@ -56,6 +59,7 @@ impl Journal {
         requires framed { is_in_place change.edit ≡ true → is_in block self.old.frames.frames ≡ true }
         requires frames { length self.old.frames.frames < ROOM }
         requires cil { length self.old.lists.cil < ROOM }
+        requires chunks { HasChunks (at block self.old.lists.cil) (shown_over self.old.frames.frames block change) }
         ensures { self.new ≡ change_kept block change self.old }
     {
         let Change {
@@ -79,13 +83,13 @@ impl Journal {
     fn keep_own(&mut self, block: u64, marks: Chunks, content: Content, room: VectorRoom)
         requires frames { length self.old.frames.frames < ROOM }
         requires cil { length self.old.lists.cil < ROOM }
+        requires chunks { IsWithin (length content) (union (unwrap_or (at block self.old.lists.cil) []) marks) }
         ensures { self.new ≡ record self.old {
           lists = marked block (union (unwrap_or (at block self.old.lists.cil) []) marks) content self.old.lists;
           frames = record self.old.frames { frames = put block (clean_of content) self.old.frames.frames };
         } }
     {
         let _cil = self.items.cil();
-        let _whole = content.bytes();
         self.items.mark(block, marks, &content, room);
         self.frames.commit(block, content);
     }
@@ -94,6 +98,7 @@ impl Journal {
     fn keep_in_place(&mut self, block: u64, marks: Chunks, room: VectorRoom)
         requires there { is_in block self.old.frames.frames ≡ true }
         requires cil { length self.old.lists.cil < ROOM }
+        requires chunks { IsWithin (length (frame_bytes (at block self.old.frames.frames))) (union (unwrap_or (at block self.old.lists.cil) []) marks) }
         ensures { self.new ≡ record self.old {
           lists = marked block (union (unwrap_or (at block self.old.lists.cil) []) marks) (frame_bytes (at block self.old.frames.frames)) self.old.lists;
           frames = record self.old.frames { frames = changed_in committed_now block self.old.frames.frames };
@@ -102,9 +107,7 @@ impl Journal {
         let _cil = self.items.cil();
         match self.frames.frame(block) {
             Some(frame) => {
-                let content = frame.content();
-                let _whole = content.bytes();
-                self.items.mark(block, marks, content, room);
+                self.items.mark(block, marks, frame.content(), room);
             }
             None => unreachable!(),
         }

@@ -8,8 +8,8 @@ use Rattle.xt_base.specs.Maps.{at}
 use Rattle.xt_base.specs.Sized.{AreSizedChanges, HasSize, HaveSize, IsSized, IsSizedChange, IsWithin}
 use Rattle.xt_base.specs.Sound.{Each}
 use Rattle.xt_base.specs.State.{Change, State, Transaction}
+use Rattle.xt_journal.specs.Keeping.{HaveChunks}
 use Rattle.xt_mount.proofs.EndLemmas.{if_some}
-use Rattle.xt_mount.specs.Accounts.{HaveChunks}
 
 -- ---- contents
 found_size : (size b : ℕ) (contents : List (ℕ × List ℕ)) (o : Option (List ℕ)) → o ≡ at b contents → HaveSize size contents → IfSome o (λ content. length content ≡ size)

@@ -1,8 +1,9 @@
 -- What a leg shows after a step at one block: bytes written over its own, in the block's frame or in a content of its own, and a block invalidated.
 use Rattle.std.proofs.Common.{◌≡◌, ◌≢◌, ◌∙◌, ◌<◌, ◌≤◌, ◌++◌, Bool, IfSome, List, None, Option, Some, [], ap, arith, drop, false, if◌then◌else◌, length, length-append, not, refl, subst, sym, take, true, unwrap_or, ℕ, ◌∷◌, ◌+◌}
 use Rattle.std.proofs.lemmas.Bool.{false≢true}
+use Rattle.std.proofs.lemmas.List.{length-replicate}
 use Rattle.std.specs.Prelude.{is_some, option_map, ◌&&◌, ◌||◌}
-use Rattle.xt_base.proofs.MapLemmas.{at_put_other, at_put_same, some_same}
+use Rattle.xt_base.proofs.MapLemmas.{at_put_other, at_put_same}
 use Rattle.xt_base.specs.Calls.{edited, invalidated, overwritten, seen}
 use Rattle.xt_base.specs.Chunks.{marks, union}
 use Rattle.xt_base.specs.Legs.{change_of, is_stale}
@@ -69,6 +70,10 @@ own_seen f b (Some (x ∷ xs)) left own = refl
 not_true : (x : Bool) → not x ≡ true → x ≡ false
 not_true true is = absurd (false≢true is)
 not_true false is = refl
+
+and_right : (x y : Bool) → (x && y) ≡ true → y ≡ true
+and_right true y is = is
+and_right false y is = absurd (false≢true is)
 
 -- those of the frame
 place_by : (size b : ℕ) (frame : Framed) (hidden : Bool) (committed : Option (List ℕ)) → (is_in_place None || not hidden) ≡ true → committed ≡ Some frame.committed → frame.edit ≡ frame.committed
@@ -183,10 +188,6 @@ module _ (b first : ℕ) (bytes marked : List ℕ) (j : JournalState) (u : Trans
   -- they were written in the block's frame
   module _ (frames_rise : IsRising j.frames.frames) (none : is_some (own_edit (change_of b u.leg).edit) ≡ false) (goes : goes_in_place b u.leg j.frames ≡ true)
       (clean : has_in_place b u.leg ≡ false → IfSome (at b j.frames.frames) IsClean) where
-    and_right : (x y : Bool) → (x && y) ≡ true → y ≡ true
-    and_right true y is = is
-    and_right false y is = absurd (false≢true is)
-
     and_left : (x y : Bool) → (x && y) ≡ true → x ≡ true
     and_left true y is = refl
     and_left false y is = absurd (false≢true is)
@@ -252,17 +253,34 @@ module _ (b : ℕ) (j : JournalState) (u : Transaction) (rises : IsRising u.leg.
       subst (λ (x : Transaction). IsStep b (invalidated b (leg_over j.frames.frames u.leg)) m j x u) (sym is)
       (subst (λ (x : JournalState). IsStep b (invalidated b (leg_over j.frames.frames u.leg)) x j stale_now u) (sym moved) (stale_at (at b j.frames.frames) refl))
 
--- ---- lengths
--- bytes of its own are a whole content
-pub own_whole : (e : Option (List ℕ)) (content : List ℕ) → Some content ≡ own_edit e → length content ≡ 4096 → length (unwrap_or e []) ≡ 4096
-own_whole None content own whole = absurd (cc)
-own_whole (Some []) content own whole = absurd (cc)
-own_whole (Some (x ∷ xs)) content own whole = ap length (some_same (x ∷ xs) content (sym own)) ∙ whole
+-- ---- lengths: what ends within the bytes that a leg sees of a block
+module _ (size b end : ℕ) (f : List (ℕ × Framed)) (leg : Leg) (frames : Frames) (room : end ≤ length (seen size b (leg_over f leg) frames)) where
+  abbrev edit_of : Option (List ℕ)
+  edit_of = (change_of b leg).edit
 
--- what ends within a block ends within its frame
-pub frame_has : (o : Option Framed) (end : ℕ) → IfSome o (λ f. length f.edit ≡ 4096) → end ≤ 4096 → IfSome o (λ f. end ≤ length f.edit)
-frame_has None end whole within = tt
-frame_has (Some f) end whole within = omega (arith, whole, within)
+  abbrev is_hidden : Bool
+  is_hidden = has frames.fresh b || is_stale b leg
+
+  room_of : (bytes : List ℕ) → unwrap_or (edit_over f b edit_of) (left_of size b is_hidden frames) ≡ bytes → end ≤ length bytes
+  room_of bytes is = subst (λ xs. end ≤ length xs) (seen_is size b f leg frames ∙ is) room
+
+  -- ends within bytes of its own
+  pub own_room : is_some (own_edit edit_of) ≡ true → end ≤ length (unwrap_or edit_of [])
+  own_room own = room_of (unwrap_or edit_of []) (own_seen f b edit_of (left_of size b is_hidden frames) own)
+
+  -- those of the frame
+  module _ (committed : frames.committed ≡ committed_of f) (none : is_some (own_edit edit_of) ≡ false) where
+    place_room_at : (o : Option Framed) → at b f ≡ o → (is_in_place edit_of || not is_hidden) ≡ true → (is_in_place edit_of ≡ false → IfSome (at b f) IsClean) → IfSome o (λ x. end ≤ length x.edit)
+    place_room_at None there goes clean = tt
+    place_room_at (Some frame) there goes clean =
+        room_of frame.edit (place_seen size b f frame edit_of is_hidden frames there committed none goes (λ away. subst (λ o. IfSome o IsClean) there (clean away)))
+
+    pub place_room : (is_in b f && (is_in_place edit_of || not is_hidden)) ≡ true → (is_in_place edit_of ≡ false → IfSome (at b f) IsClean) → IfSome (at b f) (λ x. end ≤ length x.edit)
+    place_room goes clean = place_room_at (at b f) refl (and_right (is_in b f) (is_in_place edit_of || not is_hidden) goes) clean
+
+  -- zeros
+  pub zeros_room : frames.committed ≡ committed_of f → is_some (own_edit edit_of) ≡ false → (is_in b f && (is_in_place edit_of || not is_hidden)) ≡ false → (is_in_place edit_of ≡ true → is_in b f ≡ true) → end ≤ size
+  zeros_room committed none goes framed = subst (λ n. end ≤ n) (length-replicate size 0) (room_of (zeros size) (zeros_seen size b f edit_of is_hidden frames committed none goes framed))
 
 -- ---- a copy of what a leg sees
 own_is : (f : List (ℕ × Framed)) (b : ℕ) (e : Option (List ℕ)) (left content : List ℕ) → Some content ≡ own_edit e → unwrap_or (edit_over f b e) left ≡ content

@@ -1,10 +1,9 @@
 -- Accounts: the size of the log, the form of the mount, the open transactions, the item lists and the contents, and why the mount is shut, if it is.
-use Rattle.std.specs.Prelude.{ℕ, IfSome, List, [], None, Option, Some, false, length, sum_by, true, ◌+◌, ◌≡◌, ◌⊎◌}
+use Rattle.std.specs.Prelude.{ℕ, List, [], None, Option, Some, false, sum_by, true, ◌+◌, ◌≡◌, ◌⊎◌}
 use Rattle.xt_base.specs.Form.{Form}
 use Rattle.xt_base.specs.Jobs.{cleaned, landed_items}
-use Rattle.xt_base.specs.Legs.{clean_leg, joined_marks, with_edits, with_marks}
-use Rattle.xt_base.specs.Maps.{at, is_in, put, set_at, without}
-use Rattle.xt_base.specs.Sized.{IsWithin}
+use Rattle.xt_base.specs.Legs.{clean_leg, with_edits, with_marks}
+use Rattle.xt_base.specs.Maps.{is_in, put, set_at, without}
 use Rattle.xt_base.specs.Sound.{Each}
 use Rattle.xt_base.specs.Space.{cost, flight_items, granted}
 use Rattle.xt_base.specs.State.{Change, Flight, Frames, Items, Leg, Transaction}
@@ -90,8 +89,3 @@ IsAlone t b ts = Each (λ e. (e.0 ≡ t) ⊎ (is_in b e.1.leg.changes ≡ false)
 -- no open transaction but this one has changed any of these blocks
 abbrev pub AreAlone : ℕ → List (ℕ × Change) → List (ℕ × Transaction) → Type 0
 AreAlone t cs ts = (b : ℕ) → is_in b cs ≡ true → IsAlone t b ts
-
--- ---- sizes
--- each content that a leg wrote has the chunks of which its item is, once the leg's marks are joined to a commit list
-abbrev pub HaveChunks : List (ℕ × List ℕ) → List (ℕ × Change) → Type 0
-HaveChunks cil changes = Each (λ c. IfSome c.1.edit (λ content. IsWithin (length content) (joined_marks (at c.0 cil) c.1))) changes

@@ -1,5 +1,6 @@
 -- What a mount owes, and what is asked of its requests.
-use Rattle.std.specs.Prelude.{ℕ, ◌+◌, ◌==◌, ◌||◌, ◌&&◌, List, [], ◌∷◌, Option, None, Some, Bool, true, false, is_none, length, nat_lt, if◌then◌else◌}
+use Rattle.std.specs.Prelude.{ℕ, ◌+◌, ◌==◌, ◌||◌, ◌&&◌, List, [], ◌∷◌, Option, None, Some, Bool, true, false, is_none, length, nat_lt, not, if◌then◌else◌}
+use Rattle.xt_base.specs.Form.{is_size}
 use Rattle.xt_base.specs.Jobs.{is_owed}
 use Rattle.xt_base.specs.State.{State}
 use Rattle.xt_base.specs.declared.names.JobKind.{JobKind}
@@ -20,10 +21,10 @@ is_of_mount Request.Thaw = true
 is_of_mount Request.Unmount = true
 is_of_mount other = false
 
--- what refuses a new mount, after a last life
-abbrev pub new_refusals : ℕ → ℕ → ℕ → List (Bool × Errno)
-new_refusals last log_bytes blocks =
-    (nat_lt log_bytes LEAST_LOG || nat_lt MOST_LOG log_bytes || (blocks == 0) || nat_lt MOST_BLOCKS blocks, Invalid)
+-- what refuses a new mount, with blocks of a size where one is said, after a last life
+abbrev pub new_refusals : ℕ → ℕ → ℕ → Option ℕ → List (Bool × Errno)
+new_refusals last log_bytes blocks size =
+    (nat_lt log_bytes LEAST_LOG || nat_lt MOST_LOG log_bytes || (blocks == 0) || nat_lt MOST_BLOCKS blocks || not (is_size size), Invalid)
     ∷ (last == 4294967295, NoSpace)
     ∷ []
 

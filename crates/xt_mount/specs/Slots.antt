@@ -67,7 +67,7 @@ IsAnsweredUnlessMemory life request answer r new old =
 abbrev pub life_in : Option State → Option ℕ
 life_in o = option_map (λ m. m.life) o
 
--- its form; an empty slot has that of a mount of today
+-- its form; an empty slot has that of a mount with no size said
 abbrev pub form_in : Option State → Form
 form_in None = form_one
 form_in (Some m) = m.form

@@ -3,11 +3,11 @@
 ghost use Rattle.std.specs.Prelude.{◌≡◌, ◌≤◌, ◌+◌, ◌⊎◌, [], All, None, Some, Ok, false, true, length, is_some, option_copied, IfOk, IfErr, IfSome, if◌then◌else◌};
 ghost use Rattle.xt_base.specs.Alone.{IsCallUnlessMemory, has_begun, may_want_memory};
 ghost use Rattle.xt_base.specs.Calls.{alone_with, asks, first_of, gives};
-ghost use Rattle.xt_base.specs.Form.{form_one};
+ghost use Rattle.xt_base.specs.Form.{form_of, is_size};
 ghost use Rattle.xt_base.specs.Jobs.{begin as begin_step, end as end_step, fits_pieces, fits_plan, flight_pieces, flush as flush_step, flush_plan, is_begun, is_ckpt, is_waiting, posted as posted_state};
 ghost use Rattle.xt_base.specs.Maps.{at, is_in};
 ghost use Rattle.xt_base.specs.Order.{has_size, is_there};
-ghost use Rattle.xt_base.specs.State.{State as AnyState, mount_of};
+ghost use Rattle.xt_base.specs.State.{mount_of};
 ghost use Rattle.xt_base.specs.declared.steps.Errno.TheVariants.{NoMemory};
 ghost use Rattle.xt_frames.specs.Shares.{no_contents};
 ghost use Rattle.xt_mount.specs.Accounts.{IsUnchanged};
@@ -22,7 +22,7 @@ use std::alloc::Global;
 use std::marker::Model;
 use xt_base::form::Form;
 use xt_base::names::{Block, JobKind, JobName, Life};
-use xt_base::sizes::{BLOCK_BYTES, LEAST_LOG, MOST_BLOCKS, MOST_LOG, PIECE_BYTES, TEXT_PIECES};
+use xt_base::sizes::{LEAST_LOG, MOST_BLOCKS, MOST_LOG, PIECE_BYTES, TEXT_PIECES};
 use xt_base::steps::{Answer, Errno, HomeAnswers, LogAnswers, Reason, Reply, Request};
 use xt_frames::share::FrameShare;
 use xt_items::plan::FlushPlan;
@@ -62,34 +62,33 @@ impl Model for Mount {
 
 impl Mount {
     /// A new mount of the slot whose share this is, which has no contents. Its life is the one after `last` (0 at first); it has a log
-    /// of 65,536 to 16,777,216 bytes and a home device of 1 to 1,099,511,627,776 blocks. `Invalid` where a size is outside these,
-    /// `NoSpace` where the last life is the greatest, `NoMemory` where memory is refused; each hands the share back.
+    /// of 65,536 to 16,777,216 bytes and a home device of 1 to 1,099,511,627,776 blocks. With a `size`, which is 512, 1,024, 2,048 or
+    /// 4,096, its blocks have that size and its checkpoints say it; with none its blocks have 4,096 bytes and its checkpoints do not say
+    /// so. `Invalid` where a size is outside these, `NoSpace` where the last life is the greatest, `NoMemory` where memory is refused;
+    /// each hands the share back.
     pub fn new(
         alloc: Global,
         share: FrameShare,
         last: Life,
         log_bytes: u32,
         blocks: u64,
+        size: Option<u32>,
     ) -> Result<Self, (Errno, FrameShare)>
         requires { share ≡ no_contents share.slot }
-        ensures ok { IfOk result (λ mount. (first_of (new_refusals last log_bytes blocks) ≡ None) × (mount ≡ mount_of share.slot (last + 1) log_bytes blocks form_one)) }
-        ensures err { IfErr result (λ refused. (first_of (new_refusals last log_bytes blocks) ≡ Some refused.0) ⊎ ((first_of (new_refusals last log_bytes blocks) ≡ None) × (refused.0 ≡ NoMemory))) }
+        ensures ok { IfOk result (λ mount. (first_of (new_refusals last log_bytes blocks size) ≡ None) × (mount ≡ mount_of share.slot (last + 1) log_bytes blocks (form_of size))) }
+        ensures err { IfErr result (λ refused. (first_of (new_refusals last log_bytes blocks size) ≡ Some refused.0) ⊎ ((first_of (new_refusals last log_bytes blocks size) ≡ None) × (refused.0 ≡ NoMemory))) }
         ensures back { IfErr result (λ refused. refused.1 ≡ share) }
     {
         if log_bytes < LEAST_LOG || log_bytes > MOST_LOG || blocks == 0 || blocks > MOST_BLOCKS {
             return Err((Errno::Invalid, share));
         }
+        let Some(form) = Form::of(size) else {
+            return Err((Errno::Invalid, share));
+        };
         if last.0 == u32::MAX {
             return Err((Errno::NoSpace, share));
         }
-        match Machine::new(
-            alloc,
-            Form::one(),
-            share,
-            Life(last.0 + 1),
-            log_bytes,
-            blocks,
-        ) {
+        match Machine::new(alloc, form, share, Life(last.0 + 1), log_bytes, blocks) {
             Ok(machine) => Ok(Mount { machine }),
             Err(share) => Err((Errno::NoMemory, share)),
         }
@@ -172,14 +171,15 @@ impl Mount {
         self.machine.needs(request)
     }
 
-    /// Serves a request: its reply and the state that it leaves are those of the machine of one mount. Where memory is refused
-    /// the reply is ENOMEM, and nothing changes; no refusal that can be decided without memory is hidden so.
+    /// Serves a request, with the home device's answer where it asks one, a content of the mount's size: its reply and the state that
+    /// it leaves are those of the machine of one mount. Where memory is refused the reply is ENOMEM, and nothing changes; no refusal
+    /// that can be decided without memory is hidden so.
     pub fn serve(&mut self, request: &Request, answer: &Answer) -> Reply
-        requires { is_there (asks request.now self.old) answer.now ≡ true }
+        requires answered { is_there (asks request.now self.old) answer.now ≡ true }
+        requires size { has_size answer.now (Some self.old) ≡ true }
         ensures served { IsCallUnlessMemory (may_want_memory request.now) (alone_with [] request.now answer.now self.old) result self.new self.old }
         ensures same { IsSameMount self.new self.old }
     {
-        answered_in_size(self.machine.accounts.form(), answer);
         match self.machine.serve(request, answer) {
             Ok(reply) => reply,
             Err(_) => Reply::Refused(Errno::NoMemory),
@@ -188,7 +188,8 @@ impl Mount {
 
     /// The same, of a request and an answer that are handed over.
     pub fn call(&mut self, request: Request, answer: Answer) -> Reply
-        requires { is_there (asks request self.old) answer ≡ true }
+        requires answered { is_there (asks request self.old) answer ≡ true }
+        requires size { has_size answer (Some self.old) ≡ true }
         ensures served { IsCallUnlessMemory (may_want_memory request) (alone_with [] request answer self.old) result self.new self.old }
         ensures same { IsSameMount self.new self.old }
     {
@@ -284,13 +285,13 @@ impl Mount {
         Ok(self.machine.flush_plan())
     }
 
-    /// The committed content of a block that no open transaction has changed, 4,096 bytes: what a flush writes home. None where the mount
+    /// The committed content of a block that no open transaction has changed, of the mount's size: what a flush writes home. None where the mount
     /// keeps none, as of a block that is not busy.
     pub fn committed(&self, block: Block) -> Option<&[u8]>
         requires { IsUnchanged block self.now.transactions }
         ensures value { option_copied result ≡ at block self.now.frames.committed }
         ensures size { IfSome result (λ bytes. length bytes.now ≡ self.now.form.size) }
-        ensures whole { IfSome result (λ bytes. length bytes.now ≡ BLOCK_BYTES) }
+        ensures one_of { IfSome result (λ bytes. is_size (Some (length bytes.now)) ≡ true) }
     {
         match self.machine.accounts.committed(block.0) {
             Some(content) => Some(content.bytes()),
@@ -310,18 +311,5 @@ impl Mount {
     {
         let _name = name;
         self.machine.flush(&answers)
-    }
-}
-
-/// A content that a device answers has the size of a mount's blocks, since both have one size today. For a proof, at run time nothing.
-fn answered_in_size(form: Form, answer: &Answer)
-    ensures { (s : AnyState) → s.form ≡ form → has_size answer.now (Some s) ≡ true }
-{
-    let _today = form.block_bytes();
-    match answer {
-        Answer::Content(content) => {
-            let _whole = content.bytes();
-        }
-        Answer::None | Answer::Failed => {}
     }
 }

@@ -1,7 +1,7 @@
 //! An open transaction: its ticket, and what its present leg did.
 
 ghost use Rattle.std.specs.Prelude.{◌≡◌, ◌+◌, ◌*◌, ◌<◌, ◌≤◌, ◌&&◌, ℕ, [], IfOk, IfSome, OnErr, OnOk, Some, false, is_none, is_some, length, nat_le, sum_by, true, unwrap_or};
-ghost use Rattle.xt_base.specs.Calls.{edited, invalidated, legs_after, without_hold};
+ghost use Rattle.xt_base.specs.Calls.{edited, invalidated, legs_after, seen, without_hold};
 ghost use Rattle.xt_base.specs.Chunks.{marks};
 ghost use Rattle.xt_base.specs.Legs.{change_of, clean_leg, is_dirty, with_marks};
 ghost use Rattle.xt_base.specs.Maps.{at, has, is_in, with_member};
@@ -9,7 +9,7 @@ ghost use Rattle.xt_base.specs.Sound.{IsRising};
 ghost use Rattle.xt_base.specs.Space.{change_cost, charge, cost};
 ghost use Rattle.xt_frames.specs.Contents.{contents_of};
 ghost use Rattle.xt_frames.specs.Kept.{IsClean};
-ghost use Rattle.xt_journal.specs.Keeping.{edits_kept, leg_lost, marks_kept};
+ghost use Rattle.xt_journal.specs.Keeping.{HaveChunks, edits_kept, leg_lost, marks_kept};
 ghost use Rattle.xt_journal.specs.Over.{changes_over, leg_over};
 ghost use Rattle.xt_mount.specs.Accounts.{opened_with};
 ghost use Rattle.xt_mount.specs.Shown.{HasFrames, IsStep, goes_in_place, has_in_place, shown_logged};
@@ -125,6 +125,7 @@ impl OpenTrans {
         requires few { is_in block self.old.leg.changes ≡ false → length self.old.leg.changes + length self.old.leg.holds < ROOM }
         requires fits { charge journal.old.form.ends (edited block [] (marks first (length bytes.now)) self.old.leg).changes ≤ self.old.unit }
         requires within { first + length bytes.now ≤ BLOCK_BYTES }
+        requires seen { first + length bytes.now ≤ length (seen journal.old.form.size block (leg_over journal.old.frames.frames self.old.leg) (contents_of journal.old.frames)) }
         requires some { 0 < length bytes.now }
         requires framed { has_in_place block self.old.leg ≡ true → is_in block journal.old.frames.frames ≡ true }
         requires clean { has_in_place block self.old.leg ≡ false → IfSome (at block journal.old.frames.frames) IsClean }
@@ -144,26 +145,18 @@ impl OpenTrans {
 
     /// Whether the leg has bytes of its own of a block.
     fn has_own(&self, block: u64) -> bool
-        ensures value { result ≡ is_some (own_edit (change_of block self.now.leg).edit) }
-        ensures whole { result ≡ true → length (unwrap_or (change_of block self.now.leg).edit []) ≡ BLOCK_BYTES }
+        ensures { result ≡ is_some (own_edit (change_of block self.now.leg).edit) }
     {
-        match self.leg.edit(block) {
-            Some(content) => {
-                let _whole = content.bytes();
-                true
-            }
-            None => false,
-        }
+        self.leg.edit(block).is_some()
     }
 
     /// Whether bytes that the leg writes of a block, of which it has none of its own, go into the block's frame.
     fn goes_in_place(&self, journal: &Journal, block: u64) -> bool
-        ensures value { result ≡ goes_in_place block self.now.leg journal.now.frames }
-        ensures whole { IfSome (at block journal.now.frames.frames) (λ f. length f.edit ≡ BLOCK_BYTES) }
+        ensures { result ≡ goes_in_place block self.now.leg journal.now.frames }
     {
         let frames = journal.frames();
         let leg = &self.leg;
-        has_frame(journal, block)
+        frames.frame(block).is_some()
             && (leg.is_in_place(block) || !(frames.is_fresh(block) || leg.is_stale(block)))
     }
 
@@ -267,7 +260,8 @@ impl OpenTrans {
         requires goes { goes_in_place block self.old.leg journal.old.frames ≡ false }
         requires few { is_in block self.old.leg.changes ≡ false → length self.old.leg.changes + length self.old.leg.holds < ROOM }
         requires fits { charge journal.old.form.ends (edited block [] (marks first (length bytes.now)) self.old.leg).changes ≤ self.old.unit }
-        requires within { first + length bytes.now ≤ BLOCK_BYTES }
+        requires room { first + length bytes.now ≤ BLOCK_BYTES }
+        requires within { first + length bytes.now ≤ journal.old.form.size }
         requires some { 0 < length bytes.now }
         requires framed { has_in_place block self.old.leg ≡ true → is_in block journal.old.frames.frames ≡ true }
         requires clean { has_in_place block self.old.leg ≡ false → IfSome (at block journal.old.frames.frames) IsClean }
@@ -345,6 +339,7 @@ impl OpenTrans {
         requires framed { HasFrames journal.old.frames.frames self.old.leg }
         requires frames { length journal.old.frames.frames + length self.old.leg.changes ≤ ROOM }
         requires cil { length journal.old.lists.cil + length self.old.leg.changes ≤ ROOM }
+        requires chunks { HaveChunks journal.old.lists.cil (changes_over journal.old.frames.frames self.old.leg.changes) }
         requires granted { self.old.unit * self.old.legs ≤ space.old.granted }
         requires legs { 1 ≤ self.old.legs }
         requires paid { cost journal.old.form.ends (with_marks self.old.leg.changes journal.old.lists.cil) ≤ space.old.cil + self.old.unit }
@@ -381,20 +376,6 @@ impl OpenTrans {
         journal.lose_leg(&mut self.leg);
         self.leg.next_leg();
         space.give_up(&mut self.ticket);
-    }
-}
-
-/// Whether a block has a frame: its content is as long as a block.
-fn has_frame(journal: &Journal, block: u64) -> bool
-    ensures value { result ≡ is_in block journal.now.frames.frames }
-    ensures whole { IfSome (at block journal.now.frames.frames) (λ f. length f.edit ≡ BLOCK_BYTES) }
-{
-    match journal.frames().frame(block) {
-        Some(frame) => {
-            let _whole = frame.content().bytes();
-            true
-        }
-        None => false,
     }
 }
 

@@ -3,10 +3,10 @@
 ghost use Rattle.std.specs.Prelude.{◌≡◌, ◌≤◌, ◌+◌, ◌⊎◌, ◌&&◌, All, IfErr, IfOk, IfSome, IsOk, Ok, Some, if◌then◌else◌, is_some, length, option_copied, true, false, None, [], ℕ};
 ghost use Rattle.xt_base.specs.Alone.{has_begun, is_okay, reason_of};
 ghost use Rattle.xt_base.specs.Calls.{first_of, is_unmount};
-ghost use Rattle.xt_base.specs.Form.{form_one};
+ghost use Rattle.xt_base.specs.Form.{form_of, is_size};
 ghost use Rattle.xt_base.specs.Jobs.{fits_pieces, fits_plan, is_begun, is_ckpt, is_owed_as, is_waiting};
 ghost use Rattle.xt_base.specs.Maps.{at, is_in};
-ghost use Rattle.xt_base.specs.Order.{is_there, mount_is, of_life};
+ghost use Rattle.xt_base.specs.Order.{has_size, is_there, mount_is, of_life};
 ghost use Rattle.xt_base.specs.State.{mount_of};
 ghost use Rattle.xt_base.specs.declared.steps.Errno.TheVariants.{NoMemory};
 ghost use Rattle.xt_base.specs.declared.steps.Reply.{Reply as AReply};
@@ -22,7 +22,7 @@ use std::alloc::Global;
 use std::marker::Model;
 use xt_base::form::Form;
 use xt_base::names::{Block, JobKind, JobName, Life, Slot};
-use xt_base::sizes::{BLOCK_BYTES, PIECE_BYTES, TEXT_PIECES};
+use xt_base::sizes::{PIECE_BYTES, TEXT_PIECES};
 use xt_base::steps::{Answer, Errno, HomeAnswers, LogAnswers, Reason, Reply, Request};
 use xt_frames::share::FrameShare;
 use xt_items::plan::FlushPlan;
@@ -167,7 +167,7 @@ impl MountSlot {
         }
     }
 
-    /// The form of its mount; that of a mount of today in an empty slot.
+    /// The form of its mount; in an empty slot that of a mount with no size said.
     pub fn form(&self) -> Form
         ensures { result ≡ form_in self.now.mounted }
     {
@@ -206,13 +206,13 @@ impl MountSlot {
         }
     }
 
-    /// The committed content of a block that no open transaction has changed, 4,096 bytes: what a flush writes home. None where the mount
+    /// The committed content of a block that no open transaction has changed, of the mount's size: what a flush writes home. None where the mount
     /// keeps none.
     pub fn committed(&self, block: Block) -> Option<&[u8]>
         requires { IsUnchangedIn block self.now.mounted }
         ensures value { option_copied result ≡ at block (contents_in self.now.mounted) }
         ensures size { IfSome result (λ bytes. length bytes.now ≡ (form_in self.now.mounted).size) }
-        ensures whole { IfSome result (λ bytes. length bytes.now ≡ BLOCK_BYTES) }
+        ensures one_of { IfSome result (λ bytes. is_size (Some (length bytes.now)) ≡ true) }
     {
         match &self.mount {
             Some(mount) => mount.committed(block),
@@ -221,10 +221,10 @@ impl MountSlot {
     }
 
     // ---- steps
-    /// Makes an empty mount of the next life, with a log of so many bytes and a home device of so many blocks; what refuses
-    /// it is `Mount::new`'s, and `Busy` where the slot is in use.
-    pub fn mount(&mut self, log_bytes: u32, blocks: u64) -> Reply
-        ensures { IsServedUnlessMemory (AStep.Mount self.old.slot log_bytes blocks) result self.new self.old }
+    /// Makes an empty mount of the next life, with a log of so many bytes and a home device of so many blocks, of a size where one is
+    /// said; what refuses it is `Mount::new`'s, and `Busy` where the slot is in use.
+    pub fn mount(&mut self, log_bytes: u32, blocks: u64, size: Option<u32>) -> Reply
+        ensures { IsServedUnlessMemory (AStep.Mount self.old.slot log_bytes blocks size) result self.new self.old }
     {
         if self.mount.is_some() {
             return Reply::Refused(Errno::Busy);
@@ -236,6 +236,7 @@ impl MountSlot {
             self.last_life,
             log_bytes,
             blocks,
+            size,
         ) {
             Ok(life) => {
                 self.last_life = life;
@@ -245,11 +246,12 @@ impl MountSlot {
         }
     }
 
-    /// Serves a request to one life of the slot, with the home device's answer where it asks one: `NoDevice` where the slot
-    /// is empty, `Stale` where it has another life, else the mount's own reply. An unmount that is not refused empties the
-    /// slot.
+    /// Serves a request to one life of the slot, with the home device's answer where it asks one, a content of the mount's size:
+    /// `NoDevice` where the slot is empty, `Stale` where it has another life, else the mount's own reply. An unmount that is not
+    /// refused empties the slot.
     pub fn call(&mut self, life: Life, request: &Request, answer: &Answer) -> Reply
-        requires { is_there (mount_is (of_life life request.now) self.old.mounted) answer.now ≡ true }
+        requires answered { is_there (mount_is (of_life life request.now) self.old.mounted) answer.now ≡ true }
+        requires size { has_size answer.now self.old.mounted ≡ true }
         ensures { IsServedUnlessMemory (AStep.Call self.old.slot life request.now answer.now) result self.new self.old }
     {
         let reply = answered(&mut self.mount, life, request, answer);
@@ -331,20 +333,21 @@ fn mounted(
     last: Life,
     log_bytes: u32,
     blocks: u64,
+    size: Option<u32>,
 ) -> Result<Life, Errno>
     requires there { is_some share.old ≡ true }
     requires empty { IfSome share.old (λ spare. spare ≡ no_contents spare.slot) }
-    ensures life { IfOk result (λ life. (first_of (new_refusals last log_bytes blocks) ≡ None) × (life ≡ last + 1)) }
-    ensures made { IfOk result (λ _. IfSome share.old (λ spare. mount.new ≡ Some (mount_of spare.slot (last + 1) log_bytes blocks form_one))) }
+    ensures life { IfOk result (λ life. (first_of (new_refusals last log_bytes blocks size) ≡ None) × (life ≡ last + 1)) }
+    ensures made { IfOk result (λ _. IfSome share.old (λ spare. mount.new ≡ Some (mount_of spare.slot (last + 1) log_bytes blocks (form_of size)))) }
     ensures lent { IfOk result (λ _. share.new ≡ None) }
-    ensures err { IfErr result (λ errno. (first_of (new_refusals last log_bytes blocks) ≡ Some errno) ⊎ ((first_of (new_refusals last log_bytes blocks) ≡ None) × (errno ≡ NoMemory))) }
+    ensures err { IfErr result (λ errno. (first_of (new_refusals last log_bytes blocks size) ≡ Some errno) ⊎ ((first_of (new_refusals last log_bytes blocks size) ≡ None) × (errno ≡ NoMemory))) }
     ensures kept { IfErr result (λ _. mount.new ≡ mount.old) }
     ensures back { IfErr result (λ _. share.new ≡ share.old) }
 {
     let Some(spare) = share.take() else {
         unreachable!()
     };
-    match Mount::new(alloc, spare, last, log_bytes, blocks) {
+    match Mount::new(alloc, spare, last, log_bytes, blocks, size) {
         Ok(made) => {
             let life = made.life();
             *mount = Some(made);
@@ -373,7 +376,8 @@ fn is_unmounted(request: &Request, reply: &Reply) -> bool
 
 /// What the mount of a life answers to a request, before an unmount empties the slot.
 fn answered(mount: &mut Option<Mount>, life: Life, request: &Request, answer: &Answer) -> Reply
-    requires { is_there (mount_is (of_life life request.now) mount.old) answer.now ≡ true }
+    requires answered { is_there (mount_is (of_life life request.now) mount.old) answer.now ≡ true }
+    requires size { has_size answer.now mount.old ≡ true }
     ensures { IsAnsweredUnlessMemory life request.now answer.now result mount.new mount.old }
 {
     let Some(mounted) = mount else {

@@ -84,7 +84,7 @@ way_written done host lines none old now new way more is = record {
 
 -- each step names one of sixteen slots
 slot_small : (x : Step) → IsStep x → slot_of x < 16
-slot_small (Mount slot log_bytes blocks) is = is.0
+slot_small (Mount slot log_bytes blocks size) is = is.0
 slot_small (Call slot life request answer) is = is.0
 slot_small (Post name) is = is.0
 slot_small (Take worker name) is = is.1.0

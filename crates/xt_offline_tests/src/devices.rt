@@ -5,7 +5,7 @@ use crate::drive::{
 };
 use crate::rows::{
     FAILED_WRITE_IN, FAILED_WRITE_OUT, FLOWN_AGAIN_IN, FLOWN_AGAIN_OUT, INVALIDATED_IN,
-    INVALIDATED_OUT,
+    INVALIDATED_OUT, SMALL_HOME_IN, SMALL_HOME_OUT,
 };
 use std::alloc::Global;
 use std::test::Fail;
@@ -34,13 +34,16 @@ fn are_lines(
     Ok(is_log && is_home && replies == lines_of(alloc, want, Told::Reply)?.as_slice())
 }
 
-/// Whether a call read a block, all of whose bytes are one.
-fn is_read(call: &HomeCall, wanted: Block, byte: u8) -> bool {
+/// Whether a call read a block, all of whose bytes, so many, are one.
+fn is_read(call: &HomeCall, wanted: Block, byte: u8, size: usize) -> bool {
     match call {
         HomeCall::Read {
             block,
             content: Some(content),
-        } => *block == wanted && content.bytes().iter().all(|b| *b == byte),
+        } => {
+            let bytes = content.bytes();
+            *block == wanted && bytes.len() == size && bytes.iter().all(|b| *b == byte)
+        }
         _ => false,
     }
 }
@@ -48,7 +51,7 @@ fn is_read(call: &HomeCall, wanted: Block, byte: u8) -> bool {
 /// Whether the second of two calls of a device, the first of which filled a block with a byte, read this block.
 fn is_read_back(calls: Option<&[HomeCall]>, wanted: Block, byte: u8) -> bool {
     match calls {
-        Some([_, call]) => is_read(call, wanted, byte),
+        Some([_, call]) => is_read(call, wanted, byte, 4096),
         _ => false,
     }
 }
@@ -71,6 +74,17 @@ fn devices_are_offered_each_block_once_its_checkpoints_landed(rt: HostRuntime) -
     let (mut log, mut home) = (MemLog::new(alloc), MemHome::new(alloc));
     let replies = drive(alloc, FLOWN_AGAIN_IN, &mut log, &mut home)?;
     assert!(rt; are_lines(alloc, &replies, log.taken(), home.taken(), FLOWN_AGAIN_OUT)?);
+    Ok(())
+}
+
+#[test]
+fn devices_of_small_blocks_are_asked_for_so_many_bytes(rt: HostRuntime) -> Result<(), Fail> {
+    let alloc = rt.alloc();
+    let (mut log, mut home) = (MemLog::new(alloc), MemHome::new(alloc));
+    let replies = drive(alloc, SMALL_HOME_IN, &mut log, &mut home)?;
+    let read = home.taken().and_then(|calls| calls.first());
+    assert!(rt; read.is_some_and(|call| is_read(call, Block(7), 0, 512)));
+    assert!(rt; are_lines(alloc, &replies, log.taken(), home.taken(), SMALL_HOME_OUT)?);
     Ok(())
 }
 

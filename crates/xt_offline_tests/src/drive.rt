@@ -1,10 +1,11 @@
 //! One mount, driven call by call over devices in memory.
 
-ghost use Rattle.std.specs.Prelude.{◌≡◌, ◌<◌, ◌≤◌, All, length, true, IfOk};
+ghost use Rattle.std.specs.Prelude.{◌≡◌, ◌<◌, ◌≤◌, All, Some, length, true, IfOk};
 ghost use Rattle.xt_base.specs.Calls.{asks};
+ghost use Rattle.xt_base.specs.Form.{is_size};
 ghost use Rattle.xt_base.specs.Jobs.{fits_plan, flush_plan, is_begun, is_waiting};
 ghost use Rattle.xt_base.specs.Maps.{is_in};
-ghost use Rattle.xt_base.specs.Order.{is_answer, is_there};
+ghost use Rattle.xt_base.specs.Order.{has_size, is_answer, is_there};
 ghost use Rattle.xt_frames.specs.Shares.{no_contents};
 ghost use Rattle.xt_mount.specs.Accounts.{IsUnchanged};
 
@@ -128,15 +129,21 @@ pub fn told_home_lines(alloc: Global, slot: Slot, told: &Outcomes) -> Result<Vec
     Ok(lines)
 }
 
-/// What the home device answers to the read of a block.
-fn read(alloc: Global, home: &mut dyn HomeDevice, block: Block) -> Result<Answer, Fail>
-    ensures { IfOk result (λ answer. is_answer answer ≡ true) }
+/// What the home device answers to the read of a block of a mount.
+fn read(
+    alloc: Global,
+    mount: &Mount,
+    home: &mut dyn HomeDevice,
+    block: Block,
+) -> Result<Answer, Fail>
+    ensures answered { IfOk result (λ answer. is_answer answer ≡ true) }
+    ensures size { IfOk result (λ answer. has_size answer (Some mount.now) ≡ true) }
 {
-    let mut bytes = [0; 4096];
-    if home.read(block, &mut bytes).is_err() {
+    let mut bytes = vec![in alloc; 0u8; mount.form().block_bytes()]?;
+    if home.read(block, bytes.as_mut_slice()).is_err() {
         return Ok(Answer::Failed);
     }
-    match Content::of(alloc, bytes.as_slice())? {
+    match Content::of_vec(alloc, bytes)? {
         Some(content) => Ok(Answer::Content(content)),
         None => Err(Fail::from("the length of a block")),
     }
@@ -149,10 +156,11 @@ fn answer_to(
     home: &mut dyn HomeDevice,
     request: &Request,
 ) -> Result<Answer, Fail>
-    ensures { IfOk result (λ answer. is_there (asks request.now mount.now) answer ≡ true) }
+    ensures answered { IfOk result (λ answer. is_there (asks request.now mount.now) answer ≡ true) }
+    ensures size { IfOk result (λ answer. has_size answer (Some mount.now) ≡ true) }
 {
     match mount.needs(request) {
-        Some(block) => read(alloc, home, block),
+        Some(block) => read(alloc, mount, home, block),
         None => Ok(Answer::None),
     }
 }
@@ -219,7 +227,7 @@ fn write_at<'a>(mount: &'a Mount, blocks: &[Block], place: usize) -> (Block, &'a
     requires some { 0 < length blocks.now }
     requires committed { All (λ b. is_in b mount.now.frames.committed ≡ true) blocks.now }
     requires unchanged { All (λ b. IsUnchanged b mount.now.transactions) blocks.now }
-    ensures { length result.1.now ≡ 4096 }
+    ensures { is_size (Some (length result.1.now)) ≡ true }
 {
     let block = blocks[place.min(blocks.len() - 1)];
     match mount.committed(block) {
@@ -308,9 +316,11 @@ fn mounted(alloc: Global, step: Option<&Step>) -> Result<Mount, Fail> {
                 slot,
                 log_bytes,
                 blocks,
+                size,
             },
         ) => {
-            let mount = Mount::new(alloc, share_of(alloc, *slot)?, Life(0), *log_bytes, *blocks);
+            let share = share_of(alloc, *slot)?;
+            let mount = Mount::new(alloc, share, Life(0), *log_bytes, *blocks, *size);
             Ok(mount.map_err(|(errno, _share)| errno)?)
         }
         _ => Err(Fail::from("no mount at first")),

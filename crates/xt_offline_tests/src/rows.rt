@@ -177,3 +177,43 @@ pub const INVALIDATED_OUT: &str = "\
     0 ok\n\
     0 ok\n\
     0 nothing\n";
+
+/// A block of 512 bytes is read, logged and written home.
+pub const SMALL_HOME_IN: &str = "\
+    mount 0 65536 1024 512\n\
+    0.1 alloc 180 1 plain\n\
+    0.1 read t1 7 = 00*512\n\
+    0.1 log t1 7 130 0102\n\
+    0.1 commit t1\n\
+    0.1 force\n\
+    post 0.1.ckpt.1\n\
+    take 0 0.1.ckpt.1\n\
+    begin 0 0.1.ckpt.1\n\
+    end 0 0.1.ckpt.1 1 ok\n\
+    0.1 push\n\
+    post 0.1.flush.2\n\
+    take 0 0.1.flush.2\n\
+    flush 0 0.1.flush.2 ok ok\n\
+    0.1 unmount\n";
+
+/// What it prints.
+pub const SMALL_HOME_OUT: &str = "\
+    0 life 1\n\
+    0 t1\n\
+    0 ok\n\
+    0 ok\n\
+    0 c1\n\
+    0 wait c1\n\
+    0 ok\n\
+    0 ok\n\
+    0 begun c1 1\n\
+    0 landed c1\n\
+    0 log 58435032.00*7.0100000001000002.00*8.0700000002.00*6.0102.00*124.5843453200000001.00*7.01 ok\n\
+    0 logsync ok\n\
+    0 ok\n\
+    0 ok\n\
+    0 ok\n\
+    0 flushed 1\n\
+    0 home 7 00*130.0102.00*380 ok\n\
+    0 homesync ok\n\
+    0 ok\n";

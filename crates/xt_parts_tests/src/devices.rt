@@ -56,13 +56,16 @@ fn log_tells(told: Option<&[LogOffer]>, calls: &[LogCall]) -> bool {
     offers.len() == calls.len()
 }
 
-/// A call of a home device as a test writes it: the block, the byte that its content has all over,
-/// and the answer.
+/// A call of a home device as a test writes it: the block, of 4,096 bytes or a small one of 512, the byte that
+/// its content has all over, and the answer.
 #[derive(Clone, Copy, PartialEq)]
 enum Told {
     Read(u64, Option<u8>),
     Unread(u64),
     Write(u64, Option<u8>, bool),
+    SmallRead(u64, Option<u8>),
+    SmallUnread(u64),
+    SmallWrite(u64, Option<u8>, bool),
     Sync(bool),
 }
 
@@ -77,16 +80,34 @@ fn even_byte(content: &[u8]) -> Option<u8> {
     Some(first)
 }
 
+/// A read as a test writes it.
+fn plain_read(block: u64, content: &[u8]) -> Told {
+    let byte = even_byte(content);
+    match content.len() {
+        512 => Told::SmallRead(block, byte),
+        _ => Told::Read(block, byte),
+    }
+}
+
+/// A write as a test writes it.
+fn plain_write(block: u64, content: &[u8], ok: bool) -> Told {
+    let byte = even_byte(content);
+    match content.len() {
+        512 => Told::SmallWrite(block, byte, ok),
+        _ => Told::Write(block, byte, ok),
+    }
+}
+
 /// A call as a test writes it.
 fn plain(call: &HomeCall) -> Told {
     match call {
         HomeCall::Read {
             block,
             content: Some(content),
-        } => Told::Read(block.0, even_byte(content.bytes())),
+        } => plain_read(block.0, content.bytes()),
         HomeCall::Read { block, .. } => Told::Unread(block.0),
         HomeCall::Offer(HomeOffer::Write { block, content, ok }) => {
-            Told::Write(block.0, even_byte(content.bytes()), *ok)
+            plain_write(block.0, content.bytes(), *ok)
         }
         HomeCall::Offer(HomeOffer::Sync { ok }) => Told::Sync(*ok),
     }
@@ -187,6 +208,32 @@ fn is_written<H: HomeDevice>(home: &mut H, block: u64, byte: u8) -> bool {
     home.write(Block(block), &content).is_ok()
 }
 
+/// The read of a small block, with the answer.
+fn small_read_of<H: HomeDevice>(home: &mut H, block: u64) -> Told {
+    let mut content = [0xff; 512];
+    match home.read(Block(block), &mut content) {
+        Ok(()) => Told::SmallRead(block, even_byte(&content)),
+        Err(_) => Told::SmallUnread(block),
+    }
+}
+
+/// Writes a small block full of one byte, and whether that is answered Ok.
+fn is_small_written<H: HomeDevice>(home: &mut H, block: u64, byte: u8) -> bool {
+    let content = [byte; 512];
+    home.write(Block(block), &content).is_ok()
+}
+
+/// The same call of a small block, or a sync, with the answer that a home device gives to it.
+fn small_answered<H: HomeDevice>(home: &mut H, call: Told) -> Told {
+    match call {
+        Told::SmallWrite(block, Some(byte), _) => {
+            Told::SmallWrite(block, Some(byte), is_small_written(home, block, byte))
+        }
+        Told::SmallRead(block, _) | Told::SmallUnread(block) => small_read_of(home, block),
+        _ => Told::Sync(home.sync().is_ok()),
+    }
+}
+
 /// The same call, with the answer that a home device gives to it. A write of no byte is none.
 fn answered<H: HomeDevice>(home: &mut H, call: Told) -> Told {
     match call {
@@ -195,7 +242,7 @@ fn answered<H: HomeDevice>(home: &mut H, call: Told) -> Told {
             Told::Write(block, Some(byte), is_written(home, block, byte))
         }
         Told::Write(block, None, _) => Told::Unread(block),
-        Told::Sync(_) => Told::Sync(home.sync().is_ok()),
+        small => small_answered(home, small),
     }
 }
 
@@ -240,6 +287,22 @@ fn home_in_memory(rt: HostRuntime) {
         Told::Sync(true),
         Told::Read(7, Some(5)),
         Told::Read(u64::MAX, Some(4)),
+    ];
+    let mut home = MemHome::new(rt.alloc());
+    assert!(rt; home_answers(&mut home, CALLS) && home_tells(home.taken(), CALLS));
+}
+
+/// A block is read as it was written with that length, and else as zeros; the last write is what counts.
+#[test]
+fn small_blocks_in_memory(rt: HostRuntime) {
+    const CALLS: &[Told] = &[
+        Told::SmallWrite(7, Some(3), true),
+        Told::SmallRead(7, Some(3)),
+        Told::SmallRead(8, Some(0)),
+        Told::Read(7, Some(0)),
+        Told::Write(7, Some(5), true),
+        Told::Read(7, Some(5)),
+        Told::SmallRead(7, Some(0)),
     ];
     let mut home = MemHome::new(rt.alloc());
     assert!(rt; home_answers(&mut home, CALLS) && home_tells(home.taken(), CALLS));

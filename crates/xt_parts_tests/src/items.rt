@@ -13,6 +13,7 @@ use xt_base::chunks::Chunks;
 use xt_base::content::Content;
 use xt_base::form::Form;
 use xt_base::map::NumberMap;
+use xt_base::sizes::BLOCK_BYTES;
 use xt_base::steps::HomeAnswers;
 use xt_items::items::Items;
 use xt_items::plan::{FlushPlan, all_ok};
@@ -29,8 +30,10 @@ fn mark(alloc: Global, items: &mut Items, block: u64, first: u32) -> bool
     else {
         return false;
     };
-    // For the proof, that it has all chunks.
-    let _whole = content.bytes();
+    // A block of 4,096 bytes has all chunks.
+    if content.bytes().len() != BLOCK_BYTES {
+        return false;
+    }
     items.mark(block, Chunks::mark(first, 12), &content, room);
     true
 }

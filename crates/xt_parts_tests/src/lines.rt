@@ -3,6 +3,9 @@
 //! A test function is proved too, at a cost that grows with the square of its length. So lines
 //! stand in constants, helpers compare, and a test has few assertions.
 
+ghost use Rattle.std.specs.Prelude.{◌≤◌};
+ghost use Rattle.xt_base.specs.declared.sizes.TheConstants.{DATA_BYTES};
+
 use std::alloc::{AllocError, Global};
 use xt_base::content::Data;
 use xt_base::sizes::DATA_BYTES;
@@ -17,6 +20,10 @@ use xt_text::print_step::print_step;
 const STEPS: &[&str] = &[
     "mount 0 65536 1024",
     "mount 15 4294967295 18446744073709551615",
+    "mount 0 65536 1024 0",
+    "mount 0 65536 1024 512",
+    "mount 0 65536 1024 4096",
+    "mount 15 4294967295 18446744073709551615 4294967295",
     "0.1 alloc 5000 1 plain",
     "15.4294967295 alloc 4294967295 4294967295 perm",
     "0.1 get t1 7",
@@ -25,6 +32,9 @@ const STEPS: &[&str] = &[
     "0.1 read t1 7",
     "0.1 read t1 7 = 55*4096",
     "0.1 read t1 7 = 11.00*4095",
+    "0.1 read t1 7 = 55*512",
+    "0.1 read t1 7 = 11.00*1023",
+    "0.1 read t1 7 = 00*2047.11",
     "0.1 read t1 7 = fail",
     "15.4294967295 read t18446744073709551615 18446744073709551615 = fail",
     "0.1 view t1 7",
@@ -118,6 +128,14 @@ const FIELDS: &[(&str, &str)] = &[
         "Call { slot: Slot(3), life: Life(9), request: ForceTo { number: CkptNo(5) }, answer: \
          None }",
     ),
+    (
+        "mount 3 65536 1024",
+        "Mount { slot: Slot(3), log_bytes: 65536, blocks: 1024, size: None }",
+    ),
+    (
+        "mount 3 65536 1024 512",
+        "Mount { slot: Slot(3), log_bytes: 65536, blocks: 1024, size: Some(512) }",
+    ),
     ("show 11", "Show(Slot(11))"),
     ("peek 12", "Peek(Slot(12))"),
     (
@@ -182,8 +200,10 @@ fn first_alone() -> [u8; DATA_BYTES] {
     bytes
 }
 
-/// Whether a line is the read of block 7 in transaction 5, answered by such a content.
-fn has_content(alloc: Global, line: &str) -> bool {
+/// Whether a line is the read of block 7 in transaction 5, answered by the first so many of such bytes.
+fn has_content(alloc: Global, line: &str, size: usize) -> bool
+    requires { size ≤ DATA_BYTES }
+{
     let Ok(step) = parse_line(alloc, line.as_bytes()) else {
         return false;
     };
@@ -192,14 +212,15 @@ fn has_content(alloc: Global, line: &str) -> bool {
             request: Request::Read { trans, block },
             answer: Answer::Content(content),
             ..
-        } => (trans.0, block.0) == (5, 7) && content.bytes() == first_alone().as_slice(),
+        } => (trans.0, block.0) == (5, 7) && content.bytes() == &first_alone()[..size],
         _ => false,
     }
 }
 
 #[test]
 fn contents_of_reads_are_read(rt: HostRuntime) {
-    assert!(rt; has_content(rt.alloc(), "3.9 read t5 7 = 11.00*4095"));
+    assert!(rt; has_content(rt.alloc(), "3.9 read t5 7 = 11.00*4095", 4096));
+    assert!(rt; has_content(rt.alloc(), "3.9 read t5 7 = 11.00*511", 512));
 }
 
 /// Answers of reads in other spellings.
@@ -208,7 +229,10 @@ const BAD_READS: &[&str] = &[
     "0.1 read t1 7 = ",
     "0.1 read t1 7 = -",
     "0.1 read t1 7 = 55",
-    "0.1 read t1 7 = 55*512",
+    "0.1 read t1 7 = 55*128",
+    "0.1 read t1 7 = 55*511",
+    "0.1 read t1 7 = 55*513",
+    "0.1 read t1 7 = 55*1536",
     "0.1 read t1 7 = 55*4095",
     "0.1 read t1 7 = 55*4097",
     "0.1 read t1 7 = ok",
@@ -305,7 +329,12 @@ const BAD_LINES: &[&str] = &[
     "mount 0 65536 1024 ",
     " mount 0 65536 1024",
     "mount 0 65536 1024\r",
-    "mount 0 65536 1024 4096",
+    "mount 0 65536 1024 4096 ",
+    "mount 0 65536 1024 04096",
+    "mount 0 65536 1024 4294967296",
+    "mount 0 65536 1024 512 512",
+    "mount 0 65536 1024 -",
+    "mount 0 65536 1024  512",
     "mount  0 65536 1024",
     "mount\t0 65536 1024",
     "mount 00 65536 1024",

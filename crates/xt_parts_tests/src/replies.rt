@@ -88,6 +88,9 @@ fn names_of_refusals_and_reasons_are_printed(rt: HostRuntime) {
 fn a_content_is_printed(rt: HostRuntime) -> Result<(), AllocError> {
     let zeros = Reply::Data(Content::zeros(rt.alloc(), Form::one())?);
     assert!(rt; is_said(rt.alloc(), &zeros, "data 00*4096")?);
+    let small = Form::of(Some(512)).ok_or(AllocError)?;
+    let zeros = Reply::Data(Content::zeros(rt.alloc(), small)?);
+    assert!(rt; is_said(rt.alloc(), &zeros, "data 00*512")?);
     Ok(())
 }
 

@@ -5,6 +5,7 @@ use std::test::*;
 use xt_base::chunks::Chunks;
 use xt_base::content::Content;
 use xt_base::form::Form;
+use xt_base::sizes::BLOCK_BYTES;
 use xt_vectors::edit::Edit;
 use xt_vectors::vector::{LogVector, VectorRoom};
 
@@ -16,12 +17,9 @@ fn two_chunks(alloc: Global) -> Result<LogVector, AllocError> {
     let chunks = Chunks::mark(130, 1).union(Chunks::mark(400, 1));
     let (content, room) = edit.into_parts();
     match content {
-        Some(content) => {
-            // For the proof, that it has all chunks.
-            let _whole = content.bytes();
-            Ok(room.filled(&content, chunks))
-        }
-        None => Ok(LogVector::none()),
+        // A block of 4,096 bytes has all chunks.
+        Some(content) if content.bytes().len() == BLOCK_BYTES => Ok(room.filled(&content, chunks)),
+        _ => Ok(LogVector::none()),
     }
 }
 

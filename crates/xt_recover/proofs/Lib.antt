@@ -1,9 +1,11 @@
 pub mod TextEntries
+pub mod SizeLemmas
 pub mod SaidLemmas
 pub mod ReadLemmas
 pub mod BytesTheorem
 pub mod AgainLemmas
 pub mod PlaceLemmas
+pub mod WholeLemmas
 pub mod LaidLemmas
 pub mod GatherLemmas
 pub mod WriteLemmas

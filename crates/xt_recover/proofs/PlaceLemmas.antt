@@ -1,14 +1,15 @@
 -- Bytes of chunks that are put at their places one by one.
 use Rattle.std.proofs.Common.{add-one, ◌≡◌, ◌∙◌, ◌*◌, ◌+◌, ◌≤◌, ◌<◌, ◌∷◌, ◌++◌, Bool, List, [], ap, arith, append-nil, false, filter, length, length-append, refl, suc, sym, true, zero, ℕ}
-use Rattle.std.proofs.lemmas.List.{drop-drop}
+use Rattle.std.proofs.lemmas.List.{drop-drop, take-append-drop}
 use Rattle.std.proofs.lemmas.List.Elements.{filter-append}
 use Rattle.std.specs.Int.{bit_at}
-use Rattle.std.specs.Prelude.{drop, if◌then◌else◌, take, ◌-◌, ◌==◌}
+use Rattle.std.specs.Prelude.{drop, if◌then◌else◌, take, ◌-◌, ◌/◌, ◌==◌}
 use Rattle.xt_base.specs.Calls.{overwritten}
 use Rattle.xt_base.specs.Chunks.{below, chunks_where, places_of}
-use Rattle.std.proofs.lemmas.Bool.{eq-eqb, or_left, or_right}
 use Rattle.std.proofs.lemmas.List.Concat.{flat_map-cons}
-use Rattle.xt_base.specs.Maps.{has}
+use Rattle.xt_base.proofs.ChunkCounts.{has-chunks_where}
+use Rattle.xt_base.proofs.KeyLemmas.{each_has}
+use Rattle.xt_base.specs.Sized.{IsWithin}
 use Rattle.xt_base.specs.Text.{chunk, chunk_bytes}
 use Rattle.xt_recover.proofs.SaidLemmas.{drop_front, length_chunk, take_front}
 use Rattle.xt_recover.specs.Chunks.{merged, with_chunks}
@@ -102,12 +103,37 @@ merged_all word k new old low high =
     ap (λ n. merged (filter (λ k. bit_at word k == 1) (below n)) new old) is ∙ ap (λ xs. merged xs new old) (sym (places_are word))
 
 -- so their bytes stand at their places
-pub merged_is : (set new old : List ℕ) → length new ≡ 4096 → ((c : ℕ) → has set c ≡ true → c < 32) → merged set new old ≡ with_chunks set (chunk_bytes new set) old
-merged_is [] new old whole small = refl
-merged_is (c ∷ cs) new old whole small =
-    let first : c < 32 = small c (or_left (c == c) (has cs c) (eq-eqb c c refl)) in
-    let len : length (chunk new c) ≡ 128 = length_chunk new c whole first in
+pub merged_is : (size : ℕ) (set new old : List ℕ) → length new ≡ size → IsWithin size set → merged set new old ≡ with_chunks set (chunk_bytes new set) old
+merged_is size [] new old whole within = refl
+merged_is size (c ∷ cs) new old whole within =
+    let len : length (chunk new c) ≡ 128 = length_chunk size new c whole within.0 in
     let bytes : chunk_bytes new (c ∷ cs) ≡ chunk new c ++ chunk_bytes new cs = flat_map-cons (chunk new) c cs in
-    merged_is cs new (overwritten (128 * c) (chunk new c) old) whole (λ q there. small q (or_right (q == c) (has cs q) there))
+    merged_is size cs new (overwritten (128 * c) (chunk new c) old) whole within.1
     ∙ ap (λ xs. with_chunks cs (chunk_bytes new cs) (overwritten (128 * c) xs old)) (sym (ap (take 128) bytes ∙ take_front (chunk new c) (chunk_bytes new cs) 128 len))
     ∙ ap (λ xs. with_chunks cs xs (overwritten (128 * c) (take 128 (chunk_bytes new (c ∷ cs))) old)) (sym (ap (drop 128) bytes ∙ drop_front (chunk new c) (chunk_bytes new cs) 128 len))
+
+-- ---- blocks that have fewer chunks
+-- a marked chunk lies in a content that has the chunks of the word
+pub fits_marked : (word k size len : ℕ) → k < 32 → IsWithin size (places_of word) → len ≡ size → (if bit_at word k == 1 then 128 * k + 128 else 0) ≤ len
+fits_marked word k size len small within is = by_mark (bit_at word k == 1) refl
+  where
+    by_mark : (t : Bool) → (bit_at word k == 1) ≡ t → (if t then 128 * k + 128 else 0) ≤ len
+    by_mark false off = omega arith
+    by_mark true on =
+        let fits : 128 * k + 128 ≤ size = each_has (λ q. 128 * q + 128 ≤ size) k (places_of word) (has-chunks_where (λ q. bit_at word q == 1) k small ∙ on) within in
+        omega (arith, fits, is)
+
+none_behind : (n : ℕ) (xs : List ℕ) → length xs ≤ n → drop n xs ≡ []
+none_behind zero [] h = refl
+none_behind (suc n) [] h = refl
+none_behind zero (x ∷ xs) h = absurd (omega (arith, h))
+none_behind (suc n) (x ∷ xs) h = none_behind n xs (omega (arith, h))
+
+-- a chunk behind the end of a block that has whole chunks is none, and to put it changes nothing
+pub copied_beyond : (k : ℕ) (content block : List ℕ) → length content ≡ 128 * (length content / 128) → length content ≡ length block → length content < 128 * k + 128 → block ≡ overwritten (128 * k) (chunk content k) block
+copied_beyond k content block whole same short =
+    let none : chunk content k ≡ [] = ap (take 128) (none_behind (128 * k) content (omega (arith, whole, short))) in
+    sym (ap (λ xs. overwritten (128 * k) xs block) none ∙ ap (λ xs. xs ++ drop (128 * k + 0) block) (append-nil (take (128 * k) block)) ∙ ap (λ n. take (128 * k) block ++ drop n block) (same_place (128 * k)) ∙ take-append-drop (128 * k) block)
+  where
+    same_place : (n : ℕ) → n + 0 ≡ n
+    same_place n = omega arith

@@ -1,14 +1,15 @@
 -- What is read of the texts says what the texts say.
-use Rattle.std.proofs.Common.{◌≡◌, ◌∙◌, ◌*◌, ◌∷◌, ◌++◌, Bool, List, None, Some, [], ap, arith, false, inl, inr, length, map, refl, sym, true, ℕ}
-use Rattle.std.proofs.lemmas.Bool.{and_parts, cases_Bool, cases_eq, eq-eqb, ltb-true, ne_eqb, or_left, or_right}
+use Rattle.std.proofs.Common.{◌≡◌, ◌∙◌, ◌*◌, ◌+◌, ◌≤◌, ◌∷◌, ◌++◌, Bool, List, None, Some, [], ap, arith, false, inl, inr, length, map, refl, sym, true, ℕ}
+use Rattle.std.proofs.lemmas.Bool.{cases_Bool, cases_eq, eq-eqb, ne_eqb, or_left}
 use Rattle.std.proofs.lemmas.List.{length-drop, length-take-le, take-append-le}
 use Rattle.std.proofs.lemmas.List.Concat.{flat_map-cons}
 use Rattle.std.proofs.Math.Seq.{drop-append_seam}
-use Rattle.std.specs.Int.{bit_at}
-use Rattle.std.specs.Prelude.{drop, if◌then◌else◌, is_some, nat_lt, take, unwrap_or, ◌<◌, ◌==◌, ◌&&◌, ◌||◌}
-use Rattle.xt_base.proofs.ChunkLemmas.{has-chunks_where}
+use Rattle.std.specs.Prelude.{drop, if◌then◌else◌, is_some, take, unwrap_or, ◌==◌, ◌&&◌, ◌||◌}
 use Rattle.xt_base.proofs.MapLemmas.{at_first, at_later, some_none, some_same}
 use Rattle.xt_base.specs.Maps.{at, has, is_in}
+use Rattle.xt_base.proofs.RisingLemmas.{each_at}
+use Rattle.xt_base.specs.Form.{Form}
+use Rattle.xt_base.specs.Sized.{IsWithin}
 use Rattle.xt_base.specs.Sound.{Each}
 use Rattle.xt_base.specs.Text.{chunk, chunk_bytes}
 use Rattle.xt_ckpt.specs.Grammar.{Entry}
@@ -17,12 +18,12 @@ use Rattle.xt_recover.specs.Replay.{chunk_in, chunk_in_texts, chunk_over, entry_
 use Rattle.xt_recovery.proofs.MatchLegs.{cases_option}
 use Rattle.xt_recovery.proofs.MatchLemmas.{no_chunks, no_item}
 use Rattle.xt_recovery.proofs.LogLemmas.{first_if, found_cancel, found_first, found_later, second_if}
-use Rattle.xt_recovery.proofs.Formed.{IsChunkSet, IsWellFormed}
+use Rattle.xt_recovery.proofs.Formed.{IsWellFormed}
 use Rattle.xt_recovery.specs.Log.{CheckpointText, chunks_of, is_cancel, logged_chunk}
 
--- a chunk has 128 bytes
-pub length_chunk : (content : List ℕ) (k : ℕ) → length content ≡ 4096 → k < 32 → length (chunk content k) ≡ 128
-length_chunk content k whole small = length-take-le 128 (drop (128 * k) content) (omega (arith, whole, small, length-drop (128 * k) content))
+-- a chunk that a block has is 128 bytes
+pub length_chunk : (size : ℕ) (content : List ℕ) (k : ℕ) → length content ≡ size → 128 * k + 128 ≤ size → length (chunk content k) ≡ 128
+length_chunk size content k whole fits = length-take-le 128 (drop (128 * k) content) (omega (arith, whole, fits, length-drop (128 * k) content))
 
 bytes_more : (content : List ℕ) (c : ℕ) (cs : List ℕ) → chunk_bytes content (c ∷ cs) ≡ chunk content c ++ chunk_bytes content cs
 bytes_more content c cs = flat_map-cons (chunk content) c cs
@@ -38,11 +39,10 @@ pub drop_front : (a b : List ℕ) (n : ℕ) → length a ≡ n → drop n (a ++ 
 drop_front a b n is = ap (λ m. drop m (a ++ b)) (sym is) ∙ drop-append_seam a b
 
 -- an item's bytes of a chunk that it has, and none of another
-pub chunk_found : (content set : List ℕ) (k : ℕ) → length content ≡ 4096 → ((c : ℕ) → has set c ≡ true → c < 32) → chunk_in set (chunk_bytes content set) k ≡ (if has set k then Some (chunk content k) else None)
-chunk_found content [] k whole small = refl
-chunk_found content (c ∷ cs) k whole small =
-    let first : c < 32 = small c (or_left (c == c) (has cs c) (eq-eqb c c refl)) in
-    let len = length_chunk content c whole first in
+pub chunk_found : (size : ℕ) (content set : List ℕ) (k : ℕ) → length content ≡ size → IsWithin size set → chunk_in set (chunk_bytes content set) k ≡ (if has set k then Some (chunk content k) else None)
+chunk_found size content [] k whole within = refl
+chunk_found size content (c ∷ cs) k whole within =
+    let len = length_chunk size content c whole within.0 in
     elim (cases_eq k c) [
       | inl same ↦
           first_if (k == c) (Some (take 128 (chunk_bytes content (c ∷ cs)))) (chunk_in cs (drop 128 (chunk_bytes content (c ∷ cs))) k) (eq-eqb k c same)
@@ -51,15 +51,9 @@ chunk_found content (c ∷ cs) k whole small =
       | inr other ↦
           second_if (k == c) (Some (take 128 (chunk_bytes content (c ∷ cs)))) (chunk_in cs (drop 128 (chunk_bytes content (c ∷ cs))) k) (ne_eqb k c other)
           ∙ ap (λ xs. chunk_in cs (drop 128 xs) k) (bytes_more content c cs) ∙ ap (λ xs. chunk_in cs xs k) (drop_front (chunk content c) (chunk_bytes content cs) 128 len)
-          ∙ chunk_found content cs k whole (λ q there. small q (or_right (q == c) (has cs q) there))
+          ∙ chunk_found size content cs k whole within.1
           ∙ ap (λ (t : Bool). if t then Some (chunk content k) else None) (sym (ap (λ x. x || has cs k) (ne_eqb k c other)))
     ]
-
--- a set has chunks below 32
-pub set_small : (set : List ℕ) (c : ℕ) → IsChunkSet set → has set c ≡ true → c < 32
-set_small set c is there =
-    let both = sym (has-chunks_where (λ k. bit_at is.0 k == 1) c) ∙ ap (λ xs. has xs c) (sym is.2) ∙ there in
-    ltb-true c 32 (and_parts (nat_lt c 32) (bit_at is.0 c == 1) both).0
 
 -- ---- one text
 entry_none : (contents : ℕ → List ℕ) (items : List (ℕ × List ℕ)) (b : ℕ) → at b items ≡ None → entry_of b (map (λ e. record { block = e.0; chunks = e.1; content = chunk_bytes (contents e.0) e.1 }) items) ≡ None
@@ -90,14 +84,14 @@ abbrev entry_for : CheckpointText → ℕ → List ℕ → Entry
 entry_for w b set = record { block = b; chunks = set; content = chunk_bytes (w.contents b) set }
 
 -- an item with chunks, over what is older
-item_said : (w : CheckpointText) (ws : List CheckpointText) (b k : ℕ) (set : List ℕ) (here : Bool) → IsWellFormed w → at b w.items ≡ Some set → (length set == 0) ≡ false → has set k ≡ here
+item_said : (form : Form) (w : CheckpointText) (ws : List CheckpointText) (b k : ℕ) (set : List ℕ) (here : Bool) → IsWellFormed form w → at b w.items ≡ Some set → (length set == 0) ≡ false → has set k ≡ here
     → chunk_over (Some (entry_for w b set)) k (logged_chunk ws b k) ≡ logged_chunk (w ∷ ws) b k
-item_said w ws b k set here p is some there =
-    let small : (c : ℕ) → has set c ≡ true → c < 32 = λ c h. set_small set c ((p.fit b set is).1) h in
+item_said form w ws b k set here p is some there =
+    let within : IsWithin form.size set = each_at (λ e. IsWithin form.size e.1) b set w.items is p.within in
     let said_it : chunk_over (Some (entry_for w b set)) k (logged_chunk ws b k) ≡ or_older (chunk_in set (chunk_bytes (w.contents b) set) k) (logged_chunk ws b k) =
     second_if (length set == 0) None (or_older (chunk_in set (chunk_bytes (w.contents b) set) k) (logged_chunk ws b k)) some in
     let by : or_older (chunk_in set (chunk_bytes (w.contents b) set) k) (logged_chunk ws b k) ≡ or_older (if here then Some (chunk (w.contents b) k) else None) (logged_chunk ws b k) =
-    ap (λ o. or_older o (logged_chunk ws b k)) (chunk_found (w.contents b) set k (p.whole b) small ∙ ap (λ (t : Bool). if t then Some (chunk (w.contents b) k) else None) there) in
+    ap (λ o. or_older o (logged_chunk ws b k)) (chunk_found form.size (w.contents b) set k (p.whole b) within ∙ ap (λ (t : Bool). if t then Some (chunk (w.contents b) k) else None) there) in
     let other : is_cancel b w.items ≡ false = ap (λ o. is_some o && (length (unwrap_or o []) == 0)) is ∙ some in
     let chunks : chunks_of b w.items ≡ set = ap (λ o. unwrap_or o []) is in
     said_it ∙ by ∙ by_case here other (ap (λ xs. has xs k) chunks ∙ there)
@@ -106,8 +100,8 @@ item_said w ws b k set here p is some there =
     by_case true other h = sym (found_first w ws b k other h)
     by_case false other h = sym (found_later w ws b k other h)
 
-one_said : (w : CheckpointText) (ws : List CheckpointText) (b k : ℕ) → IsWellFormed w → chunk_over (entry_of b (entries_of w)) k (logged_chunk ws b k) ≡ logged_chunk (w ∷ ws) b k
-one_said w ws b k p =
+one_said : (form : Form) (w : CheckpointText) (ws : List CheckpointText) (b k : ℕ) → IsWellFormed form w → chunk_over (entry_of b (entries_of w)) k (logged_chunk ws b k) ≡ logged_chunk (w ∷ ws) b k
+one_said form w ws b k p =
     elim (cases_option (at b w.items)) [
       | inl none ↦
           let absent : is_in b w.items ≡ false = ap is_some none in
@@ -118,11 +112,11 @@ one_said w ws b k p =
             | inl cancels ↦
                 first_if (length item.0 == 0) None (or_older (chunk_in item.0 (chunk_bytes (w.contents b) item.0) k) (logged_chunk ws b k)) cancels
                 ∙ sym (found_cancel w ws b k (ap (λ o. is_some o && (length (unwrap_or o []) == 0)) item.1 ∙ cancels))
-            | inr some ↦ item_said w ws b k item.0 (has item.0 k) p item.1 some refl
+            | inr some ↦ item_said form w ws b k item.0 (has item.0 k) p item.1 some refl
           ]
     ]
 
 -- what is read of the texts of a log says what the log says
-pub said_found : (log : List CheckpointText) (b k : ℕ) → Each IsWellFormed log → chunk_in_texts (map entries_of log) b k ≡ logged_chunk log b k
-said_found [] b k all = refl
-said_found (w ∷ ws) b k all = ap (chunk_over (entry_of b (entries_of w)) k) (said_found ws b k all.1) ∙ one_said w ws b k all.0
+pub said_found : (form : Form) (log : List CheckpointText) (b k : ℕ) → Each (IsWellFormed form) log → chunk_in_texts (map entries_of log) b k ≡ logged_chunk log b k
+said_found form [] b k all = refl
+said_found form (w ∷ ws) b k all = ap (chunk_over (entry_of b (entries_of w)) k) (said_found form ws b k all.1) ∙ one_said form w ws b k all.0

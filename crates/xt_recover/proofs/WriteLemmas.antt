@@ -5,6 +5,7 @@ use Rattle.xt_base.specs.declared.steps.HomeOffer.{HomeOffer}
 use Rattle.xt_dev.specs.Devices.{Tells}
 use Rattle.xt_dev.specs.declared.call.HomeCall.{HomeCall}
 use Rattle.xt_recover.specs.Overlaid.{Overlaid}
+use Rattle.xt_recover.specs.Sizes.{block_size}
 use Rattle.xt_recover.specs.Writing.{AreWritten, GoOn, TellsBlock, TellsStopped, TellsWritten, block_calls, chunks_at}
 use Rattle.xt_recover.specs.Chunks.{merged}
 
@@ -19,7 +20,7 @@ pub record SoWritten (l : Overlaid) (left : List (ℕ × List ℕ)) (told : Bool
 pub so_none : (l : Overlaid) (left : List (ℕ × List ℕ)) (told : Bool) (before : List HomeCall) → left ≡ l.contents → SoWritten l left told before told before
 so_none l left told before is = record { done = []; parts = sym is; calls = []; written = refl; tells = λ t. (t, sym (append-nil before)) }
 
-written_more : (l : Overlaid) (done : List (ℕ × List ℕ)) (e : ℕ × List ℕ) (calls : List HomeCall) (old : List ℕ) → length old ≡ 4096 → length e.1 ≡ 4096 → AreWritten l done calls → AreWritten l (done ++ e ∷ []) (calls ++ block_calls l e old)
+written_more : (l : Overlaid) (done : List (ℕ × List ℕ)) (e : ℕ × List ℕ) (calls : List HomeCall) (old : List ℕ) → length old ≡ block_size l.size → length e.1 ≡ block_size l.size → AreWritten l done calls → AreWritten l (done ++ e ∷ []) (calls ++ block_calls l e old)
 written_more l [] e calls old whole own w = (old, [], whole, own, ap (λ cs. cs ++ block_calls l e old) w, refl)
 written_more l (d ∷ ds) e calls old whole own w =
     (w.0, w.1 ++ block_calls l e old, w.2, w.3, ap (λ cs. cs ++ block_calls l e old) w.4 ∙ append_assoc (block_calls l d w.0) w.1 (block_calls l e old), written_more l ds e w.1 old whole own w.5)
@@ -62,10 +63,10 @@ go_written l (e ∷ es) calls rest w goes =
 
 -- a block was not read
 pub stopped_read : (l : Overlaid) (b : ℕ) (t u : Bool) (before after : List HomeCall) → Tells t before (HomeCall.Read b None ∷ []) u after → TellsStopped l t before u after
-stopped_read l b t u before after tells = record { calls = HomeCall.Read b None ∷ []; goes = GoOn.read b None; tells = tells }
+stopped_read l b t u before after tells = record { calls = HomeCall.Read b None ∷ []; goes = GoOn.unread b; tells = tells }
 
 -- a block was not written
-pub stopped_write : (l : Overlaid) (b : ℕ) (content old new : List ℕ) (t u v : Bool) (before mid after : List HomeCall) → length content ≡ 4096 → length old ≡ 4096 → new ≡ merged (chunks_at l b) content old
+pub stopped_write : (l : Overlaid) (b : ℕ) (content old new : List ℕ) (t u v : Bool) (before mid after : List HomeCall) → length content ≡ block_size l.size → length old ≡ block_size l.size → new ≡ merged (chunks_at l b) content old
     → Tells t before (HomeCall.Read b (Some old) ∷ []) u mid → Tells u mid (HomeCall.Offer (HomeOffer.Write b new false) ∷ []) v after → TellsStopped l t before v after
 stopped_write l b content old new t u v before mid after own whole is first second = record {
   calls = HomeCall.Read b (Some old) ∷ HomeCall.Offer (HomeOffer.Write b (merged (chunks_at l b) content old) false) ∷ [];

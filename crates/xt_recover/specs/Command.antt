@@ -14,7 +14,7 @@ numbered words number = (words ++ decimal number) ++ 10 ∷ []
 abbrev pub rest_lines : ℕ → List ℕ
 rest_lines count = if count == 0 then [] else numbered (codes "rest ") count
 
--- where a field breaks its rule, or a text that says the size of a block begins, counted in the log from 0
+-- where a field breaks its rule, or a text begins that says something else of the size of a block than those before it, counted in the log from 0
 abbrev pub fault_line : ℕ → List ℕ
 fault_line offset = numbered (codes "fault ") offset
 
@@ -39,7 +39,7 @@ IsPrintedOr1 wanted text old new status = ((status ≡ wanted) × Appends old ne
 abbrev pub IsOutcomePrinted : Result Recovered CommandFault → Option (List ℕ) → Option (List ℕ) → ℕ → Type 0
 IsOutcomePrinted (Ok found) old new status = IsPrintedOr1 0 (recovered_lines found) old new status
 IsOutcomePrinted (Err (CommandFault.Recover (RecoverFault.Log (LogFault.Broken offset)))) old new status = IsPrintedOr1 3 (fault_line offset) old new status
-IsOutcomePrinted (Err (CommandFault.Recover (RecoverFault.Log (LogFault.Sized offset)))) old new status = IsPrintedOr1 3 (fault_line offset) old new status
+IsOutcomePrinted (Err (CommandFault.Recover (RecoverFault.Log (LogFault.Mixed offset)))) old new status = IsPrintedOr1 3 (fault_line offset) old new status
 IsOutcomePrinted (Err other) old new status = (status ≡ 1) × Keeps old new
 
 -- the exit statuses

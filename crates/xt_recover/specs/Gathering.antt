@@ -1,36 +1,51 @@
 -- What was gathered of a log.
-use Rattle.std.specs.Prelude.{Bool, List, false, length, take, true, ℕ, ◌≡◌, ◌≤◌}
-use Rattle.xt_ckpt.specs.Grammar.{Entry, IsText}
-use Rattle.xt_recover.specs.Reading.{HasTexts, IsBrokenAt, IsSizedAt, ReadsAs}
-use Rattle.xt_recover.specs.Overlaid.{Overlaid, with_items, with_texts}
+use Rattle.std.specs.Prelude.{Bool, List, Option, false, if◌then◌else◌, length, take, true, ℕ, ◌<◌, ◌==◌, ◌≡◌, ◌≢◌, ◌≤◌, ◌⊎◌}
+use Rattle.xt_base.specs.Sized.{IsWithin}
+use Rattle.xt_ckpt.specs.Grammar.{Entry, IsTextIn}
+use Rattle.xt_ckpt.specs.declared.item.Item.{Item}
+use Rattle.xt_recover.specs.Reading.{HasTexts, IsBrokenAt, IsMixedAt, ReadsAs}
+use Rattle.xt_recover.specs.Overlaid.{Overlaid, nothing, with_items, with_texts}
+use Rattle.xt_recover.specs.Sizes.{block_size}
 use Rattle.xt_recover.specs.declared.gather.LogCounts.{LogCounts}
 use Rattle.xt_recover.specs.declared.gather.LogFault.{LogFault}
 
--- the first bytes are a text that says no size, whose items were laid
-pub record IsTextLaid (len : ℕ) (input : List ℕ) (old new : Overlaid) : Type 0 where
-  pub within : len ≤ length input
-  pub number : ℕ
-  pub items : List Entry
-  pub text : IsText (take len input) number items
-  pub laid : new ≡ with_items items old
+-- an item logs chunks that a block has, where texts say this of its size
+abbrev pub IsItemWithin : Option ℕ → Item → Type 0
+IsItemWithin size item = IsWithin (block_size size) item.chunks
+
+-- the overlay for a text that says this of the size of a block and stands behind so many: the first one says it for all
+abbrev pub for_text : ℕ → Option ℕ → Overlaid → Overlaid
+for_text count size l = if count == 0 then nothing size else l
+
+-- a text that says this of the size of a block and stands behind so many says what they say
+abbrev pub SaysAlike : ℕ → Option ℕ → Overlaid → Type 0
+SaysAlike count size l = (count ≡ 0) ⊎ (size ≡ l.size)
+
+-- it does not
+abbrev pub SaysOther : ℕ → Option ℕ → Overlaid → Type 0
+SaysOther count size l = (0 < count) × (size ≢ l.size)
+
+-- why such a text, which begins at an offset, was not laid: it says something else, or memory was refused
+abbrev pub IsWhyNotLaid : ℕ → Option ℕ → Overlaid → ℕ → LogFault → Type 0
+IsWhyNotLaid count size l offset fault = (fault ≡ LogFault.Memory) ⊎ ((fault ≡ LogFault.Mixed offset) × SaysOther count size l)
 
 -- the log is read as these texts, which were laid one after another, and counted
-pub record IsGathered (log : List ℕ) (counts : LogCounts) (old new : Overlaid) : Type 0 where
+pub record IsGathered (log : List ℕ) (counts : LogCounts) (l : Overlaid) : Type 0 where
   pub texts : List (List Entry)
-  pub read : ReadsAs log texts
-  pub parts : HasTexts log texts counts.rest
+  pub read : ReadsAs l.size log texts
+  pub parts : HasTexts l.size log texts counts.rest
   pub count : counts.texts ≡ length texts
-  pub laid : new ≡ with_texts texts old
+  pub laid : l ≡ with_texts texts (nothing l.size)
 
--- why a log was not gathered: the field at the offset that is told breaks its rule, or the text that begins there says the size of a block; of
--- want of memory, and of a reader, nothing is said
+-- why a log was not gathered: the field at the offset that is told breaks its rule, or the text that begins there says something else of the size
+-- of a block than those before it; of want of memory, and of a reader, nothing is said
 abbrev pub IsWhyLog : List ℕ → LogFault → Type 0
 IsWhyLog log (LogFault.Broken offset) = IsBrokenAt offset log
-IsWhyLog log (LogFault.Sized offset) = IsSizedAt offset log
+IsWhyLog log (LogFault.Mixed offset) = IsMixedAt offset log
 IsWhyLog log other = Unit {0}
 
 -- whether a fault tells of an offset
 abbrev pub has_offset : LogFault → Bool
 has_offset (LogFault.Broken offset) = true
-has_offset (LogFault.Sized offset) = true
+has_offset (LogFault.Mixed offset) = true
 has_offset other = false

@@ -1,12 +1,12 @@
 -- What is written of what was gathered over a home device.
 use Rattle.std.specs.Prelude.{Bool, List, None, Option, Some, [], length, true, unwrap_or, ℕ, ◌++◌, ◌∷◌, ◌≡◌}
 use Rattle.xt_base.specs.Maps.{at}
-use Rattle.xt_base.specs.declared.sizes.TheConstants.{BLOCK_BYTES}
 use Rattle.xt_base.specs.declared.steps.HomeOffer.{HomeOffer}
 use Rattle.xt_dev.specs.Devices.{Tells}
 use Rattle.xt_dev.specs.declared.call.HomeCall.{HomeCall}
 use Rattle.xt_recover.specs.Overlaid.{Overlaid}
 use Rattle.xt_recover.specs.Chunks.{merged}
+use Rattle.xt_recover.specs.Sizes.{block_size}
 
 -- the chunks that were gathered of a block
 abbrev pub chunks_at : Overlaid → ℕ → List ℕ
@@ -28,13 +28,13 @@ block_calls l e old = HomeCall.Read e.0 (Some old) ∷ HomeCall.Offer (HomeOffer
 -- so is each block that was gathered
 abbrev pub AreWritten : Overlaid → List (ℕ × List ℕ) → List HomeCall → Type 0
 AreWritten l [] calls = calls ≡ []
-AreWritten l (e ∷ es) calls = (old : List ℕ) × (rest : List HomeCall) × (length old ≡ BLOCK_BYTES) × (length e.1 ≡ BLOCK_BYTES) × (calls ≡ block_calls l e old ++ rest) × AreWritten l es rest
+AreWritten l (e ∷ es) calls = (old : List ℕ) × (rest : List HomeCall) × (length old ≡ block_size l.size) × (length e.1 ≡ block_size l.size) × (calls ≡ block_calls l e old ++ rest) × AreWritten l es rest
 
 -- one block was, as the device tells
 pub record TellsBlock (l : Overlaid) (e : ℕ × List ℕ) (told : Bool) (before : List HomeCall) (tell : Bool) (after : List HomeCall) : Type 0 where
   pub old : List ℕ
-  pub whole : length old ≡ BLOCK_BYTES
-  pub own : length e.1 ≡ BLOCK_BYTES
+  pub whole : length old ≡ block_size l.size
+  pub own : length e.1 ≡ block_size l.size
   pub tells : Tells told before (block_calls l e old) tell after
 
 -- all were, and then the device was asked to make them safe
@@ -46,8 +46,9 @@ pub record TellsWritten (l : Overlaid) (told : Bool) (before : List HomeCall) (t
 -- calls as they go on block by block, up to one that fails or a sync: a block is read, and written with what was gathered of it in the place of its own
 pub data GoOn (l : Overlaid) : List HomeCall → Type 0 where
   nothing : GoOn l []
-  read : (b : ℕ) (answer : Option (List ℕ)) → GoOn l (HomeCall.Read b answer ∷ [])
-  block : (b : ℕ) (content old : List ℕ) (ok : Bool) (rest : List HomeCall) → length content ≡ BLOCK_BYTES → length old ≡ BLOCK_BYTES → GoOn l rest
+  unread : (b : ℕ) → GoOn l (HomeCall.Read b None ∷ [])
+  read : (b : ℕ) (old : List ℕ) → length old ≡ block_size l.size → GoOn l (HomeCall.Read b (Some old) ∷ [])
+  block : (b : ℕ) (content old : List ℕ) (ok : Bool) (rest : List HomeCall) → length content ≡ block_size l.size → length old ≡ block_size l.size → GoOn l rest
       → GoOn l (HomeCall.Read b (Some old) ∷ HomeCall.Offer (HomeOffer.Write b (merged (chunks_at l b) content old) ok) ∷ rest)
   sync : (ok : Bool) → GoOn l (HomeCall.Offer (HomeOffer.Sync ok) ∷ [])
 

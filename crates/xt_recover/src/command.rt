@@ -80,9 +80,9 @@ fn empty_log<C: Emptied>(
 }
 
 /// Recovers a home device from a log, which is emptied after that where it is asked, and prints what was recovered. Answers the exit status:
-/// 0; 3 after `fault OFFSET` of a log with a field that breaks its rule, or with a text that says the size of a block, and then the home device and
+/// 0; 3 after `fault OFFSET` of a log with a field that breaks its rule, or with texts that say different sizes of a block, and then the home device and
 /// the log are as they were; 1 after another fault, which is printed on `err`.
-#[tactic(auto, using(crate::proofs::GatherLemmas::broken_stops, crate::proofs::GatherLemmas::sized_stops))]
+#[tactic(auto, using(crate::proofs::GatherLemmas::broken_stops, crate::proofs::GatherLemmas::mixed_stops))]
 pub fn run<L: Read, C: Emptied, H: HomeDevice, W: Write, E: Write>(
     alloc: Global,
     reader: &mut L,
@@ -118,7 +118,7 @@ fn print_end<W: Write, E: Write>(
         Err(CommandFault::Recover(RecoverFault::Log(LogFault::Broken(offset)))) => {
             status_printed(err, print_stopped(writer, *offset), 3)
         }
-        Err(CommandFault::Recover(RecoverFault::Log(LogFault::Sized(start)))) => {
+        Err(CommandFault::Recover(RecoverFault::Log(LogFault::Mixed(start)))) => {
             status_printed(err, print_stopped(writer, *start), 3)
         }
         Err(fault) => {
@@ -165,7 +165,7 @@ fn print_rest<W: Write>(writer: &mut W, rest: u64) -> io::Result<()>
     writeln!(writer, "rest {rest}")
 }
 
-/// Prints where a field breaks its rule, or a text that says the size of a block begins, counted in the log from 0.
+/// Prints where a field breaks its rule, or a text begins that says another size of a block than those before it, counted in the log from 0.
 fn print_stopped<W: Write>(writer: &mut W, offset: u64) -> io::Result<()>
     ensures { OnOk result (Appends (W.contents writer.old) (W.contents writer.new) (fault_line offset)) }
 {

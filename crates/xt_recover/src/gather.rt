@@ -1,11 +1,11 @@
 //! The texts of a log, gathered.
 
-ghost use Rattle.std.specs.Prelude.{◌≡◌, ◌<◌, All, IfErr, IfOk, IfSome, OnOk, false, length};
+ghost use Rattle.std.specs.Prelude.{◌≡◌, ◌<◌, All, IfErr, IfOk, IfSome, None, OnOk, false, length, true};
+ghost use Rattle.xt_base.specs.Form.{is_size};
 ghost use Rattle.xt_ckpt.specs.Grammar.{entries};
 ghost use Rattle.xt_ckpt.specs.Items.{HasForm};
-ghost use Rattle.xt_recover.specs.Gathering.{has_offset, IsGathered, IsWhyLog};
-ghost use Rattle.xt_recover.specs.Overlaid.{overlaid, with_items};
-ghost use Rattle.xt_recover.specs.declared.gather.LogFault.TheVariants.{Memory};
+ghost use Rattle.xt_recover.specs.Gathering.{for_text, has_offset, IsGathered, IsItemWithin, IsWhyLog, IsWhyNotLaid, SaysAlike, SaysOther};
+ghost use Rattle.xt_recover.specs.Overlaid.{nothing, overlaid, with_items};
 
 use crate::overlay::Overlay;
 use std::alloc::{AllocError, Global};
@@ -21,9 +21,9 @@ pub enum LogFault {
     /// The field at this offset of the log breaks its rule. No crash leaves such a log.
     #[error("fault {0}")]
     Broken(u64),
-    /// The text that begins at this offset of the log says the size of a block. A home device of such blocks is not recovered.
+    /// The text that begins at this offset of the log says something else of the size of a block than those before it. No volume writes such a log.
     #[error("fault {0}")]
-    Sized(u64),
+    Mixed(u64),
     /// Memory was refused.
     #[error("out of memory")]
     Memory,
@@ -39,22 +39,39 @@ pub struct LogCounts {
     pub rest: u64,
 }
 
-/// Gathers the texts of a log, from the first on, up to bytes that are no text yet, as a crash leaves them. None may say the size of a block.
-pub fn gather<L: Read>(
-    alloc: Global,
-    log: &mut L,
-    overlay: &mut Overlay,
-) -> Result<LogCounts, LogFault>
-    ensures gathered { IfOk result (λ counts. IfSome (L.remaining log.old) (λ bytes. IsGathered bytes counts (overlaid overlay.old) (overlaid overlay.new))) }
+/// What the texts of a log say, laid one over another, and how many they are.
+#[derive(Drop)]
+pub struct Gathered {
+    pub overlay: Overlay,
+    pub counts: LogCounts,
+}
+
+/// Gathers the texts of a log, from the first on, up to bytes that are no text yet, as a crash leaves them. What the first one says of the size of a
+/// block, the others have to say.
+pub fn gather<L: Read>(alloc: Global, log: &mut L) -> Result<Gathered, LogFault>
+    ensures gathered { IfOk result (λ gathered. IfSome (L.remaining log.old) (λ bytes. IsGathered bytes gathered.counts (overlaid gathered.overlay))) }
     ensures why { IfErr result (λ fault. IfSome (L.remaining log.old) (λ bytes. IsWhyLog bytes fault)) }
 {
     match vec![in alloc; 0u8; PIECE_BYTES] {
-        Ok(mut piece) => gather_by_pieces(alloc, log, &mut piece, overlay),
+        Ok(mut piece) => gather_from(alloc, log, &mut piece),
         Err(AllocError) => Err(LogFault::Memory),
     }
 }
 
 /// The same, by way of room for a piece.
+fn gather_from<L: Read>(alloc: Global, log: &mut L, piece: &mut [u8]) -> Result<Gathered, LogFault>
+    requires room { 0 < length piece.old }
+    ensures gathered { IfOk result (λ gathered. IfSome (L.remaining log.old) (λ bytes. IsGathered bytes gathered.counts (overlaid gathered.overlay))) }
+    ensures why { IfErr result (λ fault. IfSome (L.remaining log.old) (λ bytes. IsWhyLog bytes fault)) }
+{
+    let mut overlay = Overlay::new(alloc, None);
+    match gather_by_pieces(alloc, log, piece, &mut overlay) {
+        Ok(counts) => Ok(Gathered { overlay, counts }),
+        Err(fault) => Err(fault),
+    }
+}
+
+/// The same, over an overlay that has nothing.
 #[tactic(auto, using(crate::proofs::GatherLemmas::why_other))]
 fn gather_by_pieces<L: Read>(
     alloc: Global,
@@ -63,7 +80,8 @@ fn gather_by_pieces<L: Read>(
     overlay: &mut Overlay,
 ) -> Result<LogCounts, LogFault>
     requires room { 0 < length piece.old }
-    ensures gathered { IfOk result (λ counts. IfSome (L.remaining log.old) (λ bytes. IsGathered bytes counts (overlaid overlay.old) (overlaid overlay.new))) }
+    requires none { overlaid overlay.old ≡ nothing None }
+    ensures gathered { IfOk result (λ counts. IfSome (L.remaining log.old) (λ bytes. IsGathered bytes counts (overlaid overlay.new))) }
     ensures why { IfErr result (λ fault. IfSome (L.remaining log.old) (λ bytes. IsWhyLog bytes fault)) }
 {
     let mut window = Window::new(alloc, u64::MAX);
@@ -72,10 +90,7 @@ fn gather_by_pieces<L: Read>(
         let offset = window.offset();
         match window.next(log, piece, &mut rooms) {
             Ok(Found::Text(checkpoint)) => {
-                if checkpoint.size.is_some() {
-                    return Err(LogFault::Sized(offset));
-                }
-                lay_text(overlay, &checkpoint)?;
+                lay_text(alloc, overlay, texts, offset, &checkpoint)?;
                 rooms.give_back(checkpoint);
             }
             Ok(Found::Rest(rest)) => return Ok(LogCounts { texts, rest }),
@@ -96,14 +111,41 @@ fn why_unread(fault: &WindowFault) -> LogFault
     }
 }
 
-/// Lays the items of a checkpoint. The one fault is want of memory.
-fn lay_text(overlay: &mut Overlay, checkpoint: &Checkpoint) -> Result<(), LogFault>
+/// Lays the items of a text that begins at an offset, behind so many texts.
+#[tactic(auto, using(crate::proofs::GatherLemmas::within_text))]
+fn lay_text(
+    alloc: Global,
+    overlay: &mut Overlay,
+    texts: u64,
+    offset: u64,
+    checkpoint: &Checkpoint,
+) -> Result<(), LogFault>
+    requires one_of { is_size checkpoint.now.size ≡ true }
     requires form { All HasForm checkpoint.now.items.items }
-    ensures laid { OnOk result (overlaid overlay.new ≡ with_items (entries checkpoint.now.items.items) (overlaid overlay.old)) }
-    ensures why { IfErr result (λ fault. fault ≡ Memory) }
+    requires within { All (IsItemWithin checkpoint.now.size) checkpoint.now.items.items }
+    ensures alike { OnOk result (SaysAlike texts checkpoint.now.size (overlaid overlay.old)) }
+    ensures laid { OnOk result (overlaid overlay.new ≡ with_items (entries checkpoint.now.items.items) (for_text texts checkpoint.now.size (overlaid overlay.old))) }
+    ensures why { IfErr result (IsWhyNotLaid texts checkpoint.now.size (overlaid overlay.old) offset) }
 {
+    if !agrees_on_size(alloc, overlay, texts, checkpoint.size) {
+        return Err(LogFault::Mixed(offset));
+    }
     match overlay.lay(&checkpoint.items) {
         Ok(()) => Ok(()),
         Err(AllocError) => Err(LogFault::Memory),
     }
+}
+
+/// Whether a text behind so many says of the size of a block what they say. The first one says it for all: the overlay is made for it.
+fn agrees_on_size(alloc: Global, overlay: &mut Overlay, texts: u64, size: Option<u32>) -> bool
+    requires one_of { is_size size ≡ true }
+    ensures alike { result ≡ true → SaysAlike texts size (overlaid overlay.old) }
+    ensures overlay { result ≡ true → overlaid overlay.new ≡ for_text texts size (overlaid overlay.old) }
+    ensures other { result ≡ false → SaysOther texts size (overlaid overlay.old) }
+{
+    if texts == 0 {
+        *overlay = Overlay::new(alloc, size);
+        return true;
+    }
+    size == overlay.size()
 }

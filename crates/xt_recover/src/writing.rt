@@ -1,10 +1,11 @@
 //! What was gathered, written over a home device.
 
-ghost use Rattle.std.specs.Prelude.{◌≡◌, ◌∷◌, [], None, OnErr, OnOk, Some, length};
-ghost use Rattle.xt_base.specs.declared.sizes.TheConstants.{BLOCK_BYTES};
+ghost use Rattle.std.specs.Prelude.{◌≡◌, ◌∷◌, [], None, OnErr, OnOk, Some, length, true};
+ghost use Rattle.xt_base.specs.Form.{is_size};
 ghost use Rattle.xt_dev.specs.Devices.{Tells};
 ghost use Rattle.xt_dev.specs.declared.call.HomeCall.{HomeCall};
 ghost use Rattle.xt_recover.specs.Overlaid.{overlaid};
+ghost use Rattle.xt_recover.specs.Sizes.{block_size};
 ghost use Rattle.xt_recover.specs.Writing.{TellsBlock, TellsStopped, TellsWritten};
 
 use crate::overlay::Overlay;
@@ -34,7 +35,7 @@ impl Overlay {
         room: &mut [u8],
         home: &mut H,
     ) -> Result<(), DevFault>
-        requires whole { length room.old ≡ BLOCK_BYTES }
+        requires whole { length room.old ≡ block_size (overlaid self.now).size }
         ensures written { OnOk result (TellsWritten (overlaid self.now) (H.home_tells home.old) (H.home_taken home.old) (H.home_tells home.new) (H.home_taken home.new)) }
         ensures stopped { OnErr result (TellsStopped (overlaid self.now) (H.home_tells home.old) (H.home_taken home.old) (H.home_tells home.new) (H.home_taken home.new)) }
     {
@@ -56,12 +57,11 @@ impl Overlay {
         room: &mut [u8],
         home: &mut H,
     ) -> Result<(), DevFault>
-        requires whole { length room.old ≡ BLOCK_BYTES }
+        requires whole { length room.old ≡ block_size (overlaid self.now).size }
+        requires own { length content.now ≡ block_size (overlaid self.now).size }
         ensures written { OnOk result (TellsBlock (overlaid self.now) (block, content.now) (H.home_tells home.old) (H.home_taken home.old) (H.home_tells home.new) (H.home_taken home.new)) }
         ensures stopped { OnErr result (TellsStopped (overlaid self.now) (H.home_tells home.old) (H.home_taken home.old) (H.home_tells home.new) (H.home_taken home.new)) }
     {
-        // Only the proof needs to see that a content is as long as a block.
-        let _whole = content.bytes();
         read_block(block, room, home)?;
         copy_chunks(room, self.chunks_of(block), content);
         match home.write(Block(block), room) {
@@ -73,7 +73,7 @@ impl Overlay {
 
 /// Reads a block.
 fn read_block<H: HomeDevice>(block: u64, room: &mut [u8], home: &mut H) -> Result<(), DevFault>
-    requires whole { length room.old ≡ BLOCK_BYTES }
+    requires whole { is_size (Some (length room.old)) ≡ true }
     ensures told { OnOk result (Tells (H.home_tells home.old) (H.home_taken home.old) (HomeCall.Read block (Some room.new) ∷ []) (H.home_tells home.new) (H.home_taken home.new)) }
     ensures stopped { OnErr result (Tells (H.home_tells home.old) (H.home_taken home.old) (HomeCall.Read block None ∷ []) (H.home_tells home.new) (H.home_taken home.new)) }
 {

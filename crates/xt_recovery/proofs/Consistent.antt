@@ -1,13 +1,12 @@
--- What a live mount keeps of its own: contents of a block's bytes, each block idle once, and edits that mark what they change.
-use Rattle.std.proofs.Common.{Bool, List, Option, Some, [], false, length, true, ◌<◌, ◌∷◌, ◌≡◌, ℕ}
+-- What a live mount keeps of its own: each block idle once, and edits that mark what they change.
+use Rattle.std.proofs.Common.{Bool, List, Option, Some, [], false, true, ◌∷◌, ◌≡◌, ℕ}
 use Rattle.std.specs.Prelude.{is_some, unwrap_or, ◌||◌}
 use Rattle.xt_base.specs.Maps.{at, has, is_in}
-use Rattle.xt_base.specs.Sound.{Each}
 use Rattle.xt_base.specs.State.{Change, Frames, State, Transaction}
 use Rattle.xt_base.specs.Text.{chunk, zeros}
-use Rattle.xt_base.specs.declared.sizes.TheConstants.{BLOCK_BYTES}
 use Rattle.xt_base.specs.declared.steps.Owner.{Owner}
 use Rattle.xt_base.specs.declared.steps.Owner.TheVariants.{Held, Trans}
+use Rattle.xt_recovery.specs.Log.{HasChunk}
 
 -- each block stands once in a list of contents
 abbrev pub AreDistinct : List (ℕ × List ℕ) → Type 0
@@ -18,11 +17,10 @@ AreDistinct (e ∷ es) = (is_in e.0 es ≡ false) × AreDistinct es
 abbrev pub is_known : Frames → ℕ → Bool
 is_known frames b = has frames.fresh b || is_in b frames.committed
 
--- an edit has a block's bytes, differs from the committed content only in chunks that it marks, and marks one
+-- an edit of a block of so many bytes differs from the committed content only in chunks that it marks, and marks one
 pub record IsMarkedEdit (size : ℕ) (committed : Option (List ℕ)) (c : Change) : Type 0 where
-  pub whole : (content : List ℕ) → c.edit ≡ Some content → length content ≡ size
-  pub agrees : (content : List ℕ) (k : ℕ) → c.edit ≡ Some content → k < 32 → has c.marks k ≡ false → (is_some committed ≡ true) × (chunk content k ≡ chunk (unwrap_or committed (zeros size)) k)
-  pub marks : (content : List ℕ) → c.edit ≡ Some content → (k : ℕ) × (k < 32) × (has c.marks k ≡ true)
+  pub agrees : (content : List ℕ) (k : ℕ) → c.edit ≡ Some content → HasChunk size k → has c.marks k ≡ false → (is_some committed ≡ true) × (chunk content k ≡ chunk (unwrap_or committed (zeros size)) k)
+  pub marks : (content : List ℕ) → c.edit ≡ Some content → (k : ℕ) × HasChunk size k × (has c.marks k ≡ true)
 
 -- every edit of a leg does
 abbrev pub AreMarkedEdits : ℕ → List (ℕ × List ℕ) → List (ℕ × Change) → Type 0
@@ -30,10 +28,6 @@ AreMarkedEdits size committed changes = (b : ℕ) (c : Change) → at b changes 
 
 -- what holds of the contents, the owners and the open legs of a live mount
 pub record AreConsistent (size : ℕ) (frames : Frames) (owners : List (ℕ × Owner)) (transactions : List (ℕ × Transaction)) : Type 0 where
-  -- a block has 4,096 bytes today
-  pub today : size ≡ BLOCK_BYTES
-  pub whole : (b : ℕ) (content : List ℕ) → at b frames.committed ≡ Some content → length content ≡ size
-  pub idle_whole : Each (λ e. length e.1 ≡ size) frames.idle
   pub idle_once : AreDistinct frames.idle
   pub idle_apart : (b : ℕ) → is_in b frames.committed ≡ true → is_in b frames.idle ≡ false
   pub held : (b : ℕ) → at b owners ≡ Some Held → is_known frames b ≡ true

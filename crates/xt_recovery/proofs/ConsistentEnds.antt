@@ -1,8 +1,8 @@
 -- A settle and the end of a leg keep a mount's own contents, owners and edits consistent.
-use Rattle.std.proofs.Common.{◌≡◌, ◌≢◌, ◌∙◌, ◌⊎◌, ◌∷◌, ◌++◌, Bool, List, None, Option, Some, [], ap, arith, false, inl, inr, length, refl, subst, suc, sym, true, ℕ}
+use Rattle.std.proofs.Common.{◌≡◌, ◌≢◌, ◌∙◌, ◌⊎◌, ◌∷◌, Bool, List, None, Option, Some, [], ap, arith, false, inl, inr, refl, subst, suc, sym, true, ℕ}
 use Rattle.std.proofs.lemmas.Bool.{and_from, cases_eq, false_from_ne_true, false≢true, or_left, or_right}
 use Rattle.std.specs.List.{cons_option}
-use Rattle.std.specs.Prelude.{IfSome, filter, filter_map, if◌then◌else◌, is_none, is_some, not, reverse, unwrap_or, ◌&&◌, ◌||◌}
+use Rattle.std.specs.Prelude.{IfSome, filter, filter_map, if◌then◌else◌, is_none, is_some, not, unwrap_or, ◌&&◌, ◌||◌}
 use Rattle.xt_base.proofs.KeyLemmas.{at_filter_kept, has_filter}
 use Rattle.xt_base.proofs.LegLemmas.{keeps_owner_after, own_itself, own_one, own_trans, owned_there}
 use Rattle.xt_base.proofs.MapLemmas.{at_first, at_later, some_none, some_same}
@@ -18,8 +18,7 @@ use Rattle.xt_base.specs.declared.steps.Owner.TheVariants.{Held, Stale, Trans}
 use Rattle.xt_recovery.proofs.DistinctLemmas.{apart_rested, apart_rising}
 use Rattle.xt_recovery.proofs.MatchJobs.{busy_more}
 use Rattle.xt_recovery.proofs.MatchLegs.{at_edits_other, at_edits_same, cases_option, past_entry}
-use Rattle.xt_recovery.proofs.MatchLemmas.{each_append, each_entry, each_reverse, each_take, matches_settled, stayed}
-use Rattle.xt_recovery.proofs.RecoverLemmas.{at_filter_back}
+use Rattle.xt_recovery.proofs.MatchLemmas.{each_entry, matches_settled, stayed}
 use Rattle.xt_recovery.proofs.Consistent.{AreDistinct, AreMarkedEdits, IsConsistent, IsMarkedEdit, is_known}
 use Rattle.xt_recovery.proofs.Matching.{IsIdleLanded, MatchesDisks}
 use Rattle.xt_recovery.specs.Disks.{Disks}
@@ -50,14 +49,6 @@ module _ (dropped : Dropped) (d : Disks) (s : State) (sound : IsSound (settled d
   left_there : Each (λ e. at e.0 s.frames.committed ≡ Some e.1) (leaving dropped s)
   left_there = each_filter (λ e. at e.0 s.frames.committed ≡ Some e.1) (λ e. not (is_busy s e.0) && not (has dropped e.0)) s.frames.committed (each_entry 0 s.frames.committed rises)
 
-  whole_if : (live : Bool) → Each (λ e. length e.1 ≡ s.form.size) (if live then rested (leaving dropped s) s.frames.idle else s.frames.idle)
-  whole_if true =
-      let left : Each (λ e. length e.1 ≡ s.form.size) (leaving dropped s) =
-      each_map (λ e. at e.0 s.frames.committed ≡ Some e.1) (λ e. length e.1 ≡ s.form.size) (leaving dropped s) (λ e is. h.whole e.0 e.1 is) left_there in
-      each_take (λ e. length e.1 ≡ s.form.size) 64 (reverse (leaving dropped s) ++ s.frames.idle)
-      (each_append (λ e. length e.1 ≡ s.form.size) (reverse (leaving dropped s)) s.frames.idle (each_reverse (λ e. length e.1 ≡ s.form.size) (leaving dropped s) left) h.idle_whole)
-  whole_if false = h.idle_whole
-
   once_if : (live : Bool) → AreDistinct (if live then rested (leaving dropped s) s.frames.idle else s.frames.idle)
   once_if true =
       apart_rested (leaving dropped s) s.frames.idle (apart_rising 0 (leaving dropped s) (rises_filter 0 (λ e. not (is_busy s e.0) && not (has dropped e.0)) s.frames.committed rises)) h.idle_once
@@ -67,9 +58,6 @@ module _ (dropped : Dropped) (d : Disks) (s : State) (sound : IsSound (settled d
   -- a settle keeps a mount true
   pub consistent_settled : IsConsistent (settled dropped s)
   consistent_settled = record {
-    today = h.today;
-    whole = λ q v is. h.whole q v (at_filter_back 0 q v (λ e. is_busy s e.0) s.frames.committed rises is);
-    idle_whole = whole_if (is_none s.shut);
     idle_once = once_if (is_none s.shut);
     idle_apart = λ q there. busy_not_idle q d (settled dropped s) (matches_settled dropped d s rises f) (stayed dropped d s rises f q there).0;
     held = λ q is. keeps_known q (owned_busy q Held s is) (h.held q is);
@@ -220,13 +208,6 @@ module _ (t : ℕ) (trans : Transaction) (d : Disks) (s : State) (sound : IsSoun
   -- the end of a leg keeps a mount true
   pub consistent_ended : IsConsistent after_state
   consistent_ended = record {
-    today = h.today;
-    whole = λ q v there.
-        elim (cases_option (at q trans.leg.changes)) [
-          | inl none ↦ h.whole q v (sym (content_then q none) ∙ there)
-          | inr c ↦ (h.edits t trans is q c.0 c.1).whole v (sym (edit_then q c.0 c.1) ∙ there)
-        ];
-    idle_whole = h.idle_whole;
     idle_once = h.idle_once;
     idle_apart = λ q there.
         elim (cases_option (at q trans.leg.changes)) [

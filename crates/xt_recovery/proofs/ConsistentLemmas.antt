@@ -1,12 +1,12 @@
 -- What keeps a mount's own contents, owners and edits consistent: another owner, a content that comes in, a change of a leg, a settle.
-use Rattle.std.proofs.Common.{◌≡◌, ◌≢◌, ◌∙◌, ◌⊎◌, ◌∷◌, List, None, Some, [], ap, arith, false, inl, inr, length, refl, subst, sym, true, ℕ}
+use Rattle.std.proofs.Common.{◌≡◌, ◌≢◌, ◌∙◌, ◌⊎◌, ◌∷◌, List, None, Some, [], ap, arith, false, inl, inr, refl, subst, sym, true, ℕ}
 use Rattle.std.proofs.lemmas.Bool.{cases_eq, eq-eqb, false_from_ne_true, false≢true, ne_eqb, or_left, or_right}
 use Rattle.std.proofs.lemmas.Bool.Decides.{nat_tests}
 use Rattle.std.specs.Prelude.{is_some, not, ◌==◌, ◌||◌}
 use Rattle.xt_base.proofs.KeyLemmas.{has_filter, has_with_member, is_in_put_old}
 use Rattle.xt_base.proofs.LegLemmas.{own_itself, own_one, owned_there}
 use Rattle.xt_base.proofs.MapLemmas.{at_put_other, at_put_same, at_set_other, at_set_same, some_same}
-use Rattle.xt_base.proofs.RisingLemmas.{each_at, each_in, each_without}
+use Rattle.xt_base.proofs.RisingLemmas.{each_at, each_in}
 use Rattle.xt_base.specs.Calls.{busied, is_own, made_fresh, not_fresh, unowned, with_leg, with_owner}
 use Rattle.xt_base.specs.Legs.{own_count}
 use Rattle.xt_base.specs.Maps.{at, has, is_in, put, set_at, with_member, without}
@@ -28,9 +28,6 @@ put_value b q u v es same is = some_same u v (sym (at_put_same b u es) ∙ sym (
 pub consistent_owner : (b : ℕ) (o : Owner) (s : State) → (o ≡ Held → is_known s.frames b ≡ true)
     → ((t count : ℕ) (trans : Transaction) → o ≡ Trans t count → at t s.transactions ≡ Some trans → (is_known s.frames b || is_in b trans.leg.changes) ≡ true) → IsConsistent s → IsConsistent (with_owner b o s)
 consistent_owner b o s held owned h = record {
-  today = h.today;
-  whole = h.whole;
-  idle_whole = h.idle_whole;
   idle_once = h.idle_once;
   idle_apart = h.idle_apart;
   held = λ q is.
@@ -61,9 +58,6 @@ consistent_count b t old count s was h =
 -- no owner
 pub consistent_unowned : (b : ℕ) (s : State) → IsRising s.owners → IsConsistent s → IsConsistent (unowned b s)
 consistent_unowned b s rises h = record {
-  today = h.today;
-  whole = h.whole;
-  idle_whole = h.idle_whole;
   idle_once = h.idle_once;
   idle_apart = h.idle_apart;
   held = λ q is. h.held q (at_without_back 0 q b Held s.owners rises is);
@@ -74,9 +68,6 @@ consistent_unowned b s rises h = record {
 -- fewer owners
 pub consistent_fewer : (owners : List (ℕ × Owner)) (s : State) → ((b : ℕ) (o : Owner) → at b owners ≡ Some o → at b s.owners ≡ Some o) → IsConsistent s → IsConsistent (record s { owners = owners })
 consistent_fewer owners s back h = record {
-  today = h.today;
-  whole = h.whole;
-  idle_whole = h.idle_whole;
   idle_once = h.idle_once;
   idle_apart = h.idle_apart;
   held = λ q is. h.held q (back q Held is);
@@ -96,18 +87,11 @@ changed_apart : (b q : ℕ) (c : Change) (cs : List (ℕ × Change)) → is_in b
 changed_apart b q c cs absent is same = false≢true (sym absent ∙ ap is_some (sym (ap (λ (x : ℕ). at x cs) same) ∙ is))
 
 -- a content of a block that nobody has
-pub consistent_busied : (b : ℕ) (content : List ℕ) (s : State) → IsSound s → is_in b s.owners ≡ false → length content ≡ s.form.size → IsConsistent s → IsConsistent (busied b content s)
-consistent_busied b content s sound free fits h =
+pub consistent_busied : (b : ℕ) (content : List ℕ) (s : State) → IsSound s → is_in b s.owners ≡ false → IsConsistent s → IsConsistent (busied b content s)
+consistent_busied b content s sound free h =
     let more : (q : ℕ) → is_known s.frames q ≡ true → is_known (busied b content s).frames q ≡ true =
     λ q. busy_more (has s.frames.fresh q) (has s.frames.fresh q) (is_in q s.frames.committed) (is_in q (put b content s.frames.committed)) (λ f. f) (is_in_put_old q b content s.frames.committed) in
     record {
-      today = h.today;
-      whole = λ q v is.
-          elim (cases_eq q b) [
-            | inl same ↦ ap length (sym (put_value b q content v s.frames.committed same is)) ∙ fits
-            | inr other ↦ h.whole q v (sym (at_put_other b q content s.frames.committed other) ∙ is)
-          ];
-      idle_whole = each_without (λ e. length e.1 ≡ s.form.size) b s.frames.idle h.idle_whole;
       idle_once = apart_less b s.frames.idle h.idle_once;
       idle_apart = λ q there.
           elim (cases_eq q b) [
@@ -140,9 +124,6 @@ consistent_fresh b s h =
     let more : (q : ℕ) → is_known s.frames q ≡ true → is_known (made_fresh b s).frames q ≡ true =
     λ q. busy_more (has s.frames.fresh q) (has (with_member b s.frames.fresh) q) (is_in q s.frames.committed) (is_in q s.frames.committed) (more_fresh b q s.frames.fresh) (λ c. c) in
     record {
-      today = h.today;
-      whole = h.whole;
-      idle_whole = h.idle_whole;
       idle_once = h.idle_once;
       idle_apart = h.idle_apart;
       held = λ q is. more q (h.held q is);
@@ -168,9 +149,6 @@ consistent_leg t trans leg s is same h =
       | inr other ↦ (x, sym (at_set_other t u now s.transactions other) ∙ there, refl)
     ] in
     record {
-      today = h.today;
-      whole = h.whole;
-      idle_whole = h.idle_whole;
       idle_once = h.idle_once;
       idle_apart = h.idle_apart;
       held = h.held;
@@ -244,9 +222,6 @@ module _ (t b : ℕ) (trans : Transaction) (c : Change) (leg : Leg) (s : State) 
   -- a change that tells the truth keeps a mount true
   pub consistent_changed : IsConsistent changed_state
   consistent_changed = record {
-    today = h.today;
-    whole = h.whole;
-    idle_whole = h.idle_whole;
     idle_once = h.idle_once;
     idle_apart = h.idle_apart;
     held = λ q isq. same_known q (other_owner q Held isq refl) ∙ h.held q isq;

@@ -8,7 +8,7 @@ use Rattle.xt_base.specs.Legs.{aborted, ended, is_dirty, is_stale, own_count, wi
 use Rattle.xt_base.specs.Maps.{at, has, is_in, with_member}
 use Rattle.xt_base.specs.Settle.{Dropped, settled}
 use Rattle.xt_base.specs.Space.{is_busy, used}
-use Rattle.xt_base.specs.Form.{form_one}
+use Rattle.xt_base.specs.Form.{Form}
 use Rattle.xt_base.specs.State.{Items, Leg, State, Transaction, mount_of}
 use Rattle.xt_base.specs.declared.steps.Answer.{Answer}
 use Rattle.xt_base.specs.declared.steps.Errno.{Errno}
@@ -24,15 +24,16 @@ use Rattle.xt_recovery.specs.Disks.{Disks, new_disks}
 use Rattle.xt_recovery.specs.Log.{Image}
 
 -- ---- a new mount
-pub keeps_mount : (home : Image) (slot life log_bytes blocks : ℕ) → KeepsInvariant (new_disks home) (mount_of slot life log_bytes blocks form_one)
-keeps_mount home slot life log_bytes blocks = record {
+pub keeps_mount : (form : Form) (home : Image) (slot life log_bytes blocks : ℕ) → KeepsInvariant (new_disks form home) (mount_of slot life log_bytes blocks form)
+keeps_mount form home slot life log_bytes blocks = record {
   stands = record {
     told = λ b k v small h. some_none v (v ≡ home b k) (sym h);
     home = λ b k small. inl refl;
-    beside = λ f now. some_none f (AgreesUnlogged f (new_disks home)) (sym now);
+    beside = λ f now. some_none f (AgreesUnlogged f (new_disks form home)) (sym now);
     aged = λ f b n now there. some_none f (n ≤ f.number) (sym now);
     below = λ b n there. some_none n (n ≤ 1) (sym there);
   };
+  form = refl;
   live = λ still. record {
     matches = record {
       marked = λ b k small there plain. absurd (false≢true there);
@@ -41,9 +42,6 @@ keeps_mount home slot life log_bytes blocks = record {
       idle = tt;
     };
     own = record {
-      today = refl;
-      whole = λ b content is. some_none content (length content ≡ 4096) (sym is);
-      idle_whole = tt;
       idle_once = tt;
       idle_apart = λ b there. refl;
       held = λ b is. absurd (cc);

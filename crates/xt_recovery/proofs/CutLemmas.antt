@@ -1,5 +1,5 @@
 -- The log may lose the texts below the least number on the active list, and where that list is empty all of them.
-use Rattle.std.proofs.Common.{◌≡◌, ◌∙◌, ◌≤◌, ◌∷◌, List, Some, [], ap, arith, false, inl, inr, refl, sym, true, ℕ, ◌+◌}
+use Rattle.std.proofs.Common.{◌≡◌, ◌∙◌, ◌≤◌, ◌∷◌, List, Some, [], ap, arith, false, inl, inr, refl, subst, sym, true, ℕ, ◌+◌}
 use Rattle.std.proofs.lemmas.Bool.{cases_Bool, false_from_ne_true, false≢true, leb-true, lt-leb}
 use Rattle.std.specs.Prelude.{is_none, is_some, nat_le}
 use Rattle.xt_base.proofs.MapLemmas.{some_none}
@@ -15,7 +15,8 @@ use Rattle.xt_recovery.proofs.Recoverable.{IsRecoverable}
 use Rattle.xt_recovery.specs.Crash.{LogMayGo}
 use Rattle.xt_recovery.specs.DiskSteps.{Agree, IsLogCut, IsTail}
 use Rattle.xt_recovery.specs.Disks.{Disks}
-use Rattle.xt_recovery.specs.Log.{CheckpointText, Image, is_cancel, logged_chunk, texts_from}
+use Rattle.xt_recovery.specs.Log.{CheckpointText, HasChunk, Image, is_cancel, logged_chunk, texts_from}
+use Rattle.xt_base.specs.Form.{Form}
 
 from_less : (n : ℕ) (w : CheckpointText) (ws : List CheckpointText) → nat_le n w.number ≡ false → texts_from n (w ∷ ws) ≡ []
 from_less n w ws h = second_if (nat_le n w.number) (w ∷ texts_from n ws) [] h
@@ -50,25 +51,29 @@ recoverable_cut n d l tail r = record {
 }
 
 -- a live mount hangs on its own contents and on what landed, and on the home image only where a block is cancelled
-pub matches_same : (d e : Disks) (s : State) → e.landed ≡ d.landed → e.snapshot ≡ d.snapshot → MatchesDisks d s → MatchesDisks e s
-matches_same d e s landed flying f = record {
+pub matches_same : (d e : Disks) (s : State) → e.form ≡ d.form → e.landed ≡ d.landed → e.snapshot ≡ d.snapshot → MatchesDisks d s → MatchesDisks e s
+matches_same d e s form landed flying f = record {
   marked = λ b k small there absent.
-      f.marked b k small there absent
+      f.marked b k (chunk_in k small) there absent
       ∙ sym (coming_home s.items.flight d e b k landed flying (false_from_ne_true (is_cancel b (flight_items s.items.flight)) (λ cancels. let g = f.going b cancels in false≢true (sym g.bare ∙ there))));
   given_up = λ b cancels. let g = f.given_up b cancels in record { waits = g.waits; bare = g.bare };
   going = λ b cancels. let g = f.going b cancels in record { waits = g.waits; bare = g.bare; once = g.once };
-  idle = each_map (IsIdleLanded d s) (IsIdleLanded e s) s.frames.idle (λ x rest. (rest.0, λ k small. rest.1 k small ∙ sym (ap (λ (i : Image). i x.0 k) landed))) f.idle;
+  idle = each_map (IsIdleLanded d s) (IsIdleLanded e s) s.frames.idle (λ x rest. (rest.0, λ k small. rest.1 k (chunk_in k small) ∙ sym (ap (λ (i : Image). i x.0 k) landed))) f.idle;
 }
+  where
+    chunk_in : (k : ℕ) → HasChunk e.form.size k → HasChunk d.form.size k
+    chunk_in k small = subst (λ (x : Form). HasChunk x.size k) form small
 
 -- and so does all that holds of a mount with its devices
 pub keeps_cut : (n : ℕ) (d : Disks) (s : State) → IsTail n s.items → KeepsInvariant d s → KeepsInvariant (record d { log = texts_from n d.log }) s
 keeps_cut n d s tail c = record {
   stands = recoverable_cut n d s.items tail c.stands;
-  live = λ still. let l = c.live still in record { matches = matches_same d (record d { log = texts_from n d.log }) s refl refl l.matches; own = l.own };
+  form = c.form;
+  live = λ still. let l = c.live still in record { matches = matches_same d (record d { log = texts_from n d.log }) s refl refl refl l.matches; own = l.own };
 }
 
 -- where the active list is empty, the home image is what landed: no recovery is needed, and the log may go
-pub home_is_landed : (d : Disks) (l : Items) → l.ail ≡ [] → IsRecoverable d l → Agree d.home d.landed
+pub home_is_landed : (d : Disks) (l : Items) → l.ail ≡ [] → IsRecoverable d l → Agree d.form.size d.home d.landed
 home_is_landed d l bare r b k small =
     elim (r.home b k small) [
       | inl same ↦ same

@@ -40,10 +40,11 @@ use Rattle.xt_recovery.specs.DiskSteps.{IsHomeAfterStep, IsLogCut, disks_after}
 use Rattle.xt_recovery.specs.Disks.{Disks, disks_at_begin, disks_at_end, disks_begun, disks_failed, disks_landed, flight_of, flight_text, landed_image, new_disks}
 use Rattle.xt_recovery.specs.Flush.{IsHomeAfter}
 use Rattle.xt_recovery.specs.Log.{CheckpointText, Image, is_cancel}
+use Rattle.xt_base.specs.Form.{Form}
 
 -- the devices as if the failed checkpoint had landed
 abbrev pub with_failed : CheckpointText → Disks → Disks
-with_failed w d = record { home = d.home; log = w ∷ d.log; landed = landed_image w d.home d.landed; snapshot = d.snapshot; failed = None }
+with_failed w d = record { form = d.form; home = d.home; log = w ∷ d.log; landed = landed_image w d.home d.landed; snapshot = d.snapshot; failed = None }
 
 -- the mount is shut, with nothing in flight
 abbrev pub IsOver : Option State → Type 0
@@ -53,7 +54,7 @@ IsOver (Some m) = (is_some m.shut ≡ true) × (m.items.flight ≡ None)
 -- what holds where a failed text is left
 pub record IsFailedText (d : Disks) (o : Option State) (w : CheckpointText) : Type 0 where
   pub over : IsOver o
-  pub proper : IsWellFormed w
+  pub proper : IsWellFormed d.form w
   pub items : Items
   pub none : items.flight ≡ None
   pub stands : IsRecoverable (with_failed w d) items
@@ -74,7 +75,7 @@ shut_there : (o : _) → is_some (shut_for LogIoError o) ≡ true
 shut_there None = refl
 shut_there (Some r) = refl
 
-left_failed : (d : Disks) (m : State) (f : Flight) → m.items.flight ≡ Some f → IsSound m → KeepsInvariant d m → IsWellFormed (flight_text f d) → HasFailedText (disks_failed f d) (Some (failed [] m))
+left_failed : (d : Disks) (m : State) (f : Flight) → m.items.flight ≡ Some f → IsSound m → KeepsInvariant d m → IsWellFormed d.form (flight_text f d) → HasFailedText (disks_failed f d) (Some (failed [] m))
 left_failed d m f flies sound c proper w is =
     let rises : IsRising f.items = subst (λ (o : Option Flight). IsRising (flight_items o)) flies sound.parts.flight_rises in
     let order : f.number < m.items.open_number = number_below m.items.flight m.items f flies sound.parts.flying in
@@ -88,12 +89,12 @@ left_failed d m f flies sound c proper w is =
       stands = record { told = r.told; home = r.home; beside = λ g now. some_none g (AgreesUnlogged g (with_failed (flight_text f d) (disks_failed f d))) (sym now); aged = r.aged; below = r.below };
     })
 
-left_ended : (ok : Bool) (d : Disks) (m : State) (f : Flight) → m.items.flight ≡ Some f → IsSound m → KeepsInvariant d m → IsWellFormed (flight_text f d) → HasFailedText d (Some m)
+left_ended : (ok : Bool) (d : Disks) (m : State) (f : Flight) → m.items.flight ≡ Some f → IsSound m → KeepsInvariant d m → IsWellFormed d.form (flight_text f d) → HasFailedText d (Some m)
     → HasFailedText (if ok then disks_landed f d else disks_failed f d) (Some (if ok then gives (Landed f.number) (landed [] f m) else gives (Failed f.number) (failed [] m)).state)
 left_ended true d m f flies sound c proper h = λ w is. let over = (h w is).over in some_none f (IsFailedText (disks_landed f d) (Some (landed [] f m)) w) (sym flies ∙ over.1)
 left_ended false d m f flies sound c proper h = left_failed d m f flies sound c proper
 
-left_end_of : (answers : LogAnswers) (o : Option Flight) (d : Disks) (m : State) → m.items.flight ≡ o → IsSound m → KeepsInvariant d m → ((f : Flight) → o ≡ Some f → IsWellFormed (flight_text f d)) → HasFailedText d (Some m)
+left_end_of : (answers : LogAnswers) (o : Option Flight) (d : Disks) (m : State) → m.items.flight ≡ o → IsSound m → KeepsInvariant d m → ((f : Flight) → o ≡ Some f → IsWellFormed d.form (flight_text f d)) → HasFailedText d (Some m)
     → HasFailedText (disks_at_end answers o d) (Some (end_of [] answers m o).state)
 left_end_of answers None d m is sound c proper h = h
 left_end_of answers (Some f) d m is sound c proper h = left_ended (is_ok answers.sync) d m f is sound c (proper f refl) h
@@ -153,10 +154,10 @@ left_flush answers (Some m) d s home there went h = λ w is.
       };
     }
 
-left_mounted : (slot log_bytes blocks : ℕ) (o : Option Errno) (d : Disks) (s : Lone) (home : Image) → HasFailedText d s.mounted
-    → HasFailedText (if is_none o then new_disks home else d) (unless_refused o s (mounted_new slot log_bytes blocks s)).slot.mounted
-left_mounted slot log_bytes blocks None d s home h = λ w is. some_none w (IsFailedText (new_disks home) (mounted_new slot log_bytes blocks s).slot.mounted w) (sym is)
-left_mounted slot log_bytes blocks (Some e) d s home h = h
+left_mounted : (slot log_bytes blocks : ℕ) (size : Option ℕ) (o : Option Errno) (d : Disks) (s : Lone) (home : Image) → HasFailedText d s.mounted
+    → HasFailedText (if is_none o then new_disks d.form home else d) (unless_refused o s (mounted_new slot log_bytes blocks size s)).slot.mounted
+left_mounted slot log_bytes blocks size None d s home h = λ w is. some_none w (IsFailedText (new_disks d.form home) (mounted_new slot log_bytes blocks size s).slot.mounted w) (sym is)
+left_mounted slot log_bytes blocks size (Some e) d s home h = h
 
 over_gone : (gone : Bool) (m n : State) → (IsOver (Some m) → IsOver (Some n)) → IsOver (Some m) → IsOver (if gone then None else Some n)
 over_gone true m n more over = tt
@@ -187,7 +188,7 @@ left_shown (Some m) d s h = h
 
 -- a step that suits a slot
 step_left : (x : Step) (s : Lone) (d : Disks) (home : Image) → suits x s ≡ true → IsHomeAfterStep x s d home → SlotKeepsInvariant d s → SlotIsWellFormed d s → HasFailedText d s.mounted → HasFailedText (disks_after x s home d) (alone x s).slot.mounted
-step_left (Mount slot log_bytes blocks) s d home fits went c p h = left_mounted slot log_bytes blocks (first_of (mount_refusals log_bytes blocks s)) d s home h
+step_left (Mount slot log_bytes blocks size) s d home fits went c p h = left_mounted slot log_bytes blocks size (first_of (mount_refusals log_bytes blocks size s)) d s home h
 step_left (Call slot life request answer) s d home fits went c p h = left_called life request answer s.mounted d s refl h
 step_left (Post name) s d home fits went c p h = left_post name s.mounted d s (mount_there (is_owed_as name) s.mounted fits) h
 step_left (Take worker name) s d home fits went c p h = h
@@ -217,11 +218,11 @@ moves_stand [] s d e moves h = subst (λ (x : Disks). SlotInvariant x s) (sym mo
 moves_stand (x ∷ xs) s d e moves h =
     let move = moves.2 in
     let next : Lone = (alone x s).slot in
-    let carried = subst (λ (y : Disks). SlotKeepsInvariant y next) (sym move.after) (step_carried x s d moves.0.home move.fits move.told move.home h.carried) in
-    let proper = subst (λ (y : Disks). SlotIsWellFormed y next) (sym move.after) (step_proper x s d moves.0.home move.fits h.carried h.proper) in
+    let carried = subst (λ (y : Disks). SlotKeepsInvariant y next) (sym move.after) (step_carried x s d moves.0.home move.fits move.form move.told move.home h.carried) in
+    let proper = subst (λ (y : Disks). SlotIsWellFormed y next) (sym move.after) (step_proper x s d moves.0.home move.fits move.form h.carried h.proper) in
     let left : HasFailedText moves.0 next.mounted = subst (λ (y : Disks). HasFailedText y next.mounted) (sym move.after) (step_left x s d moves.0.home move.fits move.home h.carried h.proper h.failed) in
     moves_stand xs next moves.1 e moves.4
     (record { carried = keeps_cut_slot next.mounted moves.0 moves.1 next refl moves.3 carried; proper = formed_cut next.mounted moves.0 moves.1 next refl moves.3 proper; failed = left_cut next.mounted moves.0 moves.1 moves.3 left })
 
-pub stands_from : (xs : List Step) (start : Image) (d : Disks) → AreSuitedSteps xs empty (new_disks start) d → SlotInvariant d (after xs empty)
-stands_from xs start d moves = moves_stand xs empty (new_disks start) d moves (record { carried = keeps_empty start; proper = record { mount = tt; texts = tt }; failed = λ w is. some_none w (IsFailedText (new_disks start) None w) (sym is) })
+pub stands_from : (xs : List Step) (form : Form) (start : Image) (d : Disks) → AreSuitedSteps xs empty (new_disks form start) d → SlotInvariant d (after xs empty)
+stands_from xs form start d moves = moves_stand xs empty (new_disks form start) d moves (record { carried = keeps_empty form start; proper = record { mount = tt; texts = tt }; failed = λ w is. some_none w (IsFailedText (new_disks form start) None w) (sym is) })

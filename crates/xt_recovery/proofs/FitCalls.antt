@@ -9,7 +9,6 @@ use Rattle.xt_base.proofs.RisingLemmas.{each_at, each_in}
 use Rattle.xt_base.proofs.SoundSteps.{passes_first}
 use Rattle.xt_base.specs.Calls.{Outcome, allocated, alloc_refusals, alone_with, answered, asks_ckpt, asks_flush, at_end, brought, cancel, closed, commit, commit_number, committed_of, first_of, force_to_refusals, freeze_refusals, get, get_refusals, gives, held_of, hold, inval, inval_refusals, invalidated, io_of, is_absent, is_elsewhere, is_flight, is_fresh, is_held, is_in_use, is_no_room, is_own, join, join_refusals, legs_after, locked, log, log_refusals, logged_leg, marked_frozen, not_fresh, read, read_refusals, released, relse, roll, seen, shut_down, shut_if, unhold, unless, unowned, view, waits_for, with_leg, with_legs, with_owner, with_trans, without_hold}
 use Rattle.xt_base.specs.Chunks.{union}
-use Rattle.xt_base.specs.Form.{Form}
 use Rattle.xt_base.specs.Legs.{aborted, ended, is_dirty, is_stale, joined_marks, own_count, owner_aborted, owner_after}
 use Rattle.xt_base.specs.Maps.{at, has, is_in, put, with_member, without}
 use Rattle.xt_base.specs.Settle.{Dropped, settled}
@@ -45,12 +44,12 @@ module _ (d : Disks) where
 
   -- other owners, of blocks that fit
   fits_owners : (owners : List (ℕ × Owner)) (s : State) → ((b : ℕ) → is_in b owners ≡ true → b < 2 ^ 64) → FitsTexts d s → FitsTexts d (record s { owners = owners })
-  fits_owners owners s fit h = record { plain = h.plain; blocks = h.blocks; owners = fit; items = h.items; flight = h.flight }
+  fits_owners owners s fit h = record { said = h.said; blocks = h.blocks; owners = fit; items = h.items; flight = h.flight }
 
-  -- whatever else changes, if form, blocks, owners and commit list stay
-  fits_same : (s n : State) → n.form ≡ s.form → n.blocks ≡ s.blocks → n.owners ≡ s.owners → n.items.cil ≡ s.items.cil → n.items.flight ≡ s.items.flight → FitsTexts d s → FitsTexts d n
-  fits_same s n form blocks owners cil flight h = record {
-    plain = ap (λ (f : Form). f.sized) form ∙ h.plain;
+  -- whatever else changes, if blocks, owners and commit list stay
+  fits_same : (s n : State) → n.blocks ≡ s.blocks → n.owners ≡ s.owners → n.items.cil ≡ s.items.cil → n.items.flight ≡ s.items.flight → FitsTexts d s → FitsTexts d n
+  fits_same s n blocks owners cil flight h = record {
+    said = h.said;
     blocks = subst (λ (x : ℕ). x < 2 ^ 64) (sym blocks) h.blocks;
     owners = λ b there. h.owners b (ap (is_in b) (sym owners) ∙ there);
     items = λ b set there. h.items b set (ap (at b) (sym cil) ∙ there);
@@ -68,7 +67,7 @@ module _ (d : Disks) where
 
   fits_unowned : (dropped : Dropped) (b : ℕ) (s : State) → FitsTexts d s → FitsTexts d (settled dropped (unowned b s))
   fits_unowned dropped b s h =
-      fits_same (unowned b s) (settled dropped (unowned b s)) refl refl refl refl refl (fits_owners (without b s.owners) s (λ q there. h.owners q (is_in_without q b s.owners there)) h)
+      fits_same (unowned b s) (settled dropped (unowned b s)) refl refl refl refl (fits_owners (without b s.owners) s (λ q there. h.owners q (is_in_without q b s.owners there)) h)
 
   -- a block below the size of the device
   block_small : (b : ℕ) (s : State) → nat_le s.blocks b ≡ false → FitsTexts d s → b < 2 ^ 64
@@ -79,19 +78,19 @@ module _ (d : Disks) where
   brought_if t b false s small h = brought_by (at b s.frames.idle)
     where
       brought_by : (o : Option (List ℕ)) → FitsTexts d (with_owner b (Trans t 0) (brought b o s))
-      brought_by None = fits_same (with_owner b (Trans t 0) s) _ refl refl refl refl refl (fits_owner b (Trans t 0) s small h)
-      brought_by (Some content) = fits_same (with_owner b (Trans t 0) s) _ refl refl refl refl refl (fits_owner b (Trans t 0) s small h)
+      brought_by None = fits_same (with_owner b (Trans t 0) s) _ refl refl refl refl (fits_owner b (Trans t 0) s small h)
+      brought_by (Some content) = fits_same (with_owner b (Trans t 0) s) _ refl refl refl refl (fits_owner b (Trans t 0) s small h)
 
   fits_locked : (t b : ℕ) (own : Option ℕ) (s : State) → b < 2 ^ 64 → FitsTexts d s → FitsTexts d (locked t b own s)
   fits_locked t b (Some count) s small h = fits_owner b (Trans t (count + 1)) s small h
   fits_locked t b None s small h = brought_if t b (is_busy s b) s small h
 
   shut_if_placed : (dirty : Bool) (s : State) → FitsTexts d s → FitsTexts d (shut_if dirty MetaIoError s)
-  shut_if_placed true s h = fits_same s (shut_down MetaIoError s) refl refl refl refl refl h
+  shut_if_placed true s h = fits_same s (shut_down MetaIoError s) refl refl refl refl h
   shut_if_placed false s h = h
 
   fits_answered : (t b : ℕ) (leg : Leg) (s : State) (answer : Answer) → b < 2 ^ 64 → FitsTexts d s → FitsTexts d (answered t b leg s answer).state
-  fits_answered t b leg s (Answer.Content content) small h = fits_same (with_owner b (Trans t 0) s) _ refl refl refl refl refl (fits_owner b (Trans t 0) s small h)
+  fits_answered t b leg s (Answer.Content content) small h = fits_same (with_owner b (Trans t 0) s) _ refl refl refl refl (fits_owner b (Trans t 0) s small h)
   fits_answered t b leg s Answer.None small h = shut_if_placed (is_dirty leg) s h
   fits_answered t b leg s Answer.Failed small h = shut_if_placed (is_dirty leg) s h
 
@@ -119,7 +118,7 @@ module _ (d : Disks) where
       let less : State = with_leg t trans (without_hold b trans.leg) s in
       fits_either (nat_lt 0 count) (gives Kept (with_owner b (Trans t (count - 1)) s)) (if is_in b trans.leg.changes then gives Kept s else gives Free (settled dropped (unowned b less)))
       (λ more. fits_owner b (Trans t (count - 1)) s (small refl) h)
-      (λ last. fits_either (is_in b trans.leg.changes) (gives Kept s) (gives Free (settled dropped (unowned b less))) (λ changed. h) (λ unchanged. fits_unowned dropped b less (fits_same s less refl refl refl refl refl h)))
+      (λ last. fits_either (is_in b trans.leg.changes) (gives Kept s) (gives Free (settled dropped (unowned b less))) (λ changed. h) (λ unchanged. fits_unowned dropped b less (fits_same s less refl refl refl refl h)))
 
   held_there : (o : Option Owner) → is_held o ≡ true → is_some o ≡ true
   held_there None h = h
@@ -137,7 +136,7 @@ module _ (d : Disks) where
   fits_ended t trans s sound is h =
       let fair : IsFair s.form.ends s.owners (t, trans) = each_at (IsFair s.form.ends s.owners) t trans s.transactions is sound.parts.fair in
       record {
-        plain = h.plain;
+        said = h.said;
         blocks = h.blocks;
         owners = λ b there. h.owners b (is_in_filter_map b (owner_after t trans.leg s.items.open_number) s.owners (keeps_owner_after t trans.leg s.items.open_number) there);
         items = λ b set there.
@@ -154,7 +153,7 @@ module _ (d : Disks) where
 
   fits_aborted : (t : ℕ) (leg : Leg) (s : State) → FitsTexts d s → FitsTexts d (aborted t leg s)
   fits_aborted t leg s h = record {
-    plain = h.plain;
+    said = h.said;
     blocks = h.blocks;
     owners = λ b there. h.owners b (is_in_filter_map b (owner_aborted t leg) s.owners (keeps_owner_aborted t leg) there);
     items = h.items;
@@ -165,7 +164,7 @@ module _ (d : Disks) where
   fits_commit dropped t s trans sound is h =
       fits_either (is_dirty trans.leg && is_some s.shut) (gives (io_of (held_of trans.leg.holds)) (settled dropped (closed t (aborted t trans.leg s))))
       (gives (committed_of (commit_number trans.leg s) (held_of trans.leg.holds)) (settled dropped (closed t (ended t trans.leg s))))
-      (λ shut. fits_same (aborted t trans.leg s) _ refl refl refl refl refl (fits_aborted t trans.leg s h)) (λ on. fits_same (ended t trans.leg s) _ refl refl refl refl refl (fits_ended t trans s sound is h))
+      (λ shut. fits_same (aborted t trans.leg s) _ refl refl refl refl (fits_aborted t trans.leg s h)) (λ on. fits_same (ended t trans.leg s) _ refl refl refl refl (fits_ended t trans s sound is h))
 
   fits_roll : (dropped : Dropped) (t : ℕ) (s : State) (trans : Transaction) → IsSound s → at t s.transactions ≡ Some trans → FitsTexts d s → FitsTexts d (roll dropped t s trans).state
   fits_roll dropped t s trans sound is h =
@@ -174,12 +173,12 @@ module _ (d : Disks) where
       let wait : Outcome = gives (Refused Again) (asks_flush (asks_ckpt s)) in
       fits_either (not trans.perm) (gives (Refused Invalid) s) (if is_some s.shut then up else (if is_no_room t trans s then wait else on)) (λ refused. h)
       (λ may.
-      fits_either (is_some s.shut) up (if is_no_room t trans s then wait else on) (λ shut. fits_same (aborted t trans.leg s) _ refl refl refl refl refl (fits_aborted t trans.leg s h))
-      (λ live. fits_either (is_no_room t trans s) wait on (λ full. fits_same s _ refl refl refl refl refl h) (λ room. fits_same (ended t trans.leg s) _ refl refl refl refl refl (fits_ended t trans s sound is h))))
+      fits_either (is_some s.shut) up (if is_no_room t trans s then wait else on) (λ shut. fits_same (aborted t trans.leg s) _ refl refl refl refl (fits_aborted t trans.leg s h))
+      (λ live. fits_either (is_no_room t trans s) wait on (λ full. fits_same s _ refl refl refl refl h) (λ room. fits_same (ended t trans.leg s) _ refl refl refl refl (fits_ended t trans s sound is h))))
 
   fits_given_up : (dropped : Dropped) (dirty : Bool) (n : State) → FitsTexts d n → FitsTexts d (settled dropped (shut_if dirty CorruptIncore n))
-  fits_given_up dropped true n h = fits_same n _ refl refl refl refl refl h
-  fits_given_up dropped false n h = fits_same n _ refl refl refl refl refl h
+  fits_given_up dropped true n h = fits_same n _ refl refl refl refl h
+  fits_given_up dropped false n h = fits_same n _ refl refl refl refl h
 
   stale_if : (stale : Bool) (s n : State) → FitsTexts d s → FitsTexts d n → FitsTexts d (if stale then s else n)
   stale_if true s n hs hn = hs
@@ -190,7 +189,7 @@ module _ (d : Disks) where
   fits_call dropped (Request.Alloc unit count perm) answer s sound h =
       let full : Outcome = gives (Refused Again) (asks_flush (asks_ckpt s)) in
       fits_unless (first_of (alloc_refusals unit count perm s)) s (if nat_lt s.log_bytes (used s + unit * count) then full else allocated unit count perm s) h
-      (λ passes. fits_either (nat_lt s.log_bytes (used s + unit * count)) full (allocated unit count perm s) (λ no_room. fits_same s _ refl refl refl refl refl h) (λ room. fits_same s _ refl refl refl refl refl h))
+      (λ passes. fits_either (nat_lt s.log_bytes (used s + unit * count)) full (allocated unit count perm s) (λ no_room. fits_same s _ refl refl refl refl h) (λ room. fits_same s _ refl refl refl refl h))
   fits_call dropped (Request.Get t b) answer s sound h = fits_some (at t s.transactions) s (λ trans. get t b s) h (λ trans is. fits_get t b s h)
   fits_call dropped (Request.Read t b) answer s sound h = fits_some (at t s.transactions) s (read t b answer s) h (λ trans is. fits_read t b answer s trans h)
   fits_call dropped (Request.View t b) answer s sound h =
@@ -198,14 +197,14 @@ module _ (d : Disks) where
   fits_call dropped (Request.Log first t b bytes) answer s sound h =
       fits_some (at t s.transactions) s (log t b first bytes s) h
       (λ trans is.
-      fits_unless (first_of (log_refusals t b first bytes trans s)) s (gives Okay (not_fresh b (with_leg t trans (logged_leg s.form.size b first bytes s.frames trans.leg) s))) h (λ passes. fits_same s _ refl refl refl refl refl h))
+      fits_unless (first_of (log_refusals t b first bytes trans s)) s (gives Okay (not_fresh b (with_leg t trans (logged_leg s.form.size b first bytes s.frames trans.leg) s))) h (λ passes. fits_same s _ refl refl refl refl h))
   fits_call dropped (Request.Hold t b) answer s sound h =
       fits_some (at t s.transactions) s (hold t b s) h
       (λ trans is.
-      fits_either (not (is_own s t b) || is_stale b trans.leg) (gives (Refused Invalid) s) (gives Okay (with_leg t trans (record trans.leg { holds = with_member b trans.leg.holds }) s)) (λ no. h) (λ yes. fits_same s _ refl refl refl refl refl h))
+      fits_either (not (is_own s t b) || is_stale b trans.leg) (gives (Refused Invalid) s) (gives Okay (with_leg t trans (record trans.leg { holds = with_member b trans.leg.holds }) s)) (λ no. h) (λ yes. fits_same s _ refl refl refl refl h))
   fits_call dropped (Request.Unhold t b) answer s sound h =
       fits_some (at t s.transactions) s (unhold t b s) h
-      (λ trans is. fits_either (not (is_own s t b) || not (has trans.leg.holds b)) (gives (Refused Invalid) s) (gives Okay (with_leg t trans (without_hold b trans.leg) s)) (λ no. h) (λ yes. fits_same s _ refl refl refl refl refl h))
+      (λ trans is. fits_either (not (is_own s t b) || not (has trans.leg.holds b)) (gives (Refused Invalid) s) (gives Okay (with_leg t trans (without_hold b trans.leg) s)) (λ no. h) (λ yes. fits_same s _ refl refl refl refl h))
   fits_call dropped (Request.Relse t b) answer s sound h =
       fits_some (at t s.transactions) s (relse dropped t b s) h
       (λ trans is. fits_released dropped t b s trans (own_count t (at b s.owners)) (λ own. h.owners b (owned_there t b s.owners own)) h)
@@ -225,23 +224,23 @@ module _ (d : Disks) where
       fits_some (at t s.transactions) s (inval t b s) h
       (λ trans is.
       fits_unless (first_of (inval_refusals t b trans s)) s (gives Okay (if is_stale b trans.leg then s else not_fresh b (with_leg t trans (invalidated b trans.leg) s))) h
-      (λ passes. stale_if (is_stale b trans.leg) s (not_fresh b (with_leg t trans (invalidated b trans.leg) s)) h (fits_same s _ refl refl refl refl refl h)))
+      (λ passes. stale_if (is_stale b trans.leg) s (not_fresh b (with_leg t trans (invalidated b trans.leg) s)) h (fits_same s _ refl refl refl refl h)))
   fits_call dropped (Request.Commit t) answer s sound h = fits_some (at t s.transactions) s (commit dropped t s) h (λ trans is. fits_commit dropped t s trans sound is h)
   fits_call dropped (Request.Roll t) answer s sound h = fits_some (at t s.transactions) s (roll dropped t s) h (λ trans is. fits_roll dropped t s trans sound is h)
   fits_call dropped (Request.Cancel t) answer s sound h =
-      fits_some (at t s.transactions) s (cancel dropped t s) h (λ trans is. fits_given_up dropped (is_dirty trans.leg) (closed t (aborted t trans.leg s)) (fits_same (aborted t trans.leg s) _ refl refl refl refl refl (fits_aborted t trans.leg s h)))
+      fits_some (at t s.transactions) s (cancel dropped t s) h (λ trans is. fits_given_up dropped (is_dirty trans.leg) (closed t (aborted t trans.leg s)) (fits_same (aborted t trans.leg s) _ refl refl refl refl (fits_aborted t trans.leg s h)))
   fits_call dropped Request.Force answer s sound h =
       let rest : Outcome = if length s.items.cil == 0 then gives (waits_for s.items.flight) s else gives (Wait s.items.open_number) (asks_ckpt s) in
       fits_either (is_some s.shut) (gives (Refused Io) s) rest (λ shut. h)
-      (λ live. fits_either (length s.items.cil == 0) (gives (waits_for s.items.flight) s) (gives (Wait s.items.open_number) (asks_ckpt s)) (λ none. h) (λ some. fits_same s _ refl refl refl refl refl h))
+      (λ live. fits_either (length s.items.cil == 0) (gives (waits_for s.items.flight) s) (gives (Wait s.items.open_number) (asks_ckpt s)) (λ none. h) (λ some. fits_same s _ refl refl refl refl h))
   fits_call dropped (Request.ForceTo number) answer s sound h =
       let asked : Bool = (number == s.items.open_number) && not (length s.items.cil == 0) in
       let rest : Outcome = if is_flight number s.items.flight then gives (Wait number) s else gives Done s in
       fits_unless (first_of (force_to_refusals number s)) s (if asked then gives (Wait number) (asks_ckpt s) else rest) h
-      (λ passes. fits_either asked (gives (Wait number) (asks_ckpt s)) rest (λ now. fits_same s _ refl refl refl refl refl h)
+      (λ passes. fits_either asked (gives (Wait number) (asks_ckpt s)) rest (λ now. fits_same s _ refl refl refl refl h)
       (λ other. fits_either (is_flight number s.items.flight) (gives (Wait number) s) (gives Done s) (λ flies. h) (λ lands. h)))
-  fits_call dropped Request.Push answer s sound h = fits_either (is_some s.shut) (gives (Refused Io) s) (gives Okay (asks_flush s)) (λ shut. h) (λ live. fits_same s _ refl refl refl refl refl h)
-  fits_call dropped Request.Shutdown answer s sound h = fits_same s _ refl refl refl refl refl h
-  fits_call dropped Request.Freeze answer s sound h = fits_unless (first_of (freeze_refusals s)) s (gives Okay (marked_frozen true s)) h (λ passes. fits_same s _ refl refl refl refl refl h)
-  fits_call dropped Request.Thaw answer s sound h = fits_either s.frozen (gives Okay (marked_frozen false s)) (gives (Refused Invalid) s) (λ is. fits_same s _ refl refl refl refl refl h) (λ other. h)
+  fits_call dropped Request.Push answer s sound h = fits_either (is_some s.shut) (gives (Refused Io) s) (gives Okay (asks_flush s)) (λ shut. h) (λ live. fits_same s _ refl refl refl refl h)
+  fits_call dropped Request.Shutdown answer s sound h = fits_same s _ refl refl refl refl h
+  fits_call dropped Request.Freeze answer s sound h = fits_unless (first_of (freeze_refusals s)) s (gives Okay (marked_frozen true s)) h (λ passes. fits_same s _ refl refl refl refl h)
+  fits_call dropped Request.Thaw answer s sound h = fits_either s.frozen (gives Okay (marked_frozen false s)) (gives (Refused Invalid) s) (λ is. fits_same s _ refl refl refl refl h) (λ other. h)
   fits_call dropped Request.Unmount answer s sound h = fits_either (is_in_use s) (gives (Refused Busy) s) (gives Okay s) (λ kept. h) (λ left. h)

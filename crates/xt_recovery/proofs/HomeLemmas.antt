@@ -1,7 +1,7 @@
 -- What the offers of a flush make of a home image, and what a flush writes.
 use Rattle.std.proofs.Common.{◌≡◌, ◌∙◌, ◌⊎◌, ◌∷◌, ◌++◌, Bool, List, Some, [], ap, arith, false, inl, inr, refl, suc, sym, true, zero, ℕ}
 use Rattle.std.proofs.lemmas.Bool.{and_parts, eq-eqb, eqb-true, false≢true, ne_eqb, not-true, or_cases, or_left, or_right}
-use Rattle.std.specs.Prelude.{if◌then◌else◌, is_some, map, nat_le, not, take, ◌&&◌, ◌<◌, ◌==◌, ◌||◌}
+use Rattle.std.specs.Prelude.{if◌then◌else◌, is_some, map, nat_le, not, take, ◌&&◌, ◌==◌, ◌||◌}
 use Rattle.xt_base.proofs.KeyLemmas.{each_has}
 use Rattle.xt_base.proofs.RisingLemmas.{each_both, each_filter, each_map, each_passes}
 use Rattle.xt_base.specs.Jobs.{by_number, eligible, flush_offers, flush_plan, is_eligible, placed, sync_offer, write_answers, writes, written}
@@ -17,7 +17,7 @@ use Rattle.xt_recovery.proofs.Matching.{MatchesDisks}
 use Rattle.xt_recovery.proofs.Recoverable.{IsFlushedHome}
 use Rattle.xt_recovery.specs.Disks.{Disks, content_of}
 use Rattle.xt_recovery.specs.Flush.{IsHomeAfter, MayHold, MustHold, is_synced}
-use Rattle.xt_recovery.specs.Log.{Image}
+use Rattle.xt_recovery.specs.Log.{HasChunk, Image}
 
 -- ---- the offers
 may_sync : (t ok : Bool) (b k : ℕ) (old new : List ℕ) → MayHold (if t then [] else HomeOffer.Sync ok ∷ []) b k old new → new ≡ old
@@ -119,7 +119,7 @@ each_planned s rises =
     (each_filter (λ e. at e.0 s.items.ail ≡ Some e.1) (is_eligible s) s.items.ail (each_entry 0 s.items.ail rises)) (each_passes (is_eligible s) s.items.ail))))))
 
 -- a flush writes landed contents
-pub planned_agrees : (d : Disks) (s : State) → IsRising s.items.ail → AreWritten s.owners s.frames.committed s.items → MatchesDisks d s → (b k : ℕ) → k < 32 → has (flush_plan s) b ≡ true → chunk (content_of s b) k ≡ d.landed b k
+pub planned_agrees : (d : Disks) (s : State) → IsRising s.items.ail → AreWritten s.owners s.frames.committed s.items → MatchesDisks d s → (b k : ℕ) → HasChunk d.form.size k → has (flush_plan s) b ≡ true → chunk (content_of s b) k ≡ d.landed b k
 planned_agrees d s rises written h b k small there =
     let due : IsDue s b = each_has (IsDue s) b (flush_plan s) there (each_planned s rises) in
     let active = due.active in

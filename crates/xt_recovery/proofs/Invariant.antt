@@ -19,4 +19,5 @@ IsLiveUnlessShut d s = is_none s.shut ≡ true → IsLive d s
 -- what holds of any mount with its disks
 pub record KeepsInvariant (d : Disks) (s : State) : Type 0 where
   pub stands : IsRecoverable d s.items
+  pub form : s.form ≡ d.form
   pub live : IsLiveUnlessShut d s

@@ -29,6 +29,7 @@ use Rattle.xt_recovery.specs.Log.{Image}
 pub keeps_flown : (ps : List (List ℕ)) (d : Disks) (s : State) → s.items.flight ≡ None → is_none s.shut ≡ true → IsSound s → KeepsInvariant d s → KeepsInvariant (disks_begun s d) (flown ps s)
 keeps_flown ps d s none live sound c = record {
   stands = recoverable_begun ps s d c.stands (begun_agrees ps d s none (c.live live).matches (sound.written live));
+  form = c.form;
   live = λ still. let l = c.live live in record { matches = matches_begun ps d s none l.matches; own = l.own };
 }
 
@@ -43,6 +44,7 @@ keeps_landed dropped f d s flies sound c =
     let order : f.number < s.items.open_number = number_below s.items.flight s.items f flies sound.parts.flying in
     record {
       stands = recoverable_landed s.form.ends f d s.items flies rises sound.parts.ail_rises (omega (arith, order)) c.stands;
+      form = c.form;
       live = λ still.
           let l = c.live still in
           let n : State = landed_state f d s flies rises sound.parts.ail_rises order l.matches in
@@ -58,6 +60,7 @@ keeps_landed dropped f d s flies sound c =
 pub keeps_failed : (dropped : Dropped) (f : Flight) (d : Disks) (s : State) → KeepsInvariant d s → KeepsInvariant (disks_failed f d) (failed dropped s)
 keeps_failed dropped f d s c = record {
   stands = recoverable_failed f d s.items c.stands;
+  form = c.form;
   live = λ still. absurd (shut_for_some LogIoError s.shut still);
 }
 
@@ -71,6 +74,7 @@ keeps_flushed dropped answers d s home live went sound c =
     let over = flushed_home answers s d.home home went in
     record {
       stands = recoverable_flushed (flush_plan s) answers (content_of s) d home s.items sound.parts.ail_rises over (planned_agrees d s sound.parts.ail_rises (sound.written live) h) c.stands;
+      form = c.form;
       live = λ still.
           let before : MatchesDisks (record d { home = home }) n = matches_flushed (gone (flush_plan s) answers) (flush_plan s) answers d s home over h in
           record {

@@ -20,6 +20,7 @@ pub mod ConsistentLemmas
 pub mod ConsistentEnds
 pub mod LiveLocks
 pub mod LiveLegs
+pub mod CallForms
 pub mod LiveCalls
 pub mod FitCalls
 pub mod CutLemmas

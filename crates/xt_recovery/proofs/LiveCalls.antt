@@ -29,6 +29,8 @@ use Rattle.xt_recovery.proofs.Invariant.{IsLiveUnlessShut, KeepsInvariant}
 use Rattle.xt_recovery.proofs.Recoverable.{IsRecoverable}
 use Rattle.xt_recovery.specs.DiskSteps.{IsContentOf, ReadsHome}
 use Rattle.xt_recovery.specs.Disks.{Disks}
+use Rattle.xt_base.specs.Sized.{IsSized}
+use Rattle.xt_recovery.proofs.CallForms.{call_form}
 
 -- other jobs
 pub lives_jobs : (d : Disks) (s : State) (j : Jobs) (frozen : Bool) → IsLiveUnlessShut d s → IsLiveUnlessShut d (record s { jobs = j; frozen = frozen })
@@ -45,9 +47,6 @@ lives_allocated unit count perm d s sound h still =
     record {
       matches = matches_beside d s ts n s.jobs s.frozen s.frames.fresh l.matches;
       own = record {
-        today = o.today;
-        whole = o.whole;
-        idle_whole = o.idle_whole;
         idle_once = o.idle_once;
         idle_apart = o.idle_apart;
         held = o.held;
@@ -92,42 +91,43 @@ honest_of : (home : _) (s : State) (t b : ℕ) (answer : Answer) (trans : Transa
 honest_of home s t b answer trans is honest content same passes absent = subst (ReadsHome home s (Request.Read t b)) same honest (asks_of t b s trans is passes absent)
 
 -- a call on a live mount, told the truth where it asks its device
-pub lives_call : (d : Disks) (dropped : Dropped) (request : Request) (answer : Answer) (s : State) → IsSound s → IsRecoverable d s.items → ReadsHome d.home s request answer → IsLiveUnlessShut d s → IsLiveUnlessShut d (alone_with dropped request answer s).state
-lives_call d dropped (Request.Alloc unit count perm) answer s sound r honest h = lives_alloc unit count perm d s sound h
-lives_call d dropped (Request.Get t b) answer s sound r honest h = lives_some d (at t s.transactions) s (λ trans. get t b s) h (λ trans is. lives_get t b d s sound h)
-lives_call d dropped (Request.Read t b) answer s sound r honest h =
-    lives_some d (at t s.transactions) s (read t b answer s) h (λ trans is. lives_read t b answer d s trans sound r (honest_of d.home s t b answer trans is honest) h)
-lives_call d dropped (Request.View t b) answer s sound r honest h =
+pub lives_call : (d : Disks) (dropped : Dropped) (request : Request) (answer : Answer) (s : State) → IsSound s → s.form ≡ d.form → IsSized s → IsRecoverable d s.items → ReadsHome d.home s request answer → IsLiveUnlessShut d s → IsLiveUnlessShut d (alone_with dropped request answer s).state
+lives_call d dropped (Request.Alloc unit count perm) answer s sound form sized r honest h = lives_alloc unit count perm d s sound h
+lives_call d dropped (Request.Get t b) answer s sound form sized r honest h = lives_some d (at t s.transactions) s (λ trans. get t b s) h (λ trans is. lives_get t b d s sound h)
+lives_call d dropped (Request.Read t b) answer s sound form sized r honest h =
+    lives_some d (at t s.transactions) s (read t b answer s) h (λ trans is. lives_read t b answer d s trans sound form r (honest_of d.home s t b answer trans is honest) h)
+lives_call d dropped (Request.View t b) answer s sound form sized r honest h =
     lives_some d (at t s.transactions) s (view t b s) h (λ trans is. lives_either d (is_own s t b) (gives (Reply.Data (seen s.form.size b trans.leg s.frames)) s) (gives (Refused Invalid) s) (λ own. h) (λ other. h))
-lives_call d dropped (Request.Log first t b bytes) answer s sound r honest h = lives_some d (at t s.transactions) s (log t b first bytes s) h (λ trans is. lives_log t b first bytes d s trans is h)
-lives_call d dropped (Request.Hold t b) answer s sound r honest h = lives_some d (at t s.transactions) s (hold t b s) h (λ trans is. lives_hold t b d s trans is h)
-lives_call d dropped (Request.Unhold t b) answer s sound r honest h = lives_some d (at t s.transactions) s (unhold t b s) h (λ trans is. lives_unhold t b d s trans is h)
-lives_call d dropped (Request.Relse t b) answer s sound r honest h = lives_some d (at t s.transactions) s (relse dropped t b s) h (λ trans is. lives_relse dropped t b d s trans sound is h)
-lives_call d dropped (Request.Join t b) answer s sound r honest h = lives_some d (at t s.transactions) s (join t b s) h (λ trans is. lives_join t b d s trans h)
-lives_call d dropped (Request.Release b) answer s sound r honest h = lives_release dropped b d s sound h
-lives_call d dropped (Request.Inval t b) answer s sound r honest h = lives_some d (at t s.transactions) s (inval t b s) h (λ trans is. lives_inval t b d s trans is h)
-lives_call d dropped (Request.Commit t) answer s sound r honest h = lives_some d (at t s.transactions) s (commit dropped t s) h (λ trans is. lives_commit dropped t d s trans sound is h)
-lives_call d dropped (Request.Roll t) answer s sound r honest h = lives_some d (at t s.transactions) s (roll dropped t s) h (λ trans is. lives_roll dropped t d s trans sound is h)
-lives_call d dropped (Request.Cancel t) answer s sound r honest h = lives_some d (at t s.transactions) s (cancel dropped t s) h (λ trans is. lives_cancel dropped t d s trans sound is h)
-lives_call d dropped Request.Force answer s sound r honest h =
+lives_call d dropped (Request.Log first t b bytes) answer s sound form sized r honest h = lives_some d (at t s.transactions) s (log t b first bytes s) h (λ trans is. lives_log t b first bytes d s trans is sound.form sized h)
+lives_call d dropped (Request.Hold t b) answer s sound form sized r honest h = lives_some d (at t s.transactions) s (hold t b s) h (λ trans is. lives_hold t b d s trans is h)
+lives_call d dropped (Request.Unhold t b) answer s sound form sized r honest h = lives_some d (at t s.transactions) s (unhold t b s) h (λ trans is. lives_unhold t b d s trans is h)
+lives_call d dropped (Request.Relse t b) answer s sound form sized r honest h = lives_some d (at t s.transactions) s (relse dropped t b s) h (λ trans is. lives_relse dropped t b d s trans sound is h)
+lives_call d dropped (Request.Join t b) answer s sound form sized r honest h = lives_some d (at t s.transactions) s (join t b s) h (λ trans is. lives_join t b d s trans h)
+lives_call d dropped (Request.Release b) answer s sound form sized r honest h = lives_release dropped b d s sound h
+lives_call d dropped (Request.Inval t b) answer s sound form sized r honest h = lives_some d (at t s.transactions) s (inval t b s) h (λ trans is. lives_inval t b d s trans is h)
+lives_call d dropped (Request.Commit t) answer s sound form sized r honest h = lives_some d (at t s.transactions) s (commit dropped t s) h (λ trans is. lives_commit dropped t d s trans sound form is h)
+lives_call d dropped (Request.Roll t) answer s sound form sized r honest h = lives_some d (at t s.transactions) s (roll dropped t s) h (λ trans is. lives_roll dropped t d s trans sound form is h)
+lives_call d dropped (Request.Cancel t) answer s sound form sized r honest h = lives_some d (at t s.transactions) s (cancel dropped t s) h (λ trans is. lives_cancel dropped t d s trans sound form is h)
+lives_call d dropped Request.Force answer s sound form sized r honest h =
     let rest : Outcome = if length s.items.cil == 0 then gives (waits_for s.items.flight) s else gives (Wait s.items.open_number) (asks_ckpt s) in
     lives_either d (is_some s.shut) (gives (Refused Io) s) rest (λ shut. h)
     (λ live. lives_either d (length s.items.cil == 0) (gives (waits_for s.items.flight) s) (gives (Wait s.items.open_number) (asks_ckpt s)) (λ none. h) (λ some. lives_jobs d s (asks_ckpt s).jobs s.frozen h))
-lives_call d dropped (Request.ForceTo number) answer s sound r honest h =
+lives_call d dropped (Request.ForceTo number) answer s sound form sized r honest h =
     let asked : Bool = (number == s.items.open_number) && not (length s.items.cil == 0) in
     let rest : Outcome = if is_flight number s.items.flight then gives (Wait number) s else gives Done s in
     lives_unless d (first_of (force_to_refusals number s)) s (if asked then gives (Wait number) (asks_ckpt s) else rest) h
     (λ passes. lives_either d asked (gives (Wait number) (asks_ckpt s)) rest (λ now. lives_jobs d s (asks_ckpt s).jobs s.frozen h)
     (λ other. lives_either d (is_flight number s.items.flight) (gives (Wait number) s) (gives Done s) (λ flies. h) (λ lands. h)))
-lives_call d dropped Request.Push answer s sound r honest h = lives_either d (is_some s.shut) (gives (Refused Io) s) (gives Okay (asks_flush s)) (λ shut. h) (λ live. lives_jobs d s (asks_flush s).jobs s.frozen h)
-lives_call d dropped Request.Shutdown answer s sound r honest h = λ still. absurd (shut_for_some ForceUmount s.shut still)
-lives_call d dropped Request.Freeze answer s sound r honest h = lives_unless d (first_of (freeze_refusals s)) s (gives Okay (marked_frozen true s)) h (λ passes. lives_jobs d s s.jobs true h)
-lives_call d dropped Request.Thaw answer s sound r honest h = lives_either d s.frozen (gives Okay (marked_frozen false s)) (gives (Refused Invalid) s) (λ is. lives_jobs d s s.jobs false h) (λ other. h)
-lives_call d dropped Request.Unmount answer s sound r honest h = lives_either d (is_in_use s) (gives (Refused Busy) s) (gives Okay s) (λ kept. h) (λ left. h)
+lives_call d dropped Request.Push answer s sound form sized r honest h = lives_either d (is_some s.shut) (gives (Refused Io) s) (gives Okay (asks_flush s)) (λ shut. h) (λ live. lives_jobs d s (asks_flush s).jobs s.frozen h)
+lives_call d dropped Request.Shutdown answer s sound form sized r honest h = λ still. absurd (shut_for_some ForceUmount s.shut still)
+lives_call d dropped Request.Freeze answer s sound form sized r honest h = lives_unless d (first_of (freeze_refusals s)) s (gives Okay (marked_frozen true s)) h (λ passes. lives_jobs d s s.jobs true h)
+lives_call d dropped Request.Thaw answer s sound form sized r honest h = lives_either d s.frozen (gives Okay (marked_frozen false s)) (gives (Refused Invalid) s) (λ is. lives_jobs d s s.jobs false h) (λ other. h)
+lives_call d dropped Request.Unmount answer s sound form sized r honest h = lives_either d (is_in_use s) (gives (Refused Busy) s) (gives Okay s) (λ kept. h) (λ left. h)
 
 -- so a call keeps what holds of a mount with its devices
-pub keeps_call : (d : Disks) (dropped : Dropped) (request : Request) (answer : Answer) (s : State) → IsSound s → ReadsHome d.home s request answer → KeepsInvariant d s → KeepsInvariant d (alone_with dropped request answer s).state
-keeps_call d dropped request answer s sound honest c = record {
+pub keeps_call : (d : Disks) (dropped : Dropped) (request : Request) (answer : Answer) (s : State) → IsSound s → IsSized s → ReadsHome d.home s request answer → KeepsInvariant d s → KeepsInvariant d (alone_with dropped request answer s).state
+keeps_call d dropped request answer s sound sized honest c = record {
   stands = stands_call d dropped request answer s c.stands;
-  live = lives_call d dropped request answer s sound c.stands honest c.live;
+  form = call_form dropped request answer s ∙ c.form;
+  live = lives_call d dropped request answer s sound c.form sized c.stands honest c.live;
 }

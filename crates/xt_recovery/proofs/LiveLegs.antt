@@ -1,7 +1,7 @@
 -- A live mount stays one over the calls that change blocks and end legs.
-use Rattle.std.proofs.Common.{append_assoc, ◌≡◌, ◌≢◌, ◌∙◌, ◌⊎◌, ◌≤◌, ◌+◌, ◌∷◌, ◌++◌, Bool, List, None, Option, Some, [], ap, arith, false, inl, inr, length, refl, subst, sym, true, ℕ}
+use Rattle.std.proofs.Common.{append_assoc, ◌≡◌, ◌≢◌, ◌∙◌, ◌⊎◌, ◌≤◌, ◌+◌, ◌∷◌, ◌++◌, ◌*◌, Bool, List, None, Option, Some, [], ap, arith, false, inl, inr, length, refl, subst, sym, true, ℕ}
 use Rattle.std.proofs.lemmas.Bool.{and_cases, and_parts, cases_eq, eqb-true, eqb-false, false≢true, ltb-false, not-false, or_cases, or_parts, or_right}
-use Rattle.std.proofs.lemmas.List.{length-append, length-drop, length-replicate, length-take-le}
+use Rattle.std.proofs.lemmas.List.{length-append, length-drop, length-take-le}
 use Rattle.std.specs.Prelude.{drop, filter, if◌then◌else◌, is_none, is_some, nat_lt, not, take, unwrap_or, ◌&&◌, ◌/◌, ◌-◌, ◌<◌, ◌==◌, ◌||◌}
 use Rattle.xt_base.proofs.ChunkCounts.{has-chunks_where}
 use Rattle.xt_base.proofs.ChunkLemmas.{touched}
@@ -25,7 +25,7 @@ use Rattle.xt_base.specs.declared.steps.Reason.TheVariants.{CorruptIncore}
 use Rattle.xt_base.specs.declared.steps.Reply.TheVariants.{Okay, Refused}
 use Rattle.xt_recovery.proofs.EditLemmas.{agrees_logged}
 use Rattle.xt_recovery.proofs.MatchCalls.{matches_beside}
-use Rattle.xt_recovery.proofs.MatchLegs.{matches_ended, has_union}
+use Rattle.xt_recovery.proofs.MatchLegs.{chunk_small, has_union, matches_ended}
 use Rattle.xt_recovery.proofs.MatchLemmas.{matches_settled}
 use Rattle.xt_recovery.proofs.LiveLocks.{lives_either, lives_unless}
 use Rattle.xt_recovery.proofs.ConsistentEnds.{consistent_ended, consistent_settled}
@@ -34,6 +34,10 @@ use Rattle.xt_recovery.proofs.Consistent.{IsMarkedEdit, is_known}
 use Rattle.xt_recovery.proofs.Invariant.{IsLive, IsLiveUnlessShut}
 use Rattle.xt_recovery.proofs.Matching.{MatchesDisks}
 use Rattle.xt_recovery.specs.Disks.{Disks}
+use Rattle.xt_recovery.specs.Log.{HasChunk}
+use Rattle.xt_base.specs.Form.{IsForm}
+use Rattle.xt_base.specs.Sized.{AreSizedChanges, IsSized}
+use Rattle.xt_base.proofs.SizedLemmas.{seen_sized}
 
 -- ---- log
 pub length_overwritten : (first : ℕ) (bytes old : List ℕ) → first + length bytes ≤ length old → length (overwritten first bytes old) ≡ length old
@@ -44,15 +48,7 @@ length_overwritten first bytes old fits =
     length-append (take first old) (bytes ++ drop (first + length bytes) old) ∙ ap (λ n. length (take first old) + n) (length-append bytes (drop (first + length bytes) old)) in
     ap length (append_assoc (take first old) bytes (drop (first + length bytes) old)) ∙ whole ∙ omega (arith, front, back, fits)
 
--- what a leg sees of a block has a block's bytes
-seen_whole : (size : ℕ) (edit : Option (List ℕ)) (bare : Bool) (committed : Option (List ℕ)) → ((e : List ℕ) → edit ≡ Some e → length e ≡ size) → ((v : List ℕ) → committed ≡ Some v → length v ≡ size)
-    → length (unwrap_or edit (if bare then zeros size else unwrap_or committed (zeros size))) ≡ size
-seen_whole size (Some e) bare committed he hv = he e refl
-seen_whole size None true committed he hv = length-replicate size 0
-seen_whole size None false None he hv = length-replicate size 0
-seen_whole size None false (Some v) he hv = hv v refl
-
--- and it agrees with the committed content outside its marks, where the block is neither fresh nor invalidated
+-- what a leg sees of a block agrees with the committed content outside its marks, where the block is neither fresh nor invalidated
 seen_agrees : (size : ℕ) (edit : Option (List ℕ)) (bare : Bool) (committed : Option (List ℕ)) (k : ℕ) → bare ≡ false → ((e : List ℕ) → edit ≡ Some e → (is_some committed ≡ true) × (chunk e k ≡ chunk (unwrap_or committed (zeros size)) k))
     → (edit ≡ None → is_some committed ≡ true) → (is_some committed ≡ true) × (chunk (unwrap_or edit (if bare then zeros size else unwrap_or committed (zeros size))) k ≡ chunk (unwrap_or committed (zeros size)) k)
 seen_agrees size (Some e) bare committed k clear he there = he e refl
@@ -64,18 +60,22 @@ positive n h = let other = eqb-false n 0 h in omega (arith, other)
 
 -- a leg that did nothing to a block tells the truth of it
 change_tells : (size : ℕ) (committed : Option (List ℕ)) (o : Option Change) → ((c : Change) → o ≡ Some c → IsMarkedEdit size committed c) → IsMarkedEdit size committed (unwrap_or {T = Change} o (record { edit = None; marks = []; charged = [] }))
-change_tells size committed None h = record { whole = λ e is. absurd (cc); agrees = λ e k is small absent. absurd (cc); marks = λ e is. absurd (cc) }
+change_tells size committed None h = record { agrees = λ e k is small absent. absurd (cc); marks = λ e is. absurd (cc) }
 change_tells size committed (Some c) h = h c refl
 
--- a block of 4,096 bytes that is written whole is marked whole
-all_touched : (n k : ℕ) → n ≡ 4096 → k < 32 → touches 0 n k ≡ true
-all_touched n k is small = touched 0 n k (omega (arith, is)) (omega arith) (omega (arith, is, small))
+-- a block that is written whole is marked whole
+all_touched : (size k : ℕ) → size ≡ 128 * (size / 128) → HasChunk size k → touches 0 size k ≡ true
+all_touched size k chunks there =
+    let one : k < size / 128 = there in
+    touched 0 size k (omega (arith, chunks, one)) (omega arith) (omega (arith, chunks, one))
 
 -- what is written is marked somewhere
-one_touched : (first n : ℕ) → 0 < n → first + n ≤ 4096 → (k : ℕ) × (k < 32) × (touches first n k ≡ true)
-one_touched first n some fits = (first / 128, omega (arith, some, fits), touched first n (first / 128) some (omega arith) (omega (arith, some)))
+one_touched : (size first n : ℕ) → size ≡ 128 * (size / 128) → 0 < n → first + n ≤ size → (k : ℕ) × HasChunk size k × (touches first n k ≡ true)
+one_touched size first n chunks some fits =
+    let there : first / 128 < size / 128 = omega (arith, chunks, some, fits) in
+    (first / 128, there, touched first n (first / 128) some (omega arith) (omega (arith, some)))
 
-module _ (t b first : ℕ) (bytes : List ℕ) (d : Disks) (s : State) (trans : Transaction) (is : at t s.transactions ≡ Some trans) (passes : None ≡ first_of (log_refusals t b first bytes trans s)) (l : IsLive d s) where
+module _ (t b first : ℕ) (bytes : List ℕ) (d : Disks) (s : State) (trans : Transaction) (is : at t s.transactions ≡ Some trans) (passes : None ≡ first_of (log_refusals t b first bytes trans s)) (fits : IsForm s.form) (sized : IsSized s) (l : IsLive d s) where
   abbrev whole_refuses : Bool
   whole_refuses = (is_fresh s b || is_stale b trans.leg) && not ((first == 0) && (length bytes == s.form.size))
 
@@ -107,7 +107,7 @@ module _ (t b first : ℕ) (bytes : List ℕ) (d : Disks) (s : State) (trans : T
   old = seen s.form.size b trans.leg s.frames
 
   old_whole : length old ≡ s.form.size
-  old_whole = seen_whole s.form.size (change_of b trans.leg).edit bare (at b s.frames.committed) tells_old.whole (l.own.whole b)
+  old_whole = seen_sized s.form.size b trans.leg s.frames (each_at (λ e. AreSizedChanges s.form.size e.1.leg.changes) t trans s.transactions is sized.changes) sized.committed
 
   -- what is neither fresh nor changed by the leg is committed
   known_committed : bare ≡ false → (change_of b trans.leg).edit ≡ None → is_in b s.frames.committed ≡ true
@@ -132,33 +132,34 @@ module _ (t b first : ℕ) (bytes : List ℕ) (d : Disks) (s : State) (trans : T
   abbrev logged : Change
   logged = record { edit = Some (overwritten first bytes old); marks = union (change_of b trans.leg).marks (marks first (length bytes)); charged = union (change_of b trans.leg).charged (marks first (length bytes)) }
 
-  logged_agrees : (k : ℕ) → k < 32 → has logged.marks k ≡ false
+  logged_agrees : (k : ℕ) → HasChunk s.form.size k → has logged.marks k ≡ false
       → (is_in b s.frames.committed ≡ true) × (chunk (overwritten first bytes old) k ≡ chunk (unwrap_or (at b s.frames.committed) (zeros s.form.size)) k)
-  logged_agrees k small absent =
+  logged_agrees k there absent =
+      let small : k < 32 = chunk_small s.form fits k there in
       elim (and_cases bare (not ((first == 0) && (length bytes == s.form.size))) three.0) [
         | inl clear ↦
             agrees_logged s.form.size first k (at b s.frames.committed) (change_of b trans.leg).marks bytes old small some_bytes (omega (arith, within, old_whole))
-            (λ off. seen_agrees s.form.size (change_of b trans.leg).edit bare (at b s.frames.committed) k clear (λ e has_edit. tells_old.agrees e k has_edit small off) (known_committed clear)) absent
+            (λ off. seen_agrees s.form.size (change_of b trans.leg).edit bare (at b s.frames.committed) k clear (λ e has_edit. tells_old.agrees e k has_edit there off) (known_committed clear)) absent
         | inr whole ↦
             let parts = and_parts (first == 0) (length bytes == s.form.size) (not-false ((first == 0) && (length bytes == s.form.size)) whole) in
             let from_start : first ≡ 0 = eqb-true first 0 parts.0 in
-            let all : length bytes ≡ 4096 = eqb-true (length bytes) s.form.size parts.1 ∙ l.own.today in
-            let marked : has (marks first (length bytes)) k ≡ true = has-chunks_where (touches first (length bytes)) k small ∙ ap (λ x. touches x (length bytes) k) from_start ∙ all_touched (length bytes) k all small in
+            let all : length bytes ≡ s.form.size = eqb-true (length bytes) s.form.size parts.1 in
+            let marked : has (marks first (length bytes)) k ≡ true = has-chunks_where (touches first (length bytes)) k small ∙ ap (λ x. touches x (length bytes) k) from_start ∙ ap (λ n. touches 0 n k) all ∙ all_touched s.form.size k fits.whole there in
             absurd (false≢true (sym absent ∙ has_union (change_of b trans.leg).marks (marks first (length bytes)) k small ∙ or_right (has (change_of b trans.leg).marks k) (has (marks first (length bytes)) k) marked))
       ]
 
-  logged_marks : (k : ℕ) × (k < 32) × (has logged.marks k ≡ true)
+  logged_marks : (k : ℕ) × HasChunk s.form.size k × (has logged.marks k ≡ true)
   logged_marks =
-      let place = one_touched first (length bytes) some_bytes (omega (arith, within, l.own.today)) in (
+      let place = one_touched s.form.size first (length bytes) fits.whole some_bytes within in
+      let small : place.0 < 32 = chunk_small s.form fits place.0 place.1 in (
         place.0,
         place.1,
-        has_union (change_of b trans.leg).marks (marks first (length bytes)) place.0 place.1
-            ∙ or_right (has (change_of b trans.leg).marks place.0) (has (marks first (length bytes)) place.0) (has-chunks_where (touches first (length bytes)) place.0 place.1 ∙ place.2),
+        has_union (change_of b trans.leg).marks (marks first (length bytes)) place.0 small
+            ∙ or_right (has (change_of b trans.leg).marks place.0) (has (marks first (length bytes)) place.0) (has-chunks_where (touches first (length bytes)) place.0 small ∙ place.2),
       )
 
   tells_logged : IsMarkedEdit s.form.size (at b s.frames.committed) logged
   tells_logged = record {
-    whole = λ content e. ap length (sym (some_same (overwritten first bytes old) content e)) ∙ length_overwritten first bytes old (omega (arith, within, old_whole)) ∙ old_whole;
     agrees = λ content k e small absent.
         subst (λ (x : List ℕ). (is_in b s.frames.committed ≡ true) × (chunk x k ≡ chunk (unwrap_or (at b s.frames.committed) (zeros s.form.size)) k)) (some_same (overwritten first bytes old) content e)
         (logged_agrees k small absent);
@@ -174,10 +175,10 @@ module _ (t b first : ℕ) (bytes : List ℕ) (d : Disks) (s : State) (trans : T
         own = consistent_changed t b trans logged leg s is (not-false (is_own s t b) one.0) refl tells_logged l.own;
       }
 
-pub lives_log : (t b first : ℕ) (bytes : List ℕ) (d : Disks) (s : State) (trans : Transaction) → at t s.transactions ≡ Some trans → IsLiveUnlessShut d s → IsLiveUnlessShut d (log t b first bytes s trans).state
-lives_log t b first bytes d s trans is h =
+pub lives_log : (t b first : ℕ) (bytes : List ℕ) (d : Disks) (s : State) (trans : Transaction) → at t s.transactions ≡ Some trans → IsForm s.form → IsSized s → IsLiveUnlessShut d s → IsLiveUnlessShut d (log t b first bytes s trans).state
+lives_log t b first bytes d s trans is fits sized h =
     lives_unless d (first_of (log_refusals t b first bytes trans s)) s (gives Okay (not_fresh b (with_leg t trans (logged_leg s.form.size b first bytes s.frames trans.leg) s))) h
-    (λ passes still. live_log t b first bytes d s trans is passes (h still))
+    (λ passes still. live_log t b first bytes d s trans is passes fits sized (h still))
 
 -- ---- inval
 live_stale_if : (stale : Bool) (t b : ℕ) (d : Disks) (s : State) (trans : Transaction) → at t s.transactions ≡ Some trans → is_own s t b ≡ true → IsLiveUnlessShut d s → IsLiveUnlessShut d (if stale then s else not_fresh b (with_leg t trans (invalidated b trans.leg) s))
@@ -185,7 +186,7 @@ live_stale_if true t b d s trans is own h = h
 live_stale_if false t b d s trans is own h = λ still.
     let leg : Leg = invalidated b trans.leg in
     let c : Change = record { edit = None; marks = []; charged = (change_of b trans.leg).charged } in
-    let tells : IsMarkedEdit s.form.size (at b s.frames.committed) c = record { whole = λ e no. absurd (cc); agrees = λ e k no small absent. absurd (cc); marks = λ e no. absurd (cc) } in
+    let tells : IsMarkedEdit s.form.size (at b s.frames.committed) c = record { agrees = λ e k no small absent. absurd (cc); marks = λ e no. absurd (cc) } in
     record {
       matches = matches_beside d s (with_leg t trans leg s).transactions s.last_trans s.jobs s.frozen (without_member b s.frames.fresh) (h still).matches;
       own = consistent_changed t b trans c leg s is own refl tells (h still).own;
@@ -201,15 +202,15 @@ lives_inval t b d s trans is h =
 
 -- ---- commit, roll, cancel
 -- the leg ends, its transaction's record with it or clean, and what is no longer busy settles
-live_ended : (dropped : Dropped) (t : ℕ) (trans : Transaction) (ts : List (ℕ × Transaction)) (d : Disks) (s : State) → IsSound s → at t s.transactions ≡ Some trans
+live_ended : (dropped : Dropped) (t : ℕ) (trans : Transaction) (ts : List (ℕ × Transaction)) (d : Disks) (s : State) → IsSound s → s.form ≡ d.form → at t s.transactions ≡ Some trans
     → IsSound (settled dropped (record (ended t trans.leg s) { transactions = ts }))
     → ((u : ℕ) (x : Transaction) → at u ts ≡ Some x → ((u ≡ t) × (x.leg.changes ≡ [])) ⊎ ((u ≢ t) × (at u s.transactions ≡ Some x))) → IsLive d s
     → IsLive d (settled dropped (record (ended t trans.leg s) { transactions = ts }))
-live_ended dropped t trans ts d s sound is after rest l =
+live_ended dropped t trans ts d s sound form is after rest l =
     let n : State = record (ended t trans.leg s) { transactions = ts } in
     let fair : IsFair s.form.ends s.owners (t, trans) = each_at (IsFair s.form.ends s.owners) t trans s.transactions is sound.parts.fair in
     let rises : IsRising n.frames.committed = rises_with_edits trans.leg.changes s.frames.committed sound.kept.committed_rises in
-    let over : MatchesDisks d (ended t trans.leg s) = matches_ended t trans d s fair sound.kept.committed_rises (l.own.edits t trans is) l.matches in
+    let over : MatchesDisks d (ended t trans.leg s) = matches_ended t trans d s sound.form form fair sound.kept.committed_rises (l.own.edits t trans is) l.matches in
     let before : MatchesDisks d n = matches_beside d (ended t trans.leg s) ts s.last_trans s.jobs s.frozen s.frames.fresh over in
     record {
       matches = matches_settled dropped d n rises before;
@@ -238,18 +239,18 @@ second_branch : (t : Bool) (x y : Outcome) → t ≡ false → IsSound (if t the
 second_branch true x y is h = absurd (false≢true (sym is))
 second_branch false x y is h = h
 
-pub lives_commit : (dropped : Dropped) (t : ℕ) (d : Disks) (s : State) (trans : Transaction) → IsSound s → at t s.transactions ≡ Some trans → IsLiveUnlessShut d s → IsLiveUnlessShut d (commit dropped t s trans).state
-lives_commit dropped t d s trans sound is h =
+pub lives_commit : (dropped : Dropped) (t : ℕ) (d : Disks) (s : State) (trans : Transaction) → IsSound s → s.form ≡ d.form → at t s.transactions ≡ Some trans → IsLiveUnlessShut d s → IsLiveUnlessShut d (commit dropped t s trans).state
+lives_commit dropped t d s trans sound form is h =
     let up : Outcome = gives (io_of (held_of trans.leg.holds)) (settled dropped (closed t (aborted t trans.leg s))) in
     let on : Outcome = gives (committed_of (commit_number trans.leg s) (held_of trans.leg.holds)) (settled dropped (closed t (ended t trans.leg s))) in
     lives_either d (is_dirty trans.leg && is_some s.shut) up on
     (λ shut still. absurd (is_none_some s.shut still (and_parts (is_dirty trans.leg) (is_some s.shut) shut).1))
     (λ commits still.
     let after : IsSound on.state = second_branch (is_dirty trans.leg && is_some s.shut) up on commits (sound_commit dropped t s trans sound is) in
-    live_ended dropped t trans (without t s.transactions) d s sound is after (rest_closed t s.transactions sound.parts.transactions_rise) (h still))
+    live_ended dropped t trans (without t s.transactions) d s sound form is after (rest_closed t s.transactions sound.parts.transactions_rise) (h still))
 
-pub lives_roll : (dropped : Dropped) (t : ℕ) (d : Disks) (s : State) (trans : Transaction) → IsSound s → at t s.transactions ≡ Some trans → IsLiveUnlessShut d s → IsLiveUnlessShut d (roll dropped t s trans).state
-lives_roll dropped t d s trans sound is h =
+pub lives_roll : (dropped : Dropped) (t : ℕ) (d : Disks) (s : State) (trans : Transaction) → IsSound s → s.form ≡ d.form → at t s.transactions ≡ Some trans → IsLiveUnlessShut d s → IsLiveUnlessShut d (roll dropped t s trans).state
+lives_roll dropped t d s trans sound form is h =
     let up : Outcome = gives (io_of (held_of trans.leg.holds)) (settled dropped (with_legs t 0 trans (aborted t trans.leg s))) in
     let on : Outcome = gives (committed_of (commit_number trans.leg s) (held_of trans.leg.holds)) (settled dropped (with_legs t (legs_after trans.legs) trans (ended t trans.leg s))) in
     let wait : Outcome = gives (Refused Again) (asks_flush (asks_ckpt s)) in
@@ -260,7 +261,7 @@ lives_roll dropped t d s trans sound is h =
     lives_either d (is_no_room t trans s) wait on
     (λ full still. record { matches = matches_beside d s s.transactions s.last_trans (asks_flush (asks_ckpt s)).jobs s.frozen s.frames.fresh (h still).matches; own = (h still).own })
     (λ room still.
-    live_ended dropped t trans (set_at t (record trans { legs = legs_after trans.legs; leg = clean_leg }) s.transactions) d s sound is (sound_rolled dropped t s trans sound is (is_none_not s.shut live) room)
+    live_ended dropped t trans (set_at t (record trans { legs = legs_after trans.legs; leg = clean_leg }) s.transactions) d s sound form is (sound_rolled dropped t s trans sound is (is_none_not s.shut live) room)
     (rest_rolled t (legs_after trans.legs) trans s.transactions is) (h still))))
 
 filter_all : (xs : List (ℕ × List ℕ)) → filter (λ e. true) xs ≡ xs
@@ -278,15 +279,15 @@ aborted_ended t leg s clean =
     ap (λ (x : Leg). aborted t x s) same ∙ clean_aborted t leg.holds s ∙ sym (ap (λ (x : Leg). ended t x s) same)
 
 -- a leg is given up: a dirty one shuts the mount
-lives_given_up : (dropped : Dropped) (t : ℕ) (d : Disks) (s : State) (trans : Transaction) (dirty : Bool) → is_dirty trans.leg ≡ dirty → IsSound s → at t s.transactions ≡ Some trans → IsLiveUnlessShut d s
+lives_given_up : (dropped : Dropped) (t : ℕ) (d : Disks) (s : State) (trans : Transaction) (dirty : Bool) → is_dirty trans.leg ≡ dirty → IsSound s → s.form ≡ d.form → at t s.transactions ≡ Some trans → IsLiveUnlessShut d s
     → IsLiveUnlessShut d (settled dropped (shut_if dirty CorruptIncore (closed t (aborted t trans.leg s))))
-lives_given_up dropped t d s trans true has_changes sound is h = λ still. absurd (shut_for_some CorruptIncore s.shut still)
-lives_given_up dropped t d s trans false clean sound is h =
+lives_given_up dropped t d s trans true has_changes sound form is h = λ still. absurd (shut_for_some CorruptIncore s.shut still)
+lives_given_up dropped t d s trans false clean sound form is h =
     let none : trans.leg.changes ≡ [] = clean_changes trans.leg clean in
     let same : closed t (aborted t trans.leg s) ≡ closed t (ended t trans.leg s) = ap (closed t) (aborted_ended t trans.leg s none) in
     let after : IsSound (settled dropped (closed t (ended t trans.leg s))) = subst (λ (n : State). IsSound (settled dropped n)) same (sound_clean_cancel dropped t s trans sound is none) in
     subst (λ (n : State). IsLiveUnlessShut d (settled dropped n)) (sym same)
-    (λ still. live_ended dropped t trans (without t s.transactions) d s sound is after (rest_closed t s.transactions sound.parts.transactions_rise) (h still))
+    (λ still. live_ended dropped t trans (without t s.transactions) d s sound form is after (rest_closed t s.transactions sound.parts.transactions_rise) (h still))
 
-pub lives_cancel : (dropped : Dropped) (t : ℕ) (d : Disks) (s : State) (trans : Transaction) → IsSound s → at t s.transactions ≡ Some trans → IsLiveUnlessShut d s → IsLiveUnlessShut d (cancel dropped t s trans).state
-lives_cancel dropped t d s trans sound is h = lives_given_up dropped t d s trans (is_dirty trans.leg) refl sound is h
+pub lives_cancel : (dropped : Dropped) (t : ℕ) (d : Disks) (s : State) (trans : Transaction) → IsSound s → s.form ≡ d.form → at t s.transactions ≡ Some trans → IsLiveUnlessShut d s → IsLiveUnlessShut d (cancel dropped t s trans).state
+lives_cancel dropped t d s trans sound form is h = lives_given_up dropped t d s trans (is_dirty trans.leg) refl sound form is h

@@ -1,11 +1,10 @@
 -- A live mount stays one over the calls that lock and unlock blocks.
-use Rattle.std.proofs.Common.{◌≡◌, ◌∙◌, ◌+◌, ◌∷◌, Bool, List, None, Option, Some, [], ap, false, inl, inr, length, refl, sym, true, ℕ}
+use Rattle.std.proofs.Common.{◌≡◌, ◌∙◌, ◌+◌, ◌∷◌, Bool, List, None, Option, Some, [], ap, false, inl, inr, refl, subst, sym, true, ℕ}
 use Rattle.std.proofs.lemmas.Bool.{and_cases, and_parts, false≢true, not-false, not-true, or_left, or_parts, or_right}
 use Rattle.std.specs.Prelude.{if◌then◌else◌, is_none, is_some, nat_le, nat_lt, not, ◌&&◌, ◌-◌, ◌||◌}
 use Rattle.xt_base.proofs.KeyLemmas.{each_has}
 use Rattle.xt_base.proofs.LegLemmas.{own_trans}
 use Rattle.xt_base.proofs.MapLemmas.{at_put_same, some_same}
-use Rattle.xt_base.proofs.RisingLemmas.{each_at}
 use Rattle.xt_base.proofs.SoundBuffers.{sound_freed, sound_release, sound_without_hold}
 use Rattle.xt_base.proofs.SoundSteps.{is_none_not, passes_first, shut_for_some}
 use Rattle.xt_base.proofs.WrittenLemmas.{other_of}
@@ -16,6 +15,7 @@ use Rattle.xt_base.specs.Settle.{Dropped, settled}
 use Rattle.xt_base.specs.Sound.{IsSound, IsUnwritten, is_cancelled}
 use Rattle.xt_base.specs.Space.{busy_count, is_busy, is_listed}
 use Rattle.xt_base.specs.State.{Leg, State, Transaction}
+use Rattle.xt_base.specs.Text.{chunk}
 use Rattle.xt_base.specs.declared.steps.Answer.{Answer}
 use Rattle.xt_base.specs.declared.steps.Errno.{Errno}
 use Rattle.xt_base.specs.declared.steps.Errno.TheVariants.{Again, Invalid, Io, NoBufs}
@@ -33,6 +33,8 @@ use Rattle.xt_recovery.proofs.Matching.{MatchesDisks}
 use Rattle.xt_recovery.proofs.Recoverable.{IsRecoverable}
 use Rattle.xt_recovery.specs.DiskSteps.{IsContentOf}
 use Rattle.xt_recovery.specs.Disks.{Disks}
+use Rattle.xt_recovery.specs.Log.{HasChunk}
+use Rattle.xt_base.specs.Form.{Form}
 
 -- ---- outcomes
 pub lives_either : (d : Disks) (t : Bool) (x y : Outcome) → (t ≡ true → IsLiveUnlessShut d x.state) → (t ≡ false → IsLiveUnlessShut d y.state) → IsLiveUnlessShut d (if t then x else y).state
@@ -86,17 +88,17 @@ live_listed b t d s sound live free busy l =
     content_of_listed false (Some x) h none = absurd (false≢true (sym none))
 
 -- a block that comes in with its content
-live_busied : (b t : ℕ) (content : List ℕ) (d : Disks) (s : State) → IsSound s → is_in b s.owners ≡ false → length content ≡ s.form.size → MatchesDisks d (with_owner b (Trans t 0) (busied b content s)) → IsLive d s
+live_busied : (b t : ℕ) (content : List ℕ) (d : Disks) (s : State) → IsSound s → is_in b s.owners ≡ false → MatchesDisks d (with_owner b (Trans t 0) (busied b content s)) → IsLive d s
     → IsLive d (with_owner b (Trans t 0) (busied b content s))
-live_busied b t content d s sound free fits faithful l = record {
+live_busied b t content d s sound free faithful l = record {
   matches = faithful;
-  own = consistent_lock b t 0 (busied b content s) (or_right (has s.frames.fresh b) (is_in b (put b content s.frames.committed)) (ap is_some (at_put_same b content s.frames.committed))) (consistent_busied b content s sound free fits l.own);
+  own = consistent_lock b t 0 (busied b content s) (or_right (has s.frames.fresh b) (is_in b (put b content s.frames.committed)) (ap is_some (at_put_same b content s.frames.committed))) (consistent_busied b content s sound free l.own);
 }
 
 -- an idle block
 live_idle : (b t : ℕ) (content : List ℕ) (d : Disks) (s : State) → IsSound s → is_in b s.owners ≡ false → at b s.frames.idle ≡ Some content → IsLive d s → IsLive d (with_owner b (Trans t 0) (busied b content s))
 live_idle b t content d s sound free there l =
-    live_busied b t content d s sound free (each_at (λ e. length e.1 ≡ s.form.size) b content s.frames.idle there l.own.idle_whole)
+    live_busied b t content d s sound free
     (matches_idle t b content d s there (each_apart b (without b s.frames.idle) (apart_without b s.frames.idle l.own.idle_once)) l.matches) l
 
 -- a fresh block
@@ -154,17 +156,18 @@ lives_shut_if true d s h = λ still. absurd (shut_for_some MetaIoError s.shut st
 lives_shut_if false d s h = h
 
 -- what the device answered, where a content is what stands at home
-lives_answered : (t b : ℕ) (leg : Leg) (d : Disks) (s : State) (answer : Answer) → IsSound s → is_none s.shut ≡ true → IsRecoverable d s.items → is_in b s.owners ≡ false → is_busy s b ≡ false → is_in b s.frames.idle ≡ false
+lives_answered : (t b : ℕ) (leg : Leg) (d : Disks) (s : State) (answer : Answer) → IsSound s → s.form ≡ d.form → is_none s.shut ≡ true → IsRecoverable d s.items → is_in b s.owners ≡ false → is_busy s b ≡ false → is_in b s.frames.idle ≡ false
     → ((content : List ℕ) → answer ≡ Answer.Content content → IsContentOf d.home b s.form.size content) → IsLiveUnlessShut d s → IsLiveUnlessShut d (answered t b leg s answer).state
-lives_answered t b leg d s (Answer.Content content) sound live r nobody off absent honest h =
+lives_answered t b leg d s (Answer.Content content) sound form live r nobody off absent honest h =
     let c = honest content refl in
-    λ still. live_busied b t content d s sound nobody c.whole (matches_read t b content d s off absent r c.same (h live).matches) (h live)
-lives_answered t b leg d s Answer.None sound live r nobody off absent honest h = lives_shut_if (is_dirty leg) d s h
-lives_answered t b leg d s Answer.Failed sound live r nobody off absent honest h = lives_shut_if (is_dirty leg) d s h
+    let same : (k : ℕ) → HasChunk d.form.size k → chunk content k ≡ d.home b k = λ k there. c.same k (subst (λ (x : Form). HasChunk x.size k) (sym form) there) in
+    λ still. live_busied b t content d s sound nobody (matches_read t b content d s off absent r same (h live).matches) (h live)
+lives_answered t b leg d s Answer.None sound form live r nobody off absent honest h = lives_shut_if (is_dirty leg) d s h
+lives_answered t b leg d s Answer.Failed sound form live r nobody off absent honest h = lives_shut_if (is_dirty leg) d s h
 
-pub lives_read : (t b : ℕ) (answer : Answer) (d : Disks) (s : State) (trans : Transaction) → IsSound s → IsRecoverable d s.items
+pub lives_read : (t b : ℕ) (answer : Answer) (d : Disks) (s : State) (trans : Transaction) → IsSound s → s.form ≡ d.form → IsRecoverable d s.items
     → ((content : List ℕ) → answer ≡ Answer.Content content → None ≡ first_of (read_refusals t b trans.leg s) → is_absent t b s ≡ true → IsContentOf d.home b s.form.size content) → IsLiveUnlessShut d s → IsLiveUnlessShut d (read t b answer s trans).state
-lives_read t b answer d s trans sound r honest h =
+lives_read t b answer d s trans sound form r honest h =
     let own : Bool = at_end (own_count t (at b s.owners)) || (is_own s t b && (is_fresh s b || is_stale b trans.leg)) in
     let full : Bool = not (is_busy s b) && nat_le 64 (busy_count s) in
     lives_unless d (first_of (read_refusals t b trans.leg s)) s (if is_absent t b s then answered t b trans.leg s answer else gives Okay (locked t b (own_count t (at b s.owners)) s)) h
@@ -177,7 +180,7 @@ lives_read t b answer d s trans sound r honest h =
     lives_either d (is_absent t b s) (answered t b trans.leg s answer) (gives Okay (locked t b (own_count t (at b s.owners)) s))
     (λ absent.
     let off = absent_off t b s sound live fourth.0 absent in
-    lives_answered t b trans.leg d s answer sound live r off.0 off.1 off.2 (λ content is. honest content is passes absent) h)
+    lives_answered t b trans.leg d s answer sound form live r off.0 off.1 off.2 (λ content is. honest content is passes absent) h)
     (λ there still. live_locked t b (own_count t (at b s.owners)) d s sound live refl fourth.0 (h live)))
 
 -- ---- hold marks

@@ -1,14 +1,14 @@
 -- What the texts of a log say of a chunk, and what recovery makes of it.
 use Rattle.std.proofs.Common.{◌≡◌, ◌∙◌, ◌≤◌, ◌∷◌, Bool, List, None, Option, Some, [], ap, arith, false, inl, inr, refl, sym, true, ℕ}
 use Rattle.std.proofs.lemmas.Bool.{cases_Bool, leb-true, le-leb}
-use Rattle.std.specs.Prelude.{if◌then◌else◌, is_some, nat_le, unwrap_or, ◌<◌}
+use Rattle.std.specs.Prelude.{if◌then◌else◌, is_some, nat_le, unwrap_or}
 use Rattle.xt_base.proofs.MapLemmas.{some_none}
 use Rattle.xt_base.specs.Maps.{has}
 use Rattle.xt_base.specs.State.{Items}
 use Rattle.xt_base.specs.Text.{chunk}
 use Rattle.xt_recovery.proofs.Recoverable.{IsRecoverable}
 use Rattle.xt_recovery.specs.Disks.{Disks}
-use Rattle.xt_recovery.specs.Log.{CheckpointText, chunks_of, is_cancel, logged_chunk, recovered_image, texts_from}
+use Rattle.xt_recovery.specs.Log.{CheckpointText, HasChunk, chunks_of, is_cancel, logged_chunk, recovered_image, texts_from}
 
 module _ {A : Type 0} where
   -- the first of two where the test holds
@@ -88,7 +88,7 @@ from_all m (w ∷ ws) b k v h =
 
 -- ---- recovery
 -- and so does recovery by all texts
-pub recovers : (d : Disks) (l : Items) (b k : ℕ) → IsRecoverable d l → k < 32 → recovered_image d.log d.home b k ≡ d.landed b k
+pub recovers : (d : Disks) (l : Items) (b k : ℕ) → IsRecoverable d l → HasChunk d.form.size k → recovered_image d.log d.home b k ≡ d.landed b k
 recovers d l b k r small =
     unwrap_by (logged_chunk d.log b k) (d.home b k) (d.landed b k)
     (λ x is. r.told b k x small is)

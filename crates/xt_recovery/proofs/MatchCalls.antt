@@ -1,7 +1,7 @@
 -- A read that asks its device, a commit, and what changes no part, keep a live mount matched with its disks.
 use Rattle.std.proofs.Common.{◌≡◌, ◌≢◌, ◌∙◌, ◌∷◌, Bool, List, Some, [], ap, false, inl, inr, subst, sym, true, ℕ}
 use Rattle.std.proofs.lemmas.Bool.{cases_eq, false_from_ne_true, false≢true, or_from, or_left, or_parts}
-use Rattle.std.specs.Prelude.{is_some, unwrap_or, ◌<◌, ◌||◌}
+use Rattle.std.specs.Prelude.{is_some, unwrap_or, ◌||◌}
 use Rattle.xt_base.proofs.KeyLemmas.{is_in_without, is_in_first, is_in_later}
 use Rattle.xt_base.proofs.MapLemmas.{at_put_other, at_put_same, at_without_other}
 use Rattle.xt_base.proofs.RisingLemmas.{each_at, each_both, each_map, each_without}
@@ -18,7 +18,7 @@ use Rattle.xt_recovery.proofs.MatchLemmas.{coming_other, idle_parts}
 use Rattle.xt_recovery.proofs.Matching.{IsIdleLanded, MatchesDisks, next_image}
 use Rattle.xt_recovery.proofs.Recoverable.{IsRecoverable}
 use Rattle.xt_recovery.specs.Disks.{Disks, content_of}
-use Rattle.xt_recovery.specs.Log.{chunks_of}
+use Rattle.xt_recovery.specs.Log.{HasChunk, chunks_of}
 
 -- ---- what changes no part
 -- other transactions, jobs, and a number
@@ -40,12 +40,12 @@ each_apart b (e ∷ es) h = (
 )
 
 module _ (t b : ℕ) (content : List ℕ) (d : Disks) (s : State) (off : is_busy s b ≡ false) (apart : Each (λ e. e.0 ≢ b) (without b s.frames.idle))
-    (agrees : (k : ℕ) → k < 32 → chunk content k ≡ d.landed b k) (h : MatchesDisks d s) where
+    (agrees : (k : ℕ) → HasChunk d.form.size k → chunk content k ≡ d.landed b k) (h : MatchesDisks d s) where
   -- the mount after it
   abbrev pub read_state : State
   read_state = with_owner b (Trans t 0) (busied b content s)
 
-  read_marked : (q k : ℕ) → k < 32 → is_in q read_state.frames.committed ≡ true → has (chunks_of q s.items.cil) k ≡ false → chunk (content_of read_state q) k ≡ next_image s.items.flight d q k
+  read_marked : (q k : ℕ) → HasChunk d.form.size k → is_in q read_state.frames.committed ≡ true → has (chunks_of q s.items.cil) k ≡ false → chunk (content_of read_state q) k ≡ next_image s.items.flight d q k
   read_marked q k small there plain =
       elim (cases_eq q b) [
         | inl same ↦
@@ -82,7 +82,7 @@ module _ (t b : ℕ) (content : List ℕ) (d : Disks) (s : State) (off : is_busy
   }
 
 -- a block that is not busy is at home as it landed
-pub home_landed : (b k : ℕ) (d : Disks) (s : State) → is_busy s b ≡ false → IsRecoverable d s.items → k < 32 → d.home b k ≡ d.landed b k
+pub home_landed : (b k : ℕ) (d : Disks) (s : State) → is_busy s b ≡ false → IsRecoverable d s.items → HasChunk d.form.size k → d.home b k ≡ d.landed b k
 home_landed b k d s off r small =
     elim (r.home b k small) [
       | inl same ↦ same
@@ -92,7 +92,7 @@ home_landed b k d s off r small =
     ]
 
 -- a read whose device told what is at home keeps a mount matched with its disks
-pub matches_read : (t b : ℕ) (content : List ℕ) (d : Disks) (s : State) → is_busy s b ≡ false → is_in b s.frames.idle ≡ false → IsRecoverable d s.items → ((k : ℕ) → k < 32 → chunk content k ≡ d.home b k) → MatchesDisks d s
+pub matches_read : (t b : ℕ) (content : List ℕ) (d : Disks) (s : State) → is_busy s b ≡ false → is_in b s.frames.idle ≡ false → IsRecoverable d s.items → ((k : ℕ) → HasChunk d.form.size k → chunk content k ≡ d.home b k) → MatchesDisks d s
     → MatchesDisks d (with_owner b (Trans t 0) (busied b content s))
 matches_read t b content d s off absent r honest h =
     matches_busied t b content d s off (each_without (λ e. e.0 ≢ b) b s.frames.idle (each_apart b s.frames.idle absent)) (λ k small. honest k small ∙ home_landed b k d s off r small) h

@@ -22,7 +22,7 @@ use Rattle.xt_recovery.proofs.RecoverLemmas.{at_activated_other}
 use Rattle.xt_recovery.proofs.Matching.{IsIdleLanded, MatchesDisks, next_image}
 use Rattle.xt_recovery.proofs.Recoverable.{IsFlushedHome}
 use Rattle.xt_recovery.specs.Disks.{Disks, content_of, disks_begun, disks_landed}
-use Rattle.xt_recovery.specs.Log.{Image, chunks_of, is_cancel}
+use Rattle.xt_recovery.specs.Log.{HasChunk, Image, chunks_of, is_cancel}
 
 -- ---- lists and owners, as Bools
 -- on the committed list, in flight, or active
@@ -65,7 +65,7 @@ module _ (ps : List (List ℕ)) (d : Disks) (s : State) (none : s.items.flight �
       (in_committed (is_in b s.items.cil) (is_in b (flight_items s.items.flight)) (is_in b s.items.ail))
       (in_active (is_in b s.items.cil) (is_in b (flight_items s.items.flight)) (is_in b s.items.ail)) there
 
-  begun_marked : (b k : ℕ) → k < 32 → is_in b s.frames.committed ≡ true → chunk (content_of s b) k ≡ next_image (Some opened) (disks_begun s d) b k
+  begun_marked : (b k : ℕ) → HasChunk d.form.size k → is_in b s.frames.committed ≡ true → chunk (content_of s b) k ≡ next_image (Some opened) (disks_begun s d) b k
   begun_marked b k small there =
       let other : is_cancel b s.items.cil ≡ false = false_from_ne_true (is_cancel b s.items.cil) (λ cancels. let g = h.given_up b cancels in false≢true (sym g.bare ∙ there)) in
       let first : next_image (Some opened) (disks_begun s d) b k ≡ (if is_in b s.items.cil then chunk (content_of s b) k else d.landed b k) =
@@ -88,7 +88,7 @@ module _ (ps : List (List ℕ)) (d : Disks) (s : State) (none : s.items.flight �
   }
 
   -- what a begin needs of it, for what recovery stands on
-  pub begun_agrees : AreWritten s.owners s.frames.committed s.items → (b k : ℕ) → k < 32 → is_cancel b s.items.cil ≡ false → is_in b s.items.cil ≡ true → has (chunks_of b s.items.cil) k ≡ false → chunk (content_of s b) k ≡ d.landed b k
+  pub begun_agrees : AreWritten s.owners s.frames.committed s.items → (b k : ℕ) → HasChunk d.form.size k → is_cancel b s.items.cil ≡ false → is_in b s.items.cil ≡ true → has (chunks_of b s.items.cil) k ≡ false → chunk (content_of s b) k ≡ d.landed b k
   begun_agrees written b k small other there absent =
       h.marked b k small (present_of b s written (in_committed (is_in b s.items.cil) (is_in b (flight_items s.items.flight)) (is_in b s.items.ail) there) other (no_item b (flight_items s.items.flight) (no_flight b))) absent
       ∙ coming_other s.items.flight d b k (no_flight b)

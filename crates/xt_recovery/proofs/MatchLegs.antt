@@ -1,8 +1,8 @@
 -- The commit of a leg keeps a live mount matched with its disks.
-use Rattle.std.proofs.Common.{◌≡◌, ◌≢◌, ◌∙◌, ◌⊎◌, ◌∷◌, List, None, Option, Some, [], ap, arith, cond, false, inl, inr, length, refl, suc, sym, true, ℕ}
+use Rattle.std.proofs.Common.{◌≡◌, ◌≢◌, ◌∙◌, ◌⊎◌, ◌∷◌, ◌≤◌, List, None, Option, Some, [], ap, arith, cond, false, inl, inr, length, refl, subst, suc, sym, true, ℕ}
 use Rattle.std.proofs.lemmas.Bool.{and_from, and_parts, cases_eq, false≢true, ne_eqb, or_left, or_parts, or_right}
 use Rattle.std.specs.List.{cons_option}
-use Rattle.std.specs.Prelude.{IfSome, filter_map, if◌then◌else◌, is_none, is_some, not, unwrap_or, ◌&&◌, ◌<◌, ◌==◌, ◌||◌}
+use Rattle.std.specs.Prelude.{IfSome, filter_map, if◌then◌else◌, is_none, is_some, not, unwrap_or, ◌&&◌, ◌/◌, ◌<◌, ◌==◌, ◌||◌}
 use Rattle.xt_base.proofs.ChunkCounts.{has-chunks_where}
 use Rattle.xt_base.proofs.KeyLemmas.{at_filter_map, is_in_filter_map}
 use Rattle.xt_base.proofs.LegLemmas.{is_in_with_marks, keeps_owner_after, own_itself, own_trans, owned_there, rises_with_edits}
@@ -20,7 +20,8 @@ use Rattle.xt_recovery.proofs.MatchJobs.{at_without_same, less_busy, listed_case
 use Rattle.xt_recovery.proofs.Consistent.{AreMarkedEdits}
 use Rattle.xt_recovery.proofs.Matching.{IsCancelledInFlight, IsCancelledOpen, IsIdleLanded, MatchesDisks, next_image}
 use Rattle.xt_recovery.specs.Disks.{Disks, content_of}
-use Rattle.xt_recovery.specs.Log.{chunks_of, is_cancel}
+use Rattle.xt_recovery.specs.Log.{HasChunk, chunks_of, is_cancel}
+use Rattle.xt_base.specs.Form.{Form, IsForm}
 
 -- ---- lists
 pub cases_option : {A : Type 0} (o : Option A) → (o ≡ None) ⊎ ((x : A) × (o ≡ Some x))
@@ -98,6 +99,13 @@ at_marks_same n b c (e ∷ cs) m r h =
           ∙ ap (λ o. Some (joined_marks o c)) (at_put_other e.0 b (joined_marks (at e.0 m) e.1) m other)
     ]
 
+-- a block has no more than 32 chunks
+pub chunk_small : (form : Form) → IsForm form → (k : ℕ) → HasChunk form.size k → k < 32
+chunk_small form fits k there =
+    let most : form.size ≤ 4096 = fits.small in
+    let one : k < form.size / 128 = there in
+    omega (arith, most, one)
+
 -- a chunk of a union is of either
 pub has_union : (a b : List ℕ) (k : ℕ) → k < 32 → has (union a b) k ≡ (has a k || has b k)
 has_union a b k small = has-chunks_where (λ q. has a q || has b q) k small
@@ -107,7 +115,7 @@ some_chunk [] k h = absurd (false≢true h)
 some_chunk (x ∷ xs) k h = ne_eqb (length (x ∷ xs)) 0 (λ same. omega (arith, same))
 
 -- ---- the commit of a leg
-module _ (t : ℕ) (trans : Transaction) (d : Disks) (s : State) (fair : IsFair s.form.ends s.owners (t, trans)) (rises : IsRising s.frames.committed) (edits : AreMarkedEdits s.form.size s.frames.committed trans.leg.changes) (h : MatchesDisks d s) where
+module _ (t : ℕ) (trans : Transaction) (d : Disks) (s : State) (fits : IsForm s.form) (form : s.form ≡ d.form) (fair : IsFair s.form.ends s.owners (t, trans)) (rises : IsRising s.frames.committed) (edits : AreMarkedEdits s.form.size s.frames.committed trans.leg.changes) (h : MatchesDisks d s) where
   abbrev pub cs : List (ℕ × Change)
   cs = trans.leg.changes
 
@@ -148,10 +156,10 @@ module _ (t : ℕ) (trans : Transaction) (d : Disks) (s : State) (fair : IsFair 
       let consistent_edit = edits b c is in
       let one = consistent_edit.marks content edit in
       let there : has (chunks_of b ended_state.items.cil) one.0 ≡ true =
-      ap (λ (x : List ℕ). has x one.0) (chunks_edit b c content is edit) ∙ has_union (chunks_of b s.items.cil) c.marks one.0 one.1 ∙ or_right (has (chunks_of b s.items.cil) one.0) (has c.marks one.0) one.2 in
+      ap (λ (x : List ℕ). has x one.0) (chunks_edit b c content is edit) ∙ has_union (chunks_of b s.items.cil) c.marks one.0 (chunk_small s.form fits one.0 one.1) ∙ or_right (has (chunks_of b s.items.cil) one.0) (has c.marks one.0) one.2 in
       false≢true (sym (some_chunk (chunks_of b ended_state.items.cil) one.0 there) ∙ (and_parts (is_in b ended_state.items.cil) (length (chunks_of b ended_state.items.cil) == 0) cancels).1)
 
-  ended_marked : (b k : ℕ) → k < 32 → is_in b ended_state.frames.committed ≡ true → has (chunks_of b ended_state.items.cil) k ≡ false → chunk (content_of ended_state b) k ≡ next_image s.items.flight d b k
+  ended_marked : (b k : ℕ) → HasChunk d.form.size k → is_in b ended_state.frames.committed ≡ true → has (chunks_of b ended_state.items.cil) k ≡ false → chunk (content_of ended_state b) k ≡ next_image s.items.flight d b k
   ended_marked b k small there absent =
       elim (cases_option (at b cs)) [
         | inl none ↦
@@ -163,9 +171,10 @@ module _ (t : ℕ) (trans : Transaction) (d : Disks) (s : State) (fair : IsFair 
               | inl stale ↦ absurd (false≢true (sym (ap is_some (content_same b c changed.1 ∙ stale)) ∙ there))
               | inr edit ↦
                   let consistent_edit = edits b c changed.1 in
+                  let own : HasChunk s.form.size k = subst (λ (x : Form). HasChunk x.size k) (sym form) small in
                   let neither = or_parts (has (chunks_of b s.items.cil) k) (has c.marks k)
-                  (sym (has_union (chunks_of b s.items.cil) c.marks k small) ∙ sym (ap (λ (x : List ℕ). has x k) (chunks_edit b c edit.0 changed.1 edit.1)) ∙ absent) in
-                  let agrees = consistent_edit.agrees edit.0 k edit.1 small neither.1 in
+                  (sym (has_union (chunks_of b s.items.cil) c.marks k (chunk_small s.form fits k own)) ∙ sym (ap (λ (x : List ℕ). has x k) (chunks_edit b c edit.0 changed.1 edit.1)) ∙ absent) in
+                  let agrees = consistent_edit.agrees edit.0 k edit.1 own neither.1 in
                   ap (λ o. chunk (unwrap_or o (zeros s.form.size)) k) (content_same b c changed.1 ∙ edit.1) ∙ agrees.1 ∙ h.marked b k small agrees.0 neither.0
             ]
       ]

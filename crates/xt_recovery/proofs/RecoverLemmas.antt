@@ -1,7 +1,7 @@
 -- What the jobs make of the two devices is recovered: a landing, a failure, a begin and a flush.
 use Rattle.std.proofs.Common.{◌≡◌, ◌≢◌, ◌∙◌, ◌⊎◌, ◌≤◌, ◌∷◌, Bool, List, None, Option, Some, [], ap, arith, false, inl, inr, length, refl, subst, suc, sym, true, ℕ}
 use Rattle.std.proofs.lemmas.Bool.{and_cases, cases_Bool, cases_eq, false≢true, or_right}
-use Rattle.std.specs.Prelude.{filter, if◌then◌else◌, is_some, not, unwrap_or, ◌<◌, ◌==◌, ◌||◌}
+use Rattle.std.specs.Prelude.{filter, if◌then◌else◌, is_some, not, unwrap_or, ◌==◌, ◌||◌}
 use Rattle.xt_base.proofs.KeyLemmas.{at_filter}
 use Rattle.xt_base.proofs.MapLemmas.{at_first, at_later, at_put_other, at_put_same, at_without_other, some_none, some_same, without_first, without_later}
 use Rattle.xt_base.proofs.RisingLemmas.{filter_drop, filter_pass, none_below, rises_put, rises_without}
@@ -15,7 +15,7 @@ use Rattle.xt_base.specs.declared.steps.HomeAnswers.{HomeAnswers}
 use Rattle.xt_recovery.proofs.LogLemmas.{first_if, found_cancel, found_first, found_later, from_first, second_if, some_of}
 use Rattle.xt_recovery.proofs.Recoverable.{AgreesUnlogged, IsFlushedHome, IsInLog, IsRecoverable}
 use Rattle.xt_recovery.specs.Disks.{Disks, content_of, disks_begun, disks_failed, disks_landed, flight_text}
-use Rattle.xt_recovery.specs.Log.{CheckpointText, Image, chunks_of, is_cancel, logged_chunk, texts_from}
+use Rattle.xt_recovery.specs.Log.{CheckpointText, HasChunk, Image, chunks_of, is_cancel, logged_chunk, texts_from}
 
 -- ---- what stands where a filter stays
 module _ {V : Type 0} where
@@ -172,14 +172,14 @@ module _ (ends : ℕ) (f : Flight) (d : Disks) (l : Items) (flies : l.flight ≡
       ∙ second_if (is_in b f.items) (chunk (d.snapshot b) k) (d.landed b k) absent
 
   -- and so does a chunk that it does not log
-  pub landed_beside : (b k : ℕ) → k < 32 → is_cancel b f.items ≡ false → has (chunks_of b f.items) k ≡ false → after.landed b k ≡ d.landed b k
+  pub landed_beside : (b k : ℕ) → HasChunk d.form.size k → is_cancel b f.items ≡ false → has (chunks_of b f.items) k ≡ false → after.landed b k ≡ d.landed b k
   landed_beside b k small h absent =
       elim (cases_Bool (is_in b f.items)) [
         | inl there ↦ landed_item b k h there ∙ r.beside f flies b k small h there absent
         | inr off ↦ landed_other b k h off
       ]
 
-  landed_told : (b k : ℕ) (v : List ℕ) → k < 32 → logged_chunk after.log b k ≡ Some v → v ≡ after.landed b k
+  landed_told : (b k : ℕ) (v : List ℕ) → HasChunk d.form.size k → logged_chunk after.log b k ≡ Some v → v ≡ after.landed b k
   landed_told b k v small h =
       elim (cases_Bool (is_cancel b f.items)) [
         | inl cancels ↦ some_none v (v ≡ after.landed b k) (sym h ∙ found_cancel text d.log b k cancels)
@@ -204,7 +204,7 @@ module _ (ends : ℕ) (f : Flight) (d : Disks) (l : Items) (flies : l.flight ≡
   item_aged b None h = omega arith
   item_aged b (Some n) h = r.aged f b n flies h
 
-  landed_home : (b k : ℕ) → k < 32 → (after.home b k ≡ after.landed b k) ⊎ IsInLog after (landed_items ends f l) b k
+  landed_home : (b k : ℕ) → HasChunk d.form.size k → (after.home b k ≡ after.landed b k) ⊎ IsInLog after (landed_items ends f l) b k
   landed_home b k small =
       elim (cases_Bool (is_cancel b f.items)) [
         | inl cancels ↦ inl (sym (landed_cancel b k cancels))
@@ -260,7 +260,7 @@ recoverable_failed f d l r = record {
 -- ---- a begin
 -- the committed list becomes the flight
 pub recoverable_begun : (ps : List (List ℕ)) (s : State) (d : Disks) → IsRecoverable d s.items
-    → ((b k : ℕ) → k < 32 → is_cancel b s.items.cil ≡ false → is_in b s.items.cil ≡ true → has (chunks_of b s.items.cil) k ≡ false → chunk (content_of s b) k ≡ d.landed b k)
+    → ((b k : ℕ) → HasChunk d.form.size k → is_cancel b s.items.cil ≡ false → is_in b s.items.cil ≡ true → has (chunks_of b s.items.cil) k ≡ false → chunk (content_of s b) k ≡ d.landed b k)
     → IsRecoverable (disks_begun s d) (flown ps s).items
 recoverable_begun ps s d r agrees =
     let g : Flight = record { number = s.items.open_number; items = s.items.cil; pieces = ps } in
@@ -292,7 +292,7 @@ pub gone_planned : (b : ℕ) (plan : List ℕ) (answers : HomeAnswers) → has (
 gone_planned b plan answers h = planned_if answers.sync b plan (written plan (write_answers answers)) (written_planned b plan (write_answers answers)) h
 
 module _ (plan : List ℕ) (answers : HomeAnswers) (contents : ℕ → List ℕ) (d : Disks) (home : Image) (l : Items) (ail_rises : IsRising l.ail) (went : IsFlushedHome plan answers contents d.home home)
-    (agrees : (b k : ℕ) → k < 32 → has plan b ≡ true → chunk (contents b) k ≡ d.landed b k) (r : IsRecoverable d l) where
+    (agrees : (b k : ℕ) → HasChunk d.form.size k → has plan b ≡ true → chunk (contents b) k ≡ d.landed b k) (r : IsRecoverable d l) where
   -- the devices after a flush
   abbrev pub flushed_disks : Disks
   flushed_disks = record d { home = home }
@@ -301,7 +301,7 @@ module _ (plan : List ℕ) (answers : HomeAnswers) (contents : ℕ → List ℕ)
   abbrev pub flushed_items : Items
   flushed_items = cleaned (gone plan answers) l
 
-  flushed_home : (b k : ℕ) → k < 32 → (home b k ≡ d.landed b k) ⊎ IsInLog flushed_disks flushed_items b k
+  flushed_home : (b k : ℕ) → HasChunk d.form.size k → (home b k ≡ d.landed b k) ⊎ IsInLog flushed_disks flushed_items b k
   flushed_home b k small =
       elim (cases_Bool (has (gone plan answers) b)) [
         | inl stands ↦ inl (went.stands b k stands ∙ agrees b k small (gone_planned b plan answers stands))

@@ -4,12 +4,13 @@ use Rattle.xt_base.specs.Alone.{alone}
 use Rattle.xt_base.specs.Order.{suits}
 use Rattle.xt_base.specs.State.{Lone}
 use Rattle.xt_base.specs.declared.steps.Step.{Step}
-use Rattle.xt_recovery.specs.DiskSteps.{AllSuit, AreDiskSteps, IsHomeAfterStep, IsLogCut, StepReadsHome, disks_after}
+use Rattle.xt_recovery.specs.DiskSteps.{AllSuit, AreDiskSteps, IsHomeAfterStep, IsLogCut, MakesForm, StepReadsHome, disks_after}
 use Rattle.xt_recovery.specs.Disks.{Disks}
 
 -- one step that suits a slot, with its disks before and after
 pub record IsSuitedStep (x : Step) (s : Lone) (d e : Disks) : Type 0 where
   pub fits : suits x s ≡ true
+  pub form : MakesForm x s d.form
   pub told : StepReadsHome x s d.home
   pub home : IsHomeAfterStep x s d e.home
   pub after : e ≡ disks_after x s e.home d
@@ -24,4 +25,4 @@ pub suited_steps : (xs : List Step) (s : Lone) (d e : Disks) → AllSuit xs s �
 suited_steps [] s d e suit served = served
 suited_steps (x ∷ xs) s d e suit served =
     let one = served.2 in
-    (served.0, served.1, record { fits = suit.0; told = one.told; home = one.home; after = one.after }, served.3, suited_steps xs (alone x s).slot served.1 e suit.1 served.4)
+    (served.0, served.1, record { fits = suit.0; form = one.form; told = one.told; home = one.home; after = one.after }, served.3, suited_steps xs (alone x s).slot served.1 e suit.1 served.4)

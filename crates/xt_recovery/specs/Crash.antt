@@ -1,6 +1,7 @@
 -- What a crash may leave of the disks of a slot, and what recovery is to make of it.
 use Rattle.std.specs.Prelude.{List, None, Option, Some, [], is_none, length, true, ℕ, ◌≡◌, ◌⊎◌}
 use Rattle.xt_base.specs.Alone.{after}
+use Rattle.xt_base.specs.Form.{Form, form_of, is_size}
 use Rattle.xt_base.specs.Jobs.{flush_plan}
 use Rattle.xt_base.specs.Maps.{has}
 use Rattle.xt_base.specs.State.{Flight, Lone, State, empty}
@@ -23,24 +24,24 @@ pub record IsCrash (s : Lone) (d : Disks) (home : Image) (log : List CheckpointT
 -- an image is what was committed at the begin of the last landed checkpoint, or of the one in flight, or of the one that failed: all of it
 abbrev pub IsCommittedImage : Lone → Disks → Image → Image → Type 0
 IsCommittedImage s d home image =
-    Agree image d.landed
-    ⊎ (((f : Flight) × (flight_of s.mounted ≡ Some f) × Agree image (landed_image (flight_text f d) home d.landed))
-    ⊎ ((w : CheckpointText) × (d.failed ≡ Some w) × Agree image (landed_image w home d.landed)))
+    Agree d.form.size image d.landed
+    ⊎ (((f : Flight) × (flight_of s.mounted ≡ Some f) × Agree d.form.size image (landed_image (flight_text f d) home d.landed))
+    ⊎ ((w : CheckpointText) × (d.failed ≡ Some w) × Agree d.form.size image (landed_image w home d.landed)))
 
--- after any steps of a slot that suit it, at every crash, recovery gives what was committed
+-- after any steps of a slot that suit it, on disks of any form, at every crash, recovery gives what was committed
 abbrev pub Recovers : Type 0
-Recovers = (steps : List Step) → AllSuit steps empty → (start : Image) (d : Disks) → AreDiskSteps steps empty (new_disks start) d
+Recovers = (steps : List Step) → AllSuit steps empty → (form : Form) (start : Image) (d : Disks) → AreDiskSteps steps empty (new_disks form start) d
     → (home : Image) (log : List CheckpointText) → IsCrash (after steps empty) d home log → IsCommittedImage (after steps empty) d home (recovered_image log home)
 
 -- where no block of a mount waits to be written home, the home device has all that landed: the log is not needed
 abbrev pub HomeHasLanded : Type 0
-HomeHasLanded = (steps : List Step) → AllSuit steps empty → (start : Image) (d : Disks) → AreDiskSteps steps empty (new_disks start) d
-    → (m : State) → (after steps empty).mounted ≡ Some m → m.items.ail ≡ [] → Agree d.home d.landed
+HomeHasLanded = (steps : List Step) → AllSuit steps empty → (form : Form) (start : Image) (d : Disks) → AreDiskSteps steps empty (new_disks form start) d
+    → (m : State) → (after steps empty).mounted ≡ Some m → m.items.ail ≡ [] → Agree d.form.size d.home d.landed
 
 -- between two steps the log of a live mount of which no block waits to be written home may lose all its texts
 abbrev pub LogMayGo : Type 0
 LogMayGo = (m : State) (d : Disks) → is_none m.shut ≡ true → m.items.ail ≡ [] → IsLogCut (Some m) d (record d { log = [] })
 
--- over any home image there are steps, which suit, after which one checkpoint has landed
+-- over any home image of a form that a mount may have there are steps, which suit, after which one checkpoint has landed
 abbrev pub Lands : Type 0
-Lands = (start : Image) → (steps : List Step) × (d : Disks) × AllSuit steps empty × AreDiskSteps steps empty (new_disks start) d × (length d.log ≡ 1)
+Lands = (size : Option ℕ) → is_size size ≡ true → (start : Image) → (steps : List Step) × (d : Disks) × AllSuit steps empty × AreDiskSteps steps empty (new_disks (form_of size) start) d × (length d.log ≡ 1)

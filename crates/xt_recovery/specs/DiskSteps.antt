@@ -1,7 +1,8 @@
 -- What the steps of a slot make of its disks.
-use Rattle.std.specs.Prelude.{List, None, Option, Some, [], if◌then◌else◌, is_none, length, true, ℕ, ◌<◌, ◌∷◌, ◌≡◌, ◌≤◌, ◌⊎◌}
+use Rattle.std.specs.Prelude.{List, None, Option, Some, [], if◌then◌else◌, is_none, length, true, ℕ, ◌∷◌, ◌≡◌, ◌≤◌, ◌⊎◌}
 use Rattle.xt_base.specs.Alone.{alone, mount_refusals}
 use Rattle.xt_base.specs.Calls.{first_of, read_asks}
+use Rattle.xt_base.specs.Form.{Form, form_of}
 use Rattle.xt_base.specs.Maps.{at}
 use Rattle.xt_base.specs.Order.{suits}
 use Rattle.xt_base.specs.State.{Flight, Items, Lone, State}
@@ -12,17 +13,17 @@ use Rattle.xt_base.specs.declared.steps.Step.{Step}
 use Rattle.xt_base.specs.declared.steps.Step.TheVariants.{Begin, Call, End, Flush, Mount}
 use Rattle.xt_recovery.specs.Disks.{Disks, disks_at_begin, disks_at_end, flight_of, flight_text, new_disks}
 use Rattle.xt_recovery.specs.Flush.{IsHomeAfter}
-use Rattle.xt_recovery.specs.Log.{CheckpointText, Image, recovered_image, texts_from}
+use Rattle.xt_recovery.specs.Log.{CheckpointText, HasChunk, Image, recovered_image, texts_from}
 
--- two images have the same chunks
-abbrev pub Agree : Image → Image → Type 0
-Agree one other = (b k : ℕ) → k < 32 → one b k ≡ other b k
+-- two images of blocks of so many bytes have the same chunks
+abbrev pub Agree : ℕ → Image → Image → Type 0
+Agree size one other = (b k : ℕ) → HasChunk size k → one b k ≡ other b k
 
 -- ---- reads
 -- a content is what an image has of a block
 pub record IsContentOf (image : Image) (b size : ℕ) (content : List ℕ) : Type 0 where
   pub whole : length content ≡ size
-  pub same : (k : ℕ) → k < 32 → chunk content k ≡ image b k
+  pub same : (k : ℕ) → HasChunk size k → chunk content k ≡ image b k
 
 -- a read that asks the home device is answered with what stands there
 abbrev pub ReadsHome : Image → State → Request → Answer → Type 0
@@ -42,13 +43,18 @@ IsLogAfterCrash o d log =
 
 -- what a step may leave at home: a mount finds what recovery made of the life before, and a flush leaves what its writes may
 abbrev pub IsHomeAfterStep : Step → Lone → Disks → Image → Type 0
-IsHomeAfterStep (Mount slot log_bytes blocks) s d new = first_of (mount_refusals log_bytes blocks s) ≡ None → (log : List CheckpointText) × IsLogAfterCrash s.mounted d log × Agree new (recovered_image log d.home)
+IsHomeAfterStep (Mount slot log_bytes blocks size) s d new = first_of (mount_refusals log_bytes blocks size s) ≡ None → (log : List CheckpointText) × IsLogAfterCrash s.mounted d log × Agree d.form.size new (recovered_image log d.home)
 IsHomeAfterStep (Flush worker name answers) s d new = IsHomeAfter (alone (Flush worker name answers) s).home d.home new
 IsHomeAfterStep other s d new = Unit {0}
 
+-- a mount makes the form of the disks: a volume has one for its life
+abbrev pub MakesForm : Step → Lone → Form → Type 0
+MakesForm (Mount slot log_bytes blocks size) s form = first_of (mount_refusals log_bytes blocks size s) ≡ None → form_of size ≡ form
+MakesForm other s form = Unit {0}
+
 -- the disks after a step that left this home image; a mount begins with an empty log
 abbrev pub disks_after : Step → Lone → Image → Disks → Disks
-disks_after (Mount slot log_bytes blocks) s home d = if is_none (first_of (mount_refusals log_bytes blocks s)) then new_disks home else d
+disks_after (Mount slot log_bytes blocks size) s home d = if is_none (first_of (mount_refusals log_bytes blocks size s)) then new_disks d.form home else d
 disks_after (Begin worker name) s home d = disks_at_begin s.mounted d
 disks_after (End worker name answers) s home d = disks_at_end answers (flight_of s.mounted) d
 disks_after (Flush worker name answers) s home d = record d { home = home }
@@ -66,6 +72,7 @@ IsLogCut (Some m) d e = (e ≡ d) ⊎ ((n : ℕ) × (is_none m.shut ≡ true) ×
 -- ---- steps
 -- one step takes the disks from d to e
 pub record IsDiskStep (x : Step) (s : Lone) (d e : Disks) : Type 0 where
+  pub form : MakesForm x s d.form
   pub told : StepReadsHome x s d.home
   pub home : IsHomeAfterStep x s d e.home
   pub after : e ≡ disks_after x s e.home d

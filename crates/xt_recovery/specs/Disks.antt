@@ -1,5 +1,6 @@
 -- The two disks of a mount, and what its jobs make of them.
 use Rattle.std.specs.Prelude.{List, None, Option, Some, [], if◌then◌else◌, is_some, ℕ, ◌∷◌}
+use Rattle.xt_base.specs.Form.{Form}
 use Rattle.xt_base.specs.Jobs.{is_ok}
 use Rattle.xt_base.specs.Maps.{is_in}
 use Rattle.xt_base.specs.State.{Flight, State}
@@ -9,6 +10,8 @@ use Rattle.xt_recovery.specs.Log.{CheckpointText, Image, is_cancel}
 
 -- what stands on the disks of a mount, and what it is to mean
 pub record Disks : Type 0 where
+  -- the size of a block, and what the texts on the log say of it: for the life of the volume
+  pub form : Form
   -- what the home device has
   pub home : Image
   -- the texts on the log whose sync was answered Ok, the newest first
@@ -20,9 +23,9 @@ pub record Disks : Type 0 where
   -- the text of a checkpoint whose end failed, of which a part or all may stand behind the others
   pub failed : Option CheckpointText
 
--- the disks of a new mount: a home image, and an empty log
-abbrev pub new_disks : Image → Disks
-new_disks home = record { home = home; log = []; landed = home; snapshot = λ b. []; failed = None }
+-- the disks of a new mount of this form: a home image, and an empty log
+abbrev pub new_disks : Form → Image → Disks
+new_disks form home = record { form = form; home = home; log = []; landed = home; snapshot = λ b. []; failed = None }
 
 -- the committed content of a block; zeros where it has none
 abbrev pub content_of : State → ℕ → List ℕ

@@ -1,7 +1,13 @@
 -- The texts that stand on a log, and the image that recovery makes of them.
-use Rattle.std.specs.Prelude.{Bool, List, None, Option, Some, [], flat_map, if◌then◌else◌, length, nat_le, unwrap_or, ℕ, ◌&&◌, ◌==◌, ◌∷◌}
+use Rattle.std.specs.Prelude.{Bool, List, None, Option, Some, [], flat_map, if◌then◌else◌, length, nat_le, unwrap_or, ℕ, ◌&&◌, ◌/◌, ◌<◌, ◌==◌, ◌∷◌}
+use Rattle.xt_base.specs.Form.{Form}
 use Rattle.xt_base.specs.Maps.{at, has, is_in}
-use Rattle.xt_base.specs.Text.{chunk, chunk_bytes, item_text, text_with}
+use Rattle.xt_base.specs.Text.{chunk, chunk_bytes, item_text, text_in}
+use Rattle.xt_base.specs.declared.sizes.TheConstants.{CHUNK_BYTES}
+
+-- a block of so many bytes has this chunk
+abbrev pub HasChunk : ℕ → ℕ → Type 0
+HasChunk size k = k < size / CHUNK_BYTES
 
 -- the bytes of each chunk of each block
 abbrev pub Image : Type 0
@@ -13,9 +19,9 @@ pub record CheckpointText : Type 0 where
   pub items : List (ℕ × List ℕ)
   pub contents : ℕ → List ℕ
 
--- the bytes of a text
-abbrev pub text_bytes : CheckpointText → List ℕ
-text_bytes w = text_with w.number (length w.items) (flat_map (λ e. item_text e.0 e.1 (chunk_bytes (w.contents e.0) e.1)) w.items)
+-- the bytes of a text of this form
+abbrev pub text_bytes : Form → CheckpointText → List ℕ
+text_bytes form w = text_in form w.number (length w.items) (flat_map (λ e. item_text e.0 e.1 (chunk_bytes (w.contents e.0) e.1)) w.items)
 
 -- the chunks that items log of a block
 abbrev pub chunks_of : ℕ → List (ℕ × List ℕ) → List ℕ

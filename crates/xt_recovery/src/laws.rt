@@ -2,8 +2,8 @@
 
 ghost use Rattle.xt_recovery.specs.Crash.{HomeHasLanded, Lands, LogMayGo, Recovers};
 
-/// After any steps of a mount, at every crash, the texts of its log laid over its home image give what was committed at the begin of the last
-/// landed checkpoint, or of the one in flight, or of one whose end failed: all of it or none.
+/// After any steps of a mount, whatever its form, at every crash, the texts of its log laid over its home image give what was committed at the
+/// begin of the last landed checkpoint, or of the one in flight, or of one whose end failed: all of it or none.
 pub fn recovers()
     ensures { Recovers }
 {}

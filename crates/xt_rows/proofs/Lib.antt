@@ -9,8 +9,10 @@ mod RandomListsA
 mod RandomListsB
 mod RandomListsC
 mod RandomListsD
+mod RandomListsE
 mod RowsOrder
 mod RowsPlaces
 mod RowsBusyRead
 mod LastLock
 mod RowsLongest
+mod RowsSized

@@ -1,6 +1,6 @@
 -- Scripts computed over the definitions: what each step of the mount alone says, and that the list is orderly.
 -- Made by tools/row-theorems from the files of rows/.
-use Rattle.std.proofs.Common.{◌≡◌, ℕ, List, [], ◌∷◌, ◌++◌, Some, true, false, refl}
+use Rattle.std.proofs.Common.{◌≡◌, ℕ, List, [], ◌∷◌, ◌++◌, Some, None, true, false, refl}
 use Rattle.std.specs.Prelude.{replicate}
 use Rattle.xt_base.specs.Alone.{Said, alone_run}
 use Rattle.xt_base.specs.Chunks.{chunks_where}
@@ -30,7 +30,7 @@ told slot reply = said slot reply [] []
 -- ---- list01
 abbrev list01_steps : List Step
 list01_steps =
-    Step.Mount 4 65536 1099511627776
+    Step.Mount 4 65536 1099511627776 None
     ∷ Step.Call 4 1 (Request.Alloc 65537 1 true) Answer.None
     ∷ Step.Call 4 1 (Request.Alloc 976 2 true) Answer.None
     ∷ Step.Call 4 1 (Request.Commit 1) Answer.None
@@ -248,7 +248,7 @@ list01_order = refl
 abbrev list02_steps : List Step
 list02_steps =
     Step.Show 12
-    ∷ Step.Mount 12 98304 1024
+    ∷ Step.Mount 12 98304 1024 None
     ∷ Step.Call 12 1 (Request.Alloc 863 1 true) Answer.None
     ∷ Step.Call 12 1 (Request.Alloc 1000 1 false) Answer.None
     ∷ Step.Call 12 1 (Request.Read 18446744073709551615 255) Answer.None
@@ -464,7 +464,7 @@ list02_order = refl
 -- ---- list03
 abbrev list03_steps : List Step
 list03_steps =
-    Step.Mount 11 66055 1024
+    Step.Mount 11 66055 1024 None
     ∷ Step.Call 11 1 (Request.Alloc 2000 1 false) Answer.None
     ∷ Step.Call 11 1 (Request.Read 1 202) (Answer.Content (replicate 4096 102))
     ∷ Step.Call 11 1 (Request.Alloc 4144 8 true) Answer.None

@@ -1,6 +1,6 @@
 -- Scripts computed over the definitions: what each step of the mount alone says, and that the list is orderly.
 -- Made by tools/row-theorems from the files of rows/.
-use Rattle.std.proofs.Common.{◌≡◌, ℕ, List, [], ◌∷◌, ◌++◌, Some, true, false, refl}
+use Rattle.std.proofs.Common.{◌≡◌, ℕ, List, [], ◌∷◌, ◌++◌, Some, None, true, false, refl}
 use Rattle.std.specs.Prelude.{replicate}
 use Rattle.xt_base.specs.Alone.{Said, alone_run}
 use Rattle.xt_base.specs.Chunks.{chunks_where}
@@ -31,7 +31,7 @@ told slot reply = said slot reply [] []
 -- ---- list04
 abbrev list04_steps : List Step
 list04_steps =
-    Step.Mount 8 65536 1048576
+    Step.Mount 8 65536 1048576 None
     ∷ Step.Call 8 1 (Request.Alloc 9000 3 true) Answer.None
     ∷ Step.Call 8 1 (Request.Get 1 219) Answer.None
     ∷ Step.Call 8 1 (Request.Get 1 204) Answer.None
@@ -77,7 +77,7 @@ list04_steps =
     ∷ Step.Call 8 1 (Request.Cancel 8) Answer.None
     ∷ Step.Call 8 1 (Request.Alloc 719 1 false) Answer.None
     ∷ Step.Call 8 1 (Request.Commit 1) Answer.None
-    ∷ Step.Mount 8 65536 1024
+    ∷ Step.Mount 8 65536 1024 None
     ∷ Step.Peek 8
     ∷ Step.Show 8
     ∷ Step.Call 8 1 (Request.Read 6 250) Answer.None
@@ -98,7 +98,7 @@ list04_steps =
     ∷ Step.Call 8 1 (Request.Log 383 2 250 ((0 ∷ 0 ∷ []))) Answer.None
     ∷ Step.Call 8 1 (Request.Commit 2) Answer.None
     ∷ Step.Call 8 1 Request.Unmount Answer.None
-    ∷ Step.Mount 8 98304 1024
+    ∷ Step.Mount 8 98304 1024 None
     ∷ Step.Call 8 2 (Request.Alloc 1 9 true) Answer.None
     ∷ Step.Call 8 2 (Request.Alloc 0 1 false) Answer.None
     ∷ Step.Call 8 2 (Request.Alloc 1 2 false) Answer.None
@@ -248,8 +248,8 @@ list04_order = refl
 -- ---- list05
 abbrev list05_steps : List Step
 list05_steps =
-    Step.Mount 14 4294967295 18446744073709551615
-    ∷ Step.Mount 14 70000 1099511627776
+    Step.Mount 14 4294967295 18446744073709551615 None
+    ∷ Step.Mount 14 70000 1099511627776 None
     ∷ Step.Call 14 1 (Request.Alloc 9000 1 false) Answer.None
     ∷ Step.Call 14 1 (Request.Read 1 265) (Answer.Content ((0 ∷ 0 ∷ []) ++ replicate 4094 238))
     ∷ Step.Call 14 1 (Request.Alloc 12367 2 true) Answer.None
@@ -465,7 +465,7 @@ list05_order = refl
 -- ---- list06
 abbrev list06_steps : List Step
 list06_steps =
-    Step.Mount 15 66000 1024
+    Step.Mount 15 66000 1024 None
     ∷ Step.Call 15 1 (Request.Alloc 191 2 true) Answer.None
     ∷ Step.Call 15 1 (Request.Read 1 18) (Answer.Content (replicate 4096 85))
     ∷ Step.Call 15 1 (Request.Alloc 5000 1 true) Answer.None

@@ -31,7 +31,7 @@ told slot reply = said slot reply [] []
 -- ---- list07
 abbrev list07_steps : List Step
 list07_steps =
-    Step.Mount 15 65536 1099511627776
+    Step.Mount 15 65536 1099511627776 None
     ∷ Step.Call 15 1 (Request.Alloc 2000 1 false) Answer.None
     ∷ Step.Call 15 1 (Request.Get 1 8589934592) Answer.None
     ∷ Step.Call 15 1 (Request.Alloc 12368 2 true) Answer.None
@@ -70,7 +70,7 @@ list07_steps =
     ∷ Step.Call 15 1 (Request.Alloc 5000 1 false) Answer.None
     ∷ Step.Call 15 1 (Request.Alloc 5000 1 false) Answer.None
     ∷ Step.Call 15 1 Request.Unmount Answer.None
-    ∷ Step.Mount 15 98304 1024
+    ∷ Step.Mount 15 98304 1024 None
     ∷ Step.Call 15 2 (Request.Alloc 2000 8 true) Answer.None
     ∷ Step.Call 15 2 (Request.Read 1 58) (Answer.Content (replicate 4096 51))
     ∷ Step.Call 15 2 (Request.Hold 1 58) Answer.None
@@ -248,7 +248,7 @@ list07_order = refl
 -- ---- list08
 abbrev list08_steps : List Step
 list08_steps =
-    Step.Mount 0 65536 1099511627776
+    Step.Mount 0 65536 1099511627776 None
     ∷ Step.Call 0 1 (Request.Alloc 2000 1 true) Answer.None
     ∷ Step.Call 0 1 (Request.Read 1 8589934592) (Answer.Content (replicate 4096 0))
     ∷ Step.Call 0 1 (Request.Alloc 576 3 true) Answer.None
@@ -288,7 +288,7 @@ list08_steps =
     ∷ Step.Call 0 1 (Request.Log 77 3 336 ((170 ∷ 170 ∷ 170 ∷ []))) Answer.None
     ∷ Step.Call 0 1 (Request.Alloc 21845 1 false) Answer.None
     ∷ Step.Call 0 1 Request.Unmount Answer.None
-    ∷ Step.Mount 0 66000 1099511627776
+    ∷ Step.Mount 0 66000 1099511627776 None
     ∷ Step.Call 0 2 (Request.Alloc 1000 3 true) Answer.None
     ∷ Step.Call 0 2 (Request.Commit 1) Answer.None
     ∷ Step.Call 0 2 (Request.Alloc 304 1 true) Answer.None
@@ -465,7 +465,7 @@ list08_order = refl
 -- ---- list09
 abbrev list09_steps : List Step
 list09_steps =
-    Step.Mount 3 1048576 1024
+    Step.Mount 3 1048576 1024 None
     ∷ Step.Call 3 1 (Request.Alloc 432 1 true) Answer.None
     ∷ Step.Call 3 1 (Request.Read 1 159) (Answer.Content (replicate 4096 85))
     ∷ Step.Call 3 1 (Request.Log 416 1 159 ((17 ∷ 17 ∷ 0 ∷ 0 ∷ 0 ∷ []) ++ replicate 5 255 ++ replicate 4 170 ++ replicate 114 34)) Answer.None
@@ -529,8 +529,8 @@ list09_steps =
     ∷ Step.Peek 3
     ∷ Step.Call 3 1 Request.Unmount Answer.None
     ∷ Step.Show 3
-    ∷ Step.Mount 3 65536 0
-    ∷ Step.Mount 3 65536 1099511627776
+    ∷ Step.Mount 3 65536 0 None
+    ∷ Step.Mount 3 65536 1099511627776 None
     ∷ Step.Call 3 2 (Request.Alloc 865 1 false) Answer.None
     ∷ Step.Call 3 2 (Request.Commit 1) Answer.None
     ∷ Step.Call 3 2 (Request.Alloc 176 1 false) Answer.None

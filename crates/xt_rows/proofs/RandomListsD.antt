@@ -31,7 +31,7 @@ told slot reply = said slot reply [] []
 -- ---- list10
 abbrev list10_steps : List Step
 list10_steps =
-    Step.Mount 5 65536 40
+    Step.Mount 5 65536 40 None
     ∷ Step.Call 5 1 (Request.Alloc 180 1 false) Answer.None
     ∷ Step.Call 5 1 (Request.Read 1 34) (Answer.Content (replicate 4096 85))
     ∷ Step.Call 5 1 (Request.Log 0 1 34 ((90 ∷ []))) Answer.None
@@ -41,7 +41,7 @@ list10_steps =
     ∷ Step.Call 5 1 Request.Push Answer.None
     ∷ Step.Post (name 5 1 JobKind.Flush 2)
     ∷ Step.Call 5 1 (Request.Alloc 5000 1 false) Answer.None
-    ∷ Step.Mount 5 65536 1024
+    ∷ Step.Mount 5 65536 1024 None
     ∷ Step.Call 5 1 (Request.Release 22) Answer.None
     ∷ Step.Call 5 1 (Request.Read 2 0) (Answer.Content (replicate 4096 102))
     ∷ Step.Call 5 1 (Request.Alloc 816 1 false) Answer.None
@@ -54,7 +54,7 @@ list10_steps =
     ∷ Step.Call 5 1 (Request.ForceTo 0) Answer.None
     ∷ Step.Call 5 1 (Request.Log 3161 2 10 ((170 ∷ 170 ∷ 34 ∷ []) ++ replicate 297 0)) Answer.None
     ∷ Step.Call 5 1 (Request.Unhold 2 0) Answer.None
-    ∷ Step.Mount 5 65536 1024
+    ∷ Step.Mount 5 65536 1024 None
     ∷ Step.Call 5 1 (Request.Join 3 31) Answer.None
     ∷ Step.Call 5 1 (Request.Log 353 2 0 ((32 ∷ []))) Answer.None
     ∷ Step.Call 5 1 (Request.Read 2 0) Answer.None
@@ -249,7 +249,7 @@ list10_order = refl
 abbrev list11_steps : List Step
 list11_steps =
     Step.Peek 8
-    ∷ Step.Mount 8 65536 1024
+    ∷ Step.Mount 8 65536 1024 None
     ∷ Step.Call 8 1 (Request.Alloc 600 1 false) Answer.None
     ∷ Step.Call 8 1 (Request.Read 1 140) (Answer.Content ((34 ∷ 34 ∷ 34 ∷ 17 ∷ 17 ∷ []) ++ replicate 4091 1))
     ∷ Step.Call 8 1 (Request.Log 0 1 140 ((90 ∷ []))) Answer.None
@@ -308,7 +308,7 @@ list11_steps =
     ∷ Step.Call 8 1 (Request.Alloc 1 0 false) Answer.None
     ∷ Step.Call 8 1 (Request.Alloc 65360 1 true) Answer.None
     ∷ Step.Call 8 1 Request.Unmount Answer.None
-    ∷ Step.Mount 8 66051 1
+    ∷ Step.Mount 8 66051 1 None
     ∷ Step.Call 8 2 (Request.Alloc 12367 2 true) Answer.None
     ∷ Step.Call 8 2 (Request.Alloc 4143 1 false) Answer.None
     ∷ Step.Call 8 2 (Request.Read 1 0) (Answer.Content (replicate 4096 85))
@@ -465,7 +465,7 @@ list11_order = refl
 -- ---- list12
 abbrev list12_steps : List Step
 list12_steps =
-    Step.Mount 4 65536 1048576
+    Step.Mount 4 65536 1048576 None
     ∷ Step.Call 4 1 (Request.Alloc 180 1 false) Answer.None
     ∷ Step.Call 4 1 (Request.Read 1 144) (Answer.Content (replicate 130 255 ++ replicate 3966 0))
     ∷ Step.Call 4 1 (Request.Read 1 123) (Answer.Content ((220 ∷ []) ++ replicate 4095 238))

@@ -1,6 +1,6 @@
 -- Scripts computed over the definitions: what each step of the mount alone says, and that the list is orderly.
 -- Made by tools/row-theorems from the files of rows/.
-use Rattle.std.proofs.Common.{◌≡◌, ℕ, List, [], ◌∷◌, ◌++◌, Some, true, false, refl}
+use Rattle.std.proofs.Common.{◌≡◌, ℕ, List, [], ◌∷◌, ◌++◌, Some, None, true, false, refl}
 use Rattle.std.specs.Prelude.{replicate}
 use Rattle.xt_base.specs.Alone.{Said, alone_run}
 use Rattle.xt_base.specs.Chunks.{chunks_where}
@@ -29,7 +29,7 @@ told slot reply = said slot reply [] []
 -- ---- row01
 abbrev row01_steps : List Step
 row01_steps =
-    Step.Mount 0 65536 1024
+    Step.Mount 0 65536 1024 None
     ∷ Step.Call 0 1 (Request.Alloc 5000 1 false) Answer.None
     ∷ Step.Call 0 1 (Request.Get 1 7) Answer.None
     ∷ Step.Call 0 1 (Request.Log 0 1 7 (replicate 4096 170)) Answer.None
@@ -68,7 +68,7 @@ row01_order = refl
 -- ---- row02
 abbrev row02_steps : List Step
 row02_steps =
-    Step.Mount 0 65536 1024
+    Step.Mount 0 65536 1024 None
     ∷ Step.Call 0 1 (Request.Alloc 176 1 false) Answer.None
     ∷ Step.Call 0 1 (Request.Read 1 7) (Answer.Content (replicate 4096 0))
     ∷ Step.Call 0 1 (Request.Log 130 1 7 ((1 ∷ 2 ∷ []))) Answer.None
@@ -105,7 +105,7 @@ row02_order = refl
 -- ---- row03
 abbrev row03_steps : List Step
 row03_steps =
-    Step.Mount 0 65536 1024
+    Step.Mount 0 65536 1024 None
     ∷ Step.Call 0 1 (Request.Alloc 176 1 false) Answer.None
     ∷ Step.Call 0 1 (Request.Read 1 7) (Answer.Content (replicate 4096 0))
     ∷ Step.Call 0 1 (Request.Log 0 1 7 ((17 ∷ []))) Answer.None
@@ -150,7 +150,7 @@ row03_order = refl
 -- ---- row04
 abbrev row04_steps : List Step
 row04_steps =
-    Step.Mount 0 65536 1024
+    Step.Mount 0 65536 1024 None
     ∷ Step.Call 0 1 (Request.Alloc 432 1 false) Answer.None
     ∷ Step.Call 0 1 (Request.Read 1 7) (Answer.Content (replicate 4096 0))
     ∷ Step.Call 0 1 (Request.Log 127 1 7 ((1 ∷ 2 ∷ []))) Answer.None
@@ -197,7 +197,7 @@ row04_order = refl
 -- ---- row05
 abbrev row05_steps : List Step
 row05_steps =
-    Step.Mount 0 65536 1024
+    Step.Mount 0 65536 1024 None
     ∷ Step.Call 0 1 (Request.Alloc 1 1 false) Answer.None
     ∷ Step.Call 0 1 (Request.Alloc 1 1 false) Answer.None
     ∷ Step.Call 0 1 (Request.Get 1 9) Answer.None
@@ -232,7 +232,7 @@ row05_order = refl
 -- ---- row06
 abbrev row06_steps : List Step
 row06_steps =
-    Step.Mount 0 65536 1024
+    Step.Mount 0 65536 1024 None
     ∷ Step.Call 0 1 (Request.Alloc 176 1 false) Answer.None
     ∷ Step.Call 0 1 (Request.Alloc 176 1 false) Answer.None
     ∷ Step.Call 0 1 (Request.Read 1 9) (Answer.Content (replicate 4096 0))
@@ -269,7 +269,7 @@ row06_order = refl
 -- ---- row07
 abbrev row07_steps : List Step
 row07_steps =
-    Step.Mount 0 65536 1024
+    Step.Mount 0 65536 1024 None
     ∷ Step.Call 0 1 (Request.Alloc 176 1 false) Answer.None
     ∷ Step.Call 0 1 (Request.Read 1 5) (Answer.Content (replicate 4096 51))
     ∷ Step.Call 0 1 (Request.Hold 1 5) Answer.None
@@ -310,7 +310,7 @@ row07_order = refl
 -- ---- row08
 abbrev row08_steps : List Step
 row08_steps =
-    Step.Mount 0 65536 1024
+    Step.Mount 0 65536 1024 None
     ∷ Step.Call 0 1 (Request.Alloc 48 1 false) Answer.None
     ∷ Step.Call 0 1 (Request.Read 1 7) (Answer.Content (replicate 4096 85))
     ∷ Step.Call 0 1 (Request.Inval 1 7) Answer.None
@@ -365,7 +365,7 @@ row08_order = refl
 -- ---- row09
 abbrev row09_steps : List Step
 row09_steps =
-    Step.Mount 0 65536 1024
+    Step.Mount 0 65536 1024 None
     ∷ Step.Call 0 1 (Request.Alloc 100 1 false) Answer.None
     ∷ Step.Call 0 1 (Request.Read 1 3) (Answer.Content (replicate 4096 3))
     ∷ Step.Call 0 1 (Request.Read 1 1) (Answer.Content (replicate 4096 1))

@@ -36,7 +36,7 @@ told slot reply = said slot reply [] []
 -- ---- edge.busy.read
 abbrev edge_busy_read_steps : List Step
 edge_busy_read_steps =
-    Step.Mount 0 65536 1024
+    Step.Mount 0 65536 1024 None
     ∷ Step.Call 0 1 (Request.Alloc 1 1 false) Answer.None
     ∷ Step.Call 0 1 (Request.Read 1 100) (Answer.Content (replicate 4096 17))
     ∷ Step.Call 0 1 (Request.Relse 1 100) Answer.None

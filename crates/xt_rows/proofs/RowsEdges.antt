@@ -1,6 +1,6 @@
 -- Scripts computed over the definitions: what each step of the mount alone says, and that the list is orderly.
 -- Made by tools/row-theorems from the files of rows/.
-use Rattle.std.proofs.Common.{◌≡◌, ℕ, List, [], ◌∷◌, ◌++◌, Some, true, false, refl}
+use Rattle.std.proofs.Common.{◌≡◌, ℕ, List, [], ◌∷◌, ◌++◌, Some, None, true, false, refl}
 use Rattle.std.specs.Prelude.{replicate}
 use Rattle.xt_base.specs.Alone.{Said, alone_run}
 use Rattle.xt_base.specs.Chunks.{chunks_where}
@@ -30,7 +30,7 @@ told slot reply = said slot reply [] []
 -- ---- edge.alloc.32
 abbrev edge_alloc_32_steps : List Step
 edge_alloc_32_steps =
-    Step.Mount 0 65536 1024
+    Step.Mount 0 65536 1024 None
     ∷ Step.Call 0 1 (Request.Alloc 1 1 false) Answer.None
     ∷ Step.Call 0 1 (Request.Alloc 1 1 false) Answer.None
     ∷ Step.Call 0 1 (Request.Alloc 1 1 false) Answer.None
@@ -119,7 +119,7 @@ edge_alloc_32_breaks = refl
 -- ---- edge.begin.clears
 abbrev edge_begin_clears_steps : List Step
 edge_begin_clears_steps =
-    Step.Mount 0 65536 1024
+    Step.Mount 0 65536 1024 None
     ∷ Step.Call 0 1 (Request.Alloc 176 1 false) Answer.None
     ∷ Step.Call 0 1 (Request.Read 1 7) (Answer.Content (replicate 4096 0))
     ∷ Step.Call 0 1 (Request.Log 0 1 7 ((17 ∷ []))) Answer.None
@@ -168,7 +168,7 @@ edge_begin_clears_breaks = refl
 -- ---- edge.eighth
 abbrev edge_eighth_steps : List Step
 edge_eighth_steps =
-    Step.Mount 0 66055 9
+    Step.Mount 0 66055 9 None
     ∷ Step.Call 0 1 (Request.Alloc 8256 1 false) Answer.None
     ∷ Step.Call 0 1 (Request.Get 1 1) Answer.None
     ∷ Step.Call 0 1 (Request.Log 0 1 1 (replicate 4096 17)) Answer.None
@@ -201,7 +201,7 @@ edge_eighth_order = refl
 -- ---- edge.eighth.less
 abbrev edge_eighth_less_steps : List Step
 edge_eighth_less_steps =
-    Step.Mount 0 66056 9
+    Step.Mount 0 66056 9 None
     ∷ Step.Call 0 1 (Request.Alloc 8256 1 false) Answer.None
     ∷ Step.Call 0 1 (Request.Get 1 1) Answer.None
     ∷ Step.Call 0 1 (Request.Log 0 1 1 (replicate 4096 17)) Answer.None
@@ -236,7 +236,7 @@ edge_eighth_less_breaks = refl
 -- ---- edge.flush.failed
 abbrev edge_flush_failed_steps : List Step
 edge_flush_failed_steps =
-    Step.Mount 0 65536 1024
+    Step.Mount 0 65536 1024 None
     ∷ Step.Call 0 1 (Request.Alloc 320 1 false) Answer.None
     ∷ Step.Call 0 1 (Request.Read 1 1) (Answer.Content (replicate 4096 0))
     ∷ Step.Call 0 1 (Request.Read 1 2) (Answer.Content (replicate 4096 0))
@@ -289,7 +289,7 @@ edge_flush_failed_breaks = refl
 -- ---- edge.flush.sync
 abbrev edge_flush_sync_steps : List Step
 edge_flush_sync_steps =
-    Step.Mount 0 65536 1024
+    Step.Mount 0 65536 1024 None
     ∷ Step.Call 0 1 (Request.Alloc 320 1 false) Answer.None
     ∷ Step.Call 0 1 (Request.Read 1 1) (Answer.Content (replicate 4096 0))
     ∷ Step.Call 0 1 (Request.Read 1 2) (Answer.Content (replicate 4096 0))
@@ -342,7 +342,7 @@ edge_flush_sync_breaks = refl
 -- ---- edge.push.lost
 abbrev edge_push_lost_steps : List Step
 edge_push_lost_steps =
-    Step.Mount 0 65536 1024
+    Step.Mount 0 65536 1024 None
     ∷ Step.Call 0 1 Request.Push Answer.None
     ∷ Step.Post (name 0 1 JobKind.Flush 1)
     ∷ Step.Take 0 (name 0 1 JobKind.Flush 1)
@@ -375,7 +375,7 @@ edge_push_lost_breaks = refl
 -- ---- edge.roll.empty
 abbrev edge_roll_empty_steps : List Step
 edge_roll_empty_steps =
-    Step.Mount 0 65536 1024
+    Step.Mount 0 65536 1024 None
     ∷ Step.Call 0 1 (Request.Alloc 304 1 true) Answer.None
     ∷ Step.Call 0 1 (Request.Alloc 65232 1 false) Answer.None
     ∷ Step.Call 0 1 (Request.Read 1 7) (Answer.Content (replicate 4096 0))
@@ -414,7 +414,7 @@ edge_roll_empty_breaks = refl
 -- ---- edge.shut.owes
 abbrev edge_shut_owes_steps : List Step
 edge_shut_owes_steps =
-    Step.Mount 0 65536 1024
+    Step.Mount 0 65536 1024 None
     ∷ Step.Call 0 1 Request.Push Answer.None
     ∷ Step.Call 0 1 Request.Shutdown Answer.None
     ∷ []

@@ -36,7 +36,7 @@ told slot reply = said slot reply [] []
 -- ---- frozen
 abbrev frozen_steps : List Step
 frozen_steps =
-    Step.Mount 0 65536 1024
+    Step.Mount 0 65536 1024 None
     ∷ Step.Call 0 1 (Request.Alloc 176 1 true) Answer.None
     ∷ Step.Call 0 1 (Request.Read 1 7) (Answer.Content (replicate 4096 0))
     ∷ Step.Call 0 1 Request.Freeze Answer.None
@@ -95,7 +95,7 @@ frozen_order = refl
 -- ---- edge.frozen
 abbrev edge_frozen_steps : List Step
 edge_frozen_steps =
-    Step.Mount 0 65536 1024
+    Step.Mount 0 65536 1024 None
     ∷ Step.Call 0 1 Request.Freeze Answer.None
     ∷ Step.Call 0 1 (Request.Alloc 1 1 false) Answer.None
     ∷ []
@@ -122,7 +122,7 @@ edge_frozen_breaks = refl
 -- ---- edge.frozen.life
 abbrev edge_frozen_life_steps : List Step
 edge_frozen_life_steps =
-    Step.Mount 0 65536 1024
+    Step.Mount 0 65536 1024 None
     ∷ Step.Call 0 1 Request.Freeze Answer.None
     ∷ Step.Call 0 1 Request.Shutdown Answer.None
     ∷ Step.Call 0 1 Request.Freeze Answer.None
@@ -130,11 +130,11 @@ edge_frozen_life_steps =
     ∷ Step.Call 0 1 Request.Thaw Answer.None
     ∷ Step.Call 0 1 Request.Unmount Answer.None
     ∷ Step.Call 0 1 Request.Thaw Answer.None
-    ∷ Step.Mount 0 65536 1024
+    ∷ Step.Mount 0 65536 1024 None
     ∷ Step.Call 0 2 Request.Freeze Answer.None
     ∷ Step.Call 0 1 Request.Thaw Answer.None
     ∷ Step.Call 0 2 Request.Unmount Answer.None
-    ∷ Step.Mount 0 65536 1024
+    ∷ Step.Mount 0 65536 1024 None
     ∷ Step.Call 0 3 Request.Thaw Answer.None
     ∷ Step.Call 0 3 (Request.Alloc 1 1 false) Answer.None
     ∷ []

@@ -1,6 +1,6 @@
 -- Scripts computed over the definitions: what each step of the mount alone says, and that the list is orderly.
 -- Made by tools/row-theorems from the files of rows/.
-use Rattle.std.proofs.Common.{◌≡◌, ℕ, List, [], ◌∷◌, ◌++◌, true, false, refl}
+use Rattle.std.proofs.Common.{◌≡◌, ℕ, List, [], ◌∷◌, ◌++◌, None, true, false, refl}
 use Rattle.std.specs.Prelude.{replicate}
 use Rattle.xt_base.specs.Alone.{Said, alone_run}
 use Rattle.xt_base.specs.Chunks.{chunks_where}
@@ -29,7 +29,7 @@ told slot reply = said slot reply [] []
 -- ---- row16c
 abbrev row16c_steps : List Step
 row16c_steps =
-    Step.Mount 0 65536 1024
+    Step.Mount 0 65536 1024 None
     ∷ Step.Call 0 1 (Request.Alloc 1 1 false) Answer.None
     ∷ Step.Call 0 1 (Request.Read 1 0) (Answer.Content (replicate 4096 0))
     ∷ Step.Call 0 1 (Request.Relse 1 0) Answer.None
@@ -318,7 +318,7 @@ row16c_order = refl
 -- ---- row16d
 abbrev row16d_steps : List Step
 row16d_steps =
-    Step.Mount 0 65536 1024
+    Step.Mount 0 65536 1024 None
     ∷ Step.Call 0 1 (Request.Alloc 1 1 false) Answer.None
     ∷ Step.Call 0 1 (Request.Read 1 0) (Answer.Content (replicate 4096 0))
     ∷ Step.Call 0 1 (Request.Relse 1 0) Answer.None

@@ -30,7 +30,7 @@ told slot reply = said slot reply [] []
 -- ---- row10
 abbrev row10_steps : List Step
 row10_steps =
-    Step.Mount 0 65536 1024
+    Step.Mount 0 65536 1024 None
     ∷ Step.Call 0 1 (Request.Alloc 176 1 false) Answer.None
     ∷ Step.Call 0 1 (Request.Alloc 176 1 false) Answer.None
     ∷ Step.Call 0 1 (Request.Alloc 176 1 false) Answer.None
@@ -77,7 +77,7 @@ row10_order = refl
 -- ---- row13.slot0
 abbrev row13_slot0_steps : List Step
 row13_slot0_steps =
-    Step.Mount 0 65536 1024
+    Step.Mount 0 65536 1024 None
     ∷ Step.Call 0 1 (Request.Alloc 5000 1 false) Answer.None
     ∷ Step.Call 0 1 (Request.Get 1 7) Answer.None
     ∷ Step.Call 0 1 (Request.Log 0 1 7 (replicate 4096 170)) Answer.None
@@ -120,7 +120,7 @@ row13_slot0_order = refl
 -- ---- row13.r1
 abbrev row13_r1_steps : List Step
 row13_r1_steps =
-    Step.Mount 0 65536 1024
+    Step.Mount 0 65536 1024 None
     ∷ Step.Call 0 1 (Request.Alloc 5000 1 false) Answer.None
     ∷ Step.Call 0 1 (Request.Get 1 7) Answer.None
     ∷ Step.Call 0 1 (Request.Log 0 1 7 (replicate 4096 170)) Answer.None
@@ -159,7 +159,7 @@ row13_r1_order = refl
 -- ---- row14
 abbrev row14_steps : List Step
 row14_steps =
-    Step.Mount 0 65536 1024
+    Step.Mount 0 65536 1024 None
     ∷ Step.Call 0 1 (Request.Alloc 176 1 false) Answer.None
     ∷ Step.Call 0 1 (Request.Read 1 7) Answer.Failed
     ∷ Step.Show 0
@@ -198,7 +198,7 @@ row14_order = refl
 -- ---- row15
 abbrev row15_steps : List Step
 row15_steps =
-    Step.Mount 0 65536 1024
+    Step.Mount 0 65536 1024 None
     ∷ Step.Call 0 1 (Request.Alloc 176 1 false) Answer.None
     ∷ Step.Call 0 1 (Request.Read 1 7) (Answer.Content (replicate 4096 0))
     ∷ Step.Call 0 1 (Request.Log 0 1 7 ((17 ∷ []))) Answer.None
@@ -251,7 +251,7 @@ row15_order = refl
 -- ---- row17
 abbrev row17_steps : List Step
 row17_steps =
-    Step.Mount 0 65536 1024
+    Step.Mount 0 65536 1024 None
     ∷ Step.Call 0 1 (Request.Alloc 176 1 false) Answer.None
     ∷ Step.Call 0 1 (Request.Read 1 7) (Answer.Content (replicate 4096 0))
     ∷ Step.Call 0 1 (Request.Log 0 1 7 ((17 ∷ []))) Answer.None
@@ -322,7 +322,7 @@ row17_order = refl
 -- ---- row17.open_leg
 abbrev row17_open_leg_steps : List Step
 row17_open_leg_steps =
-    Step.Mount 0 65536 1024
+    Step.Mount 0 65536 1024 None
     ∷ Step.Call 0 1 (Request.Alloc 176 1 false) Answer.None
     ∷ Step.Call 0 1 (Request.Read 1 7) (Answer.Content (replicate 4096 0))
     ∷ Step.Call 0 1 (Request.Log 0 1 7 ((17 ∷ []))) Answer.None
@@ -399,7 +399,7 @@ row17_open_leg_order = refl
 -- ---- row19
 abbrev row19_steps : List Step
 row19_steps =
-    Step.Mount 0 65536 1024
+    Step.Mount 0 65536 1024 None
     ∷ Step.Call 0 1 (Request.Alloc 176 1 false) Answer.None
     ∷ Step.Call 0 1 (Request.Read 1 7) (Answer.Content (replicate 4096 0))
     ∷ Step.Call 0 1 (Request.Log 130 1 7 ((1 ∷ 2 ∷ []))) Answer.None
@@ -456,12 +456,12 @@ row19_order = refl
 -- ---- row20
 abbrev row20_steps : List Step
 row20_steps =
-    Step.Mount 0 65535 1
-    ∷ Step.Mount 0 16777216 1
-    ∷ Step.Mount 0 65536 1
+    Step.Mount 0 65535 1 None
+    ∷ Step.Mount 0 16777216 1 None
+    ∷ Step.Mount 0 65536 1 None
     ∷ Step.Call 0 1 Request.Unmount Answer.None
     ∷ Step.Call 0 1 Request.Force Answer.None
-    ∷ Step.Mount 0 65536 1
+    ∷ Step.Mount 0 65536 1 None
     ∷ Step.Call 0 1 Request.Force Answer.None
     ∷ Step.Call 0 2 Request.Force Answer.None
     ∷ Step.Call 0 2 (Request.Alloc 1 2 false) Answer.None
@@ -495,7 +495,7 @@ row20_order = refl
 -- ---- relogged
 abbrev relogged_steps : List Step
 relogged_steps =
-    Step.Mount 0 65536 1024
+    Step.Mount 0 65536 1024 None
     ∷ Step.Call 0 1 (Request.Alloc 5000 1 false) Answer.None
     ∷ Step.Call 0 1 (Request.Get 1 7) Answer.None
     ∷ Step.Call 0 1 (Request.Log 0 1 7 (replicate 4096 170)) Answer.None
@@ -552,7 +552,7 @@ relogged_order = refl
 -- ---- refused_allocs
 abbrev refused_allocs_steps : List Step
 refused_allocs_steps =
-    Step.Mount 0 65536 1024
+    Step.Mount 0 65536 1024 None
     ∷ Step.Call 0 1 (Request.Alloc 8193 8 true) Answer.None
     ∷ Step.Call 0 1 (Request.Alloc 65536 1 false) Answer.None
     ∷ Step.Call 0 1 (Request.Alloc 1 1 false) Answer.None

@@ -36,7 +36,7 @@ told slot reply = said slot reply [] []
 -- ---- edge.pieces.65
 abbrev edge_pieces_65_steps : List Step
 edge_pieces_65_steps =
-    Step.Mount 0 16777216 1024
+    Step.Mount 0 16777216 1024 None
     ∷ Step.Call 0 1 (Request.Alloc 263200 1 false) Answer.None
     ∷ Step.Call 0 1 (Request.Get 1 0) Answer.None
     ∷ Step.Call 0 1 (Request.Log 0 1 0 (replicate 4096 1)) Answer.None

@@ -1,6 +1,6 @@
 -- Scripts computed over the definitions: what each step of the mount alone says, and that the list is orderly.
 -- Made by tools/row-theorems from the files of rows/.
-use Rattle.std.proofs.Common.{◌≡◌, ℕ, List, [], ◌∷◌, true, false, refl}
+use Rattle.std.proofs.Common.{◌≡◌, ℕ, List, [], ◌∷◌, None, true, false, refl}
 use Rattle.std.specs.Prelude.{replicate}
 use Rattle.xt_base.specs.Alone.{Said, alone_run}
 use Rattle.xt_base.specs.Chunks.{chunks_where}
@@ -30,7 +30,7 @@ told slot reply = said slot reply [] []
 -- ---- row16a.slot0
 abbrev row16a_slot0_steps : List Step
 row16a_slot0_steps =
-    Step.Mount 0 65536 1024
+    Step.Mount 0 65536 1024 None
     ∷ Step.Call 0 1 (Request.Alloc 1 1 false) Answer.None
     ∷ Step.Call 0 1 (Request.Get 1 0) Answer.None
     ∷ Step.Call 0 1 (Request.Get 1 1) Answer.None
@@ -181,7 +181,7 @@ row16a_slot0_order = refl
 -- ---- row16b
 abbrev row16b_steps : List Step
 row16b_steps =
-    Step.Mount 0 65536 1024
+    Step.Mount 0 65536 1024 None
     ∷ Step.Call 0 1 (Request.Alloc 1 1 false) Answer.None
     ∷ Step.Call 0 1 (Request.Read 1 0) (Answer.Content (replicate 4096 0))
     ∷ Step.Call 0 1 (Request.Relse 1 0) Answer.None

@@ -36,7 +36,7 @@ told slot reply = said slot reply [] []
 -- ---- edge.alloc.order
 abbrev edge_alloc_order_steps : List Step
 edge_alloc_order_steps =
-    Step.Mount 0 65536 1024
+    Step.Mount 0 65536 1024 None
     ∷ Step.Call 0 1 (Request.Alloc 65537 1 false) Answer.None
     ∷ Step.Call 0 1 Request.Shutdown Answer.None
     ∷ Step.Call 0 1 (Request.Alloc 0 1 false) Answer.None
@@ -69,7 +69,7 @@ edge_alloc_order_order = refl
 -- ---- edge.forceto.order
 abbrev edge_forceto_order_steps : List Step
 edge_forceto_order_steps =
-    Step.Mount 0 65536 1024
+    Step.Mount 0 65536 1024 None
     ∷ Step.Call 0 1 (Request.ForceTo 0) Answer.None
     ∷ Step.Call 0 1 (Request.ForceTo 1) Answer.None
     ∷ Step.Call 0 1 (Request.ForceTo 2) Answer.None
@@ -106,7 +106,7 @@ edge_forceto_order_order = refl
 -- ---- edge.log.order
 abbrev edge_log_order_steps : List Step
 edge_log_order_steps =
-    Step.Mount 0 65536 1024
+    Step.Mount 0 65536 1024 None
     ∷ Step.Call 0 1 (Request.Alloc 48 1 false) Answer.None
     ∷ Step.Call 0 1 (Request.Get 1 5) Answer.None
     ∷ Step.Call 0 1 (Request.Log 0 1 5 ((17 ∷ []))) Answer.None
@@ -151,19 +151,19 @@ edge_log_order_order = refl
 -- ---- edge.mount.order
 abbrev edge_mount_order_steps : List Step
 edge_mount_order_steps =
-    Step.Mount 0 16777217 1
-    ∷ Step.Mount 0 65536 1099511627777
-    ∷ Step.Mount 0 65536 0
-    ∷ Step.Mount 0 16777216 1099511627776
-    ∷ Step.Mount 0 65535 0
+    Step.Mount 0 16777217 1 None
+    ∷ Step.Mount 0 65536 1099511627777 None
+    ∷ Step.Mount 0 65536 0 None
+    ∷ Step.Mount 0 16777216 1099511627776 None
+    ∷ Step.Mount 0 65535 0 None
     ∷ Step.Call 0 1 (Request.Alloc 1 1 false) Answer.None
     ∷ Step.Call 0 1 (Request.Get 1 1099511627776) Answer.None
     ∷ Step.Call 0 1 (Request.Get 1 1099511627775) Answer.None
     ∷ Step.Call 0 1 (Request.Relse 1 1099511627775) Answer.None
     ∷ Step.Call 0 1 (Request.Cancel 1) Answer.None
     ∷ Step.Call 0 1 Request.Unmount Answer.None
-    ∷ Step.Mount 0 0 0
-    ∷ Step.Mount 0 65536 1
+    ∷ Step.Mount 0 0 0 None
+    ∷ Step.Mount 0 65536 1 None
     ∷ []
 
 abbrev edge_mount_order_said : List Said
@@ -194,7 +194,7 @@ edge_mount_order_order = refl
 -- ---- edge.read.order
 abbrev edge_read_order_steps : List Step
 edge_read_order_steps =
-    Step.Mount 0 65536 1024
+    Step.Mount 0 65536 1024 None
     ∷ Step.Call 0 1 (Request.Alloc 1 1 false) Answer.None
     ∷ Step.Call 0 1 (Request.Get 1 5) Answer.None
     ∷ Step.Call 0 1 (Request.Read 1 1024) Answer.None

@@ -36,7 +36,7 @@ told slot reply = said slot reply [] []
 -- ---- edge.flush.shut
 abbrev edge_flush_shut_steps : List Step
 edge_flush_shut_steps =
-    Step.Mount 0 65536 1024
+    Step.Mount 0 65536 1024 None
     ∷ Step.Call 0 1 (Request.Alloc 176 1 false) Answer.None
     ∷ Step.Call 0 1 (Request.Read 1 7) (Answer.Content (replicate 4096 0))
     ∷ Step.Call 0 1 (Request.Log 0 1 7 ((17 ∷ []))) Answer.None
@@ -52,7 +52,7 @@ edge_flush_shut_steps =
     ∷ Step.Call 0 1 Request.Shutdown Answer.None
     ∷ Step.Flush 0 (name 0 1 JobKind.Flush 2) (record { count = 0; writes = (false ∷ false ∷ false ∷ false ∷ false ∷ false ∷ false ∷ false ∷ []); sync = false })
     ∷ Step.Call 0 1 Request.Unmount Answer.None
-    ∷ Step.Mount 0 65536 1024
+    ∷ Step.Mount 0 65536 1024 None
     ∷ []
 
 abbrev edge_flush_shut_said : List Said
@@ -87,7 +87,7 @@ edge_flush_shut_order = refl
 -- ---- edge.flush.shut.answers
 abbrev edge_flush_shut_answers_steps : List Step
 edge_flush_shut_answers_steps =
-    Step.Mount 0 65536 1024
+    Step.Mount 0 65536 1024 None
     ∷ Step.Call 0 1 (Request.Alloc 176 1 false) Answer.None
     ∷ Step.Call 0 1 (Request.Read 1 7) (Answer.Content (replicate 4096 0))
     ∷ Step.Call 0 1 (Request.Log 0 1 7 ((17 ∷ []))) Answer.None
@@ -136,7 +136,7 @@ edge_flush_shut_answers_breaks = refl
 -- ---- edge.relogged.place
 abbrev edge_relogged_place_steps : List Step
 edge_relogged_place_steps =
-    Step.Mount 0 65536 1024
+    Step.Mount 0 65536 1024 None
     ∷ Step.Call 0 1 (Request.Alloc 176 1 false) Answer.None
     ∷ Step.Call 0 1 (Request.Read 1 7) (Answer.Content (replicate 4096 0))
     ∷ Step.Call 0 1 (Request.Log 0 1 7 ((17 ∷ []))) Answer.None
@@ -217,7 +217,7 @@ edge_relogged_place_order = refl
 -- ---- edge.tail
 abbrev edge_tail_steps : List Step
 edge_tail_steps =
-    Step.Mount 0 65536 1024
+    Step.Mount 0 65536 1024 None
     ∷ Step.Call 0 1 (Request.Alloc 176 1 false) Answer.None
     ∷ Step.Call 0 1 (Request.Read 1 7) (Answer.Content (replicate 4096 0))
     ∷ Step.Call 0 1 (Request.Log 0 1 7 ((17 ∷ []))) Answer.None

@@ -27,7 +27,7 @@ module _ {A B : Type 0} {IsA : A → Type 0} {IsB : B → Type 0} where
   -- the slot of a command
   abbrev pub slot_of : Command A B IsA IsB → ℕ
   slot_of (Do.Call at request waits) = at.slot
-  slot_of (Do.Mount slot log_bytes blocks home log) = slot
+  slot_of (Do.Mount slot log_bytes blocks size home log) = slot
   slot_of (Do.Unmount at) = at.slot
   slot_of (Do.Begin worker name) = name.slot
   slot_of (Do.End done) = done.name.slot
@@ -59,10 +59,10 @@ module _ {A B : Type 0} {IsA : A → Type 0} {IsB : B → Type 0} where
       × OnOk result (Receives at.slot (Step.Call at.slot at.life ARequest.Unmount Answered.None) Okay old new)
       × IfErr result (λ errno. is_no_memory (Refused errno) ≡ false → Receives at.slot (Step.Call at.slot at.life ARequest.Unmount Answered.None) (Refused errno) old new)
       × (new.board ≡ old.board)
-  Did (Do.Mount slot log_bytes blocks home log) old new (Came.Mounted result) =
+  Did (Do.Mount slot log_bytes blocks size home log) old new (Came.Mounted result) =
       IfErr result (λ back. is_no_memory (Refused back.errno) ≡ true → IsSameSeat old new)
-      × IfOk result (λ at. (at.slot ≡ slot) × Receives slot (Step.Mount slot log_bytes blocks) (Life at.life) old new)
-      × IfErr result (λ back. is_no_memory (Refused back.errno) ≡ false → Receives slot (Step.Mount slot log_bytes blocks) (Refused back.errno) old new)
+      × IfOk result (λ at. (at.slot ≡ slot) × Receives slot (Step.Mount slot log_bytes blocks size) (Life at.life) old new)
+      × IfErr result (λ back. is_no_memory (Refused back.errno) ≡ false → Receives slot (Step.Mount slot log_bytes blocks size) (Refused back.errno) old new)
       × IfErr result (λ back. (back.home ≡ home) × (back.log ≡ log))
       × IfOk result (λ at. Shows slot (word_of at.life None) old.board new.board)
       × OnErr result (new.board ≡ old.board)

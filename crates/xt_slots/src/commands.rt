@@ -39,11 +39,12 @@ pub enum Command {
         request: Request,
         waits: bool,
     },
-    /// Mounts the slot anew over these devices.
+    /// Mounts the slot anew over these devices, with blocks of a size where one is named.
     Mount {
         slot: Slot,
         log_bytes: u32,
         blocks: u64,
+        size: Option<u32>,
         home: Box<dyn HomeDevice + Send>,
         log: Box<dyn LogDevice + Send>,
     },
@@ -123,9 +124,10 @@ impl Command {
                 slot: _,
                 log_bytes,
                 blocks,
+                size,
                 home,
                 log,
-            } => Outcome::Mounted(cell.mount(rt, seat, board, log_bytes, blocks, home, log)),
+            } => Outcome::Mounted(cell.mount(rt, seat, board, log_bytes, blocks, size, home, log)),
             Command::Unmount { at } => Outcome::Unmounted(cell.unmount(rt, seat, at)),
             Command::Begin { worker, name } => {
                 if cell.stage(&name) != Some(Stage::Waiting) {

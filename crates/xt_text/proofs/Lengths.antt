@@ -1,6 +1,7 @@
 -- How long texts are at most.
 use Rattle.std.proofs.Common.{Bool, List, None, Option, Some, [], arith, cond, eqb, false, inl, inr, flat_map, length, length-append, ltb, replicate, refl, suc, true, zero, ℕ, ◌&&◌, ◌%◌, ◌*◌, ◌++◌, ◌+◌, ◌/◌, ◌<◌, ◌^◌, ◌≡◌, ◌≤◌, ◌∷◌}
 use Rattle.std.specs.Fmt.{decimal}
+use Rattle.std.specs.Prelude.{IfSome}
 use Rattle.std.specs.List.{AllByRecursion}
 use Rattle.std.proofs.lemmas.Bool.{cases_lt, cond_both, ltb-false}
 use Rattle.std.proofs.lemmas.Fmt.{decimal_digit, decimal_step, length-decimal-le}
@@ -16,7 +17,7 @@ use Rattle.xt_base.specs.declared.steps.Request.TheVariants.{Alloc, Cancel, Comm
 use Rattle.xt_base.specs.declared.steps.Step.{Step}
 use Rattle.xt_base.specs.declared.steps.Step.TheVariants.{Begin, Call, End, Flush, Mount, Peek, Post, Show, Take}
 use Rattle.xt_text.specs.DataText.{after_run, between, hex, is_short, onto_runs, run_text, runs, runs_text, spelling}
-use Rattle.xt_text.specs.Lines.{IsAnswer, IsAnswerTo, IsHomeAnswers, IsName, IsRequest, IsStep, answer_text, home_text, kind_text, line_of, name_text, ok_text, oks_text, perm_text, request_text, sync_text, trans_text, ◌·◌, ◌␣◌}
+use Rattle.xt_text.specs.Lines.{IsAnswer, IsAnswerTo, IsHomeAnswers, IsName, IsRequest, IsStep, answer_text, home_text, kind_text, line_of, name_text, ok_text, oks_text, perm_text, request_text, size_text, sync_text, trans_text, ◌·◌, ◌␣◌}
 use Rattle.xt_text.specs.declared.data_text.Run.{Run}
 
 -- ---- numbers
@@ -230,16 +231,23 @@ home_fits answers is =
       ok_fits answers.sync,
     ))
 
+-- the size of a block, where one is said
+size_fits : (size : Option ℕ) → IfSome size (λ bytes. bytes < 2 ^ 32) → length (size_text size) ≤ 21
+size_fits None is = omega arith
+size_fits (Some bytes) is = omega (arith, decimal_fits bytes (omega arith))
+
 -- a line has at most 8,400 characters
 pub line_fits : (s : Step) → IsStep s → length (line_of s) ≤ 8400
-line_fits (Mount slot log_bytes blocks) is =
+line_fits (Mount slot log_bytes blocks size) is =
     omega (
       arith,
-      joined (decimal slot) (decimal log_bytes ␣ decimal blocks),
-      joined (decimal log_bytes) (decimal blocks),
+      joined (decimal slot) (decimal log_bytes ␣ (decimal blocks ++ size_text size)),
+      joined (decimal log_bytes) (decimal blocks ++ size_text size),
+      length-append (decimal blocks) (size_text size),
       decimal_fits slot (omega arith),
       decimal_fits log_bytes (omega arith),
       decimal_fits blocks is.2,
+      size_fits size is.3,
     )
 line_fits (Call slot life r answer) is =
     omega (

@@ -1,6 +1,7 @@
 -- The line of a step, read, gives the step back.
-use Rattle.std.proofs.Common.{List, Some, [], ap, append-nil, append_assoc, arith, codes, false, length, refl, subst, sym, ℕ, ◌++◌, ◌+◌, ◌<◌, ◌%◌, ◌^◌, ◌∙◌, ◌≡◌, ◌≤◌, ◌∷◌}
+use Rattle.std.proofs.Common.{List, None, Option, Some, [], ap, append-nil, append_assoc, arith, codes, eqb, false, length, refl, subst, sym, ℕ, ◌++◌, ◌+◌, ◌<◌, ◌%◌, ◌^◌, ◌∙◌, ◌≡◌, ◌≤◌, ◌∷◌}
 use Rattle.std.specs.Fmt.{decimal}
+use Rattle.std.specs.Prelude.{IfSome}
 use Rattle.std.specs.Str.{bytes_eq}
 use Rattle.std.proofs.lemmas.Bool.{false_from_ne_true, ne_eqb}
 use Rattle.std.proofs.lemmas.Option.{none-some}
@@ -17,8 +18,8 @@ use Rattle.xt_text.proofs.ReadAgain.{data_again}
 use Rattle.xt_text.proofs.WordsAgain.{before_joined, before_whole, behind_joined, behind_whole, below_again, decimal_lacks, lacks_joined, lettered_again, name_again, name_lacks, number_again, perm_again, sync_again, trans_again, u32_again}
 use Rattle.xt_text.specs.DataReading.{read_content, read_data}
 use Rattle.xt_text.specs.DataText.{IsData, spelling}
-use Rattle.xt_text.specs.LineReading.{alloc_of, answer_of, asked_of, before, begin_of, behind, call_of, drop_of, end_of, flush_of, log_of, mount_of, mount_request, own_of, own_request, peek_of, post_of, read_of, request_of, show_of, step_of, take_of, trans_request, words_step}
-use Rattle.xt_text.specs.Lines.{IsAnswer, IsAnswerTo, IsContent, IsRequest, IsStep, answer_text, home_text, line_of, name_text, perm_text, request_text, sync_text, trans_text, ◌·◌, ◌␣◌}
+use Rattle.xt_text.specs.LineReading.{alloc_of, answer_of, asked_of, before, begin_of, behind, call_of, drop_of, end_of, flush_of, log_of, mount_of, mount_request, own_of, own_request, peek_of, post_of, read_of, request_of, show_of, size_of, step_of, take_of, trans_request, u32_of, words_step}
+use Rattle.xt_text.specs.Lines.{IsAnswer, IsAnswerTo, IsContent, IsRequest, IsStep, answer_text, home_text, line_of, name_text, perm_text, request_text, size_text, sync_text, trans_text, ◌·◌, ◌␣◌}
 
 -- what stands before the space behind a number
 pub before_number : (n : ℕ) (b : List ℕ) → n < 2 ^ 64 → before 32 (decimal n ␣ b) ≡ decimal n
@@ -137,6 +138,24 @@ asked_again slot life r Answer.None is fits =
     (rw (request_again r is (λ e. e)) refl)
 asked_again slot life r other is fits = absurd fits
 
+-- ---- the size of a block
+-- a text that is something has a length
+not_empty : (text : List ℕ) → (text ≡ [] → ⊥) → eqb (length text) 0 ≡ false
+not_empty [] some = absurd (some refl)
+not_empty (c ∷ cs) some = ne_eqb (length (c ∷ cs)) 0 (λ e. omega arith)
+
+-- blocks and the size behind them give the blocks, and the size
+pub size_again : (blocks : ℕ) (size : Option ℕ) → blocks < 2 ^ 64 → IfSome size (λ bytes. bytes < 2 ^ 32) →
+    (before 32 (decimal blocks ++ size_text size) ≡ decimal blocks) × (size_of (behind 32 (decimal blocks ++ size_text size)) ≡ Some size)
+unfolding size_of
+size_again blocks None small is =
+    let lacks = decimal_lacks 32 blocks (omega arith) small in
+    rw (append-nil (decimal blocks), behind_whole 32 (decimal blocks) lacks) (before_whole 32 (decimal blocks) lacks, refl)
+size_again blocks (Some bytes) small is =
+    let again = u32_again bytes is in
+    let some : decimal bytes ≡ [] → ⊥ = λ empty. none-some bytes (ap u32_of (sym empty) ∙ again) in
+    rw (behind_number blocks (decimal bytes) small, not_empty (decimal bytes) some, again) (before_number blocks (decimal bytes) small, refl)
+
 -- ---- steps
 -- a word that begins with a digit is none that begins with a letter
 pub no_verb : (n c : ℕ) (more cs : List ℕ) → 58 ≤ c → n < 2 ^ 64 → bytes_eq (decimal n ++ more) (c ∷ cs) ≡ false
@@ -185,12 +204,16 @@ call_line_again slot life r a low small is fits =
 -- the line of a step gives the step
 pub step_again : (s : Step) → IsStep s → step_of (line_of s) ≡ Some s
 unfolding step_of words_step mount_of post_of take_of begin_of end_of flush_of show_of peek_of
-step_again (Mount slot log_bytes blocks) is =
+step_again (Mount slot log_bytes blocks size) is =
+    let last = decimal blocks ++ size_text size in
+    let both = size_again blocks size is.2 is.3 in
     rw (
-      before_number slot (decimal log_bytes ␣ decimal blocks) (omega arith),
-      behind_number slot (decimal log_bytes ␣ decimal blocks) (omega arith),
-      before_number log_bytes (decimal blocks) (omega arith),
-      behind_number log_bytes (decimal blocks) (omega arith),
+      before_number slot (decimal log_bytes ␣ last) (omega arith),
+      behind_number slot (decimal log_bytes ␣ last) (omega arith),
+      before_number log_bytes last (omega arith),
+      behind_number log_bytes last (omega arith),
+      both.0,
+      both.1,
       below_again 16 slot is.0 (omega arith),
       u32_again log_bytes is.1,
       number_again blocks is.2,

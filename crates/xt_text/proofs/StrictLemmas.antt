@@ -17,7 +17,7 @@ use Rattle.xt_base.specs.declared.steps.Step.TheVariants.{Begin, Call, End, Flus
 use Rattle.xt_text.specs.DataReading.{read_data, spelled_data}
 use Rattle.xt_text.specs.DataText.{spelling}
 use Rattle.xt_text.specs.HomeReading.{home_of}
-use Rattle.xt_text.specs.LineReading.{alloc_of, answer_of, asked_of, before, begin_of, behind, call_of, drop_of, end_of, flush_of, is_strict, is_strict_request, kind_of, lettered, log_of, mount_of, mount_request, name_of, own_of, own_request, peek_of, perm_of, post_of, read_of, request_of, show_of, step_of, sync_of, take_of, trans_request, u32_of, words_step}
+use Rattle.xt_text.specs.LineReading.{alloc_of, answer_of, asked_of, before, begin_of, behind, call_of, drop_of, end_of, flush_of, is_strict, is_strict_request, kind_of, lettered, log_of, mount_of, mount_request, name_of, own_of, own_request, peek_of, perm_of, post_of, read_of, request_of, show_of, size_of, step_of, sync_of, take_of, trans_request, u32_of, words_step}
 use Rattle.xt_text.specs.Lines.{kind_text, line_of, name_text, perm_text, request_text, sync_text, trans_text, ◌·◌, ◌␣◌}
 use Rattle.xt_text.specs.Reading.{below, is_plain, number_of, number_on, number_with, ◌>>=◌}
 
@@ -374,20 +374,17 @@ job_case word text words f s texts same e =
       λ empty. some (ap (behind 32) empty),
     )))
 
--- a mount
-mount_line : (word words : List ℕ) (s : Step) → word ≡ codes "mount" → mount_of words ≡ Some s → IsLine word words s
+-- a mount is read loosely
+mount_loose : {P : Type 0} (words : List ℕ) (s : Step) → mount_of words ≡ Some s → is_strict s ≡ true → P
 unfolding mount_of
-mount_line word words s same e =
+mount_loose words s e strict =
     let a = behind 32 words in
+    let b = behind 32 a in
     bound (below 16 (before 32 words)) _ s e (λ slot is_slot e2.
     bound (u32_of (before 32 a)) _ s e2 (λ log_bytes is_log e3.
-    bound (number_of (behind 32 a)) _ s e3 (λ blocks is_blocks is_s.
-    let last_some = some_text number_of (behind 32 a) blocks refl is_blocks in
-    let last = joined_as 32 a (decimal log_bytes) (decimal blocks) (below_strict 4294967296 _ log_bytes is_log) (number_strict _ blocks is_blocks) last_some in
-    let some : a ≡ [] → ⊥ = λ empty. last_some (ap (behind 32) empty) in (
-      ap (λ w. w ␣ words) same ∙ ap (λ t. codes "mount" ␣ t) (joined_as 32 words (decimal slot) (decimal log_bytes ␣ decimal blocks) (below_strict 16 _ slot is_slot) last some) ∙ ap line_of (same_Some (Mount slot log_bytes blocks) s is_s),
-      λ empty. some (ap (behind 32) empty),
-    ))))
+    bound (number_of (before 32 b)) _ s e3 (λ blocks is_blocks e4.
+    bound (size_of (behind 32 b)) _ s e4 (λ size is_size same.
+    absurd (false≢true (ap is_strict (same_Some (Mount slot log_bytes blocks size) s same) ∙ strict))))))
 
 -- nothing is no answer to a sync
 sync_none : sync_of [] ≡ None
@@ -436,7 +433,7 @@ flush_loose words s e strict =
 words_strict : (word words : List ℕ) (s : Step) → words_step word words ≡ Some s → is_strict s ≡ true → IsLine word words s
 unfolding words_step take_of begin_of show_of peek_of
 words_strict word words s e strict =
-    spelled word (codes "mount") _ _ s e (λ same is. mount_line word words s same is) (λ e2.
+    spelled word (codes "mount") _ _ s e (λ same is. mount_loose words s is strict) (λ e2.
     spelled word (codes "post") _ _ s e2 (λ same is. post_line word words s same is) (λ e3.
     spelled word (codes "take") _ _ s e3 (λ same is. job_case word (codes "take") words Take s (λ w name. refl) same is) (λ e4.
     spelled word (codes "begin") _ _ s e4 (λ same is. job_case word (codes "begin") words Begin s (λ w name. refl) same is) (λ e5.

@@ -1,7 +1,8 @@
 -- Data read from its text, loosely: more texts are read than are spellings, and each spelling gives its bytes.
 use Rattle.std.specs.Prelude.{Bool, List, None, Option, Some, [], false, if◌then◌else◌, length, nat_le, replicate, ℕ, ◌&&◌, ◌*◌, ◌++◌, ◌+◌, ◌-◌, ◌==◌, ◌∷◌}
 use Rattle.std.specs.Str.{bytes_eq}
-use Rattle.xt_base.specs.declared.sizes.TheConstants.{BLOCK_BYTES, DATA_BYTES}
+use Rattle.xt_base.specs.Form.{is_size}
+use Rattle.xt_base.specs.declared.sizes.TheConstants.{DATA_BYTES}
 use Rattle.xt_text.specs.DataText.{spelling}
 use Rattle.xt_text.specs.Reading.{number_on, ◌>>=◌}
 use Rattle.xt_text.specs.declared.data_text.TheConstants.{DIGITS}
@@ -62,4 +63,4 @@ spelled_data text = read_data text >>= λ bytes. if bytes_eq text (spelling byte
 
 -- what a text gives where it gives the content of a block
 abbrev pub read_content : List ℕ → Option (List ℕ)
-read_content text = read_data text >>= λ bytes. if length bytes == BLOCK_BYTES then Some bytes else None
+read_content text = read_data text >>= λ bytes. if is_size (Some (length bytes)) then Some bytes else None

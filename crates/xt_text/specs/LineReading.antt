@@ -151,14 +151,22 @@ show_of words = below SLOTS words >>= λ slot. Some (Show slot)
 unfoldable pub peek_of : List ℕ → Option Step
 peek_of words = below SLOTS words >>= λ slot. Some (Peek slot)
 
--- SLOT LOG BLOCKS
+-- the size of a block: nothing, or SIZE
+unfoldable pub size_of : List ℕ → Option (Option ℕ)
+size_of words =
+    if length words == 0 then Some None
+    else (u32_of words >>= λ size. Some (Some size))
+
+-- SLOT LOG BLOCKS, and the size of a block
 unfoldable pub mount_of : List ℕ → Option Step
 mount_of words =
     let a = behind BLANK words in
+    let b = behind BLANK a in
     below SLOTS (before BLANK words) >>= λ slot.
     u32_of (before BLANK a) >>= λ log_bytes.
-    number_of (behind BLANK a) >>= λ blocks.
-    Some (Mount slot log_bytes blocks)
+    number_of (before BLANK b) >>= λ blocks.
+    size_of (behind BLANK b) >>= λ size.
+    Some (Mount slot log_bytes blocks size)
 
 -- a read, by what stands behind its verb: TRANS BLOCK, and the answer
 unfoldable pub read_of : ℕ → ℕ → List ℕ → Option Step
@@ -249,8 +257,9 @@ is_strict_request Thaw = false
 is_strict_request Unmount = false
 is_strict_request other = true
 
--- whether no line but its own gives a step: not where answers are spelled
+-- whether no line but its own gives a step: not where answers are spelled, nor where a size may stand
 abbrev pub is_strict : Step → Bool
+is_strict (Mount slot log_bytes blocks size) = false
 is_strict (Call slot life request answer) = is_strict_request request
 is_strict (Flush worker name answers) = false
 is_strict other = true

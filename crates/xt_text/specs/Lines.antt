@@ -1,12 +1,13 @@
 -- The lines of steps: the text of each step, and which steps have one.
 use Rattle.std.specs.Fmt.{decimal}
 use Rattle.std.specs.List.{flat_map}
-use Rattle.std.specs.Prelude.{Bool, List, None, Option, Some, [], codes, drop, false, if◌then◌else◌, length, replicate, true, ℕ, ◌++◌, ◌-◌, ◌<◌, ◌==◌, ◌^◌, ◌≡◌, ◌≤◌, ◌∷◌}
+use Rattle.std.specs.Prelude.{Bool, IfSome, List, None, Option, Some, [], codes, drop, false, if◌then◌else◌, length, replicate, true, ℕ, ◌++◌, ◌-◌, ◌<◌, ◌==◌, ◌^◌, ◌≡◌, ◌≤◌, ◌∷◌}
+use Rattle.xt_base.specs.Form.{is_size}
 use Rattle.xt_base.specs.Jobs.{write_answers}
 use Rattle.xt_base.specs.declared.names.JobKind.{JobKind}
 use Rattle.xt_base.specs.declared.names.JobKind.TheVariants.{Ckpt}
 use Rattle.xt_base.specs.declared.names.JobName.{JobName}
-use Rattle.xt_base.specs.declared.sizes.TheConstants.{BLOCK_BYTES, FLUSH_BLOCKS, SLOTS, WORKERS}
+use Rattle.xt_base.specs.declared.sizes.TheConstants.{FLUSH_BLOCKS, SLOTS, WORKERS}
 use Rattle.xt_base.specs.declared.steps.Answer.{Answer}
 use Rattle.xt_base.specs.declared.steps.HomeAnswers.{HomeAnswers}
 use Rattle.xt_base.specs.declared.steps.Request.{Request}
@@ -98,9 +99,14 @@ answer_text Answer.None = []
 answer_text (Answer.Content bytes) = codes " = " ++ spelling bytes
 answer_text Answer.Failed = codes " = fail"
 
+-- the size of a block, behind the blocks of a mount; nothing where none is said
+abbrev pub size_text : Option ℕ → List ℕ
+size_text None = []
+size_text (Some size) = BLANK ∷ decimal size
+
 -- the line of a step, without its newline
 abbrev pub line_of : Step → List ℕ
-line_of (Mount slot log_bytes blocks) = codes "mount" ␣ decimal slot ␣ decimal log_bytes ␣ decimal blocks
+line_of (Mount slot log_bytes blocks size) = codes "mount" ␣ decimal slot ␣ decimal log_bytes ␣ (decimal blocks ++ size_text size)
 line_of (Call slot life request answer) = (decimal slot · decimal life) ␣ (request_text request ++ answer_text answer)
 line_of (Post name) = codes "post" ␣ name_text name
 line_of (Take worker name) = codes "take" ␣ decimal worker ␣ name_text name
@@ -141,7 +147,7 @@ IsRequest Unmount = Unit {0}
 
 -- the content of a block
 abbrev pub IsContent : List ℕ → Type 0
-IsContent bytes = IsData bytes × (length bytes ≡ BLOCK_BYTES)
+IsContent bytes = IsData bytes × (is_size (Some (length bytes)) ≡ true)
 
 -- an answer with the values that its types have
 abbrev pub IsAnswer : Answer → Type 0
@@ -168,7 +174,7 @@ pub record IsHomeAnswers (answers : HomeAnswers) : Type 0 where
 
 -- a step that has a line of its own: an answer stands only where something was asked
 abbrev pub IsStep : Step → Type 0
-IsStep (Mount slot log_bytes blocks) = (slot < SLOTS) × (log_bytes < 2 ^ 32) × (blocks < 2 ^ 64)
+IsStep (Mount slot log_bytes blocks size) = (slot < SLOTS) × (log_bytes < 2 ^ 32) × (blocks < 2 ^ 64) × IfSome size (λ bytes. bytes < 2 ^ 32)
 IsStep (Call slot life request answer) = (slot < SLOTS) × (life < 2 ^ 32) × IsRequest request × IsAnswerTo request answer
 IsStep (Post name) = IsName name
 IsStep (Take worker name) = (worker < WORKERS) × IsName name

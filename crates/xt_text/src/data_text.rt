@@ -16,7 +16,7 @@ use crate::buffer::Text;
 use crate::numbers::{number_of, number_on, put_number};
 use std::alloc::Global;
 use xt_base::content::{Content, Data};
-use xt_base::sizes::{BLOCK_BYTES, DATA_BYTES};
+use xt_base::sizes::DATA_BYTES;
 
 /// The shortest run that is spelled with a count.
 const COUNTED: usize = 4;
@@ -286,17 +286,14 @@ pub(crate) fn spelled_data(alloc: Global, text: &[u8], out: &mut Text) -> Result
     }
 }
 
-/// Reads the content of a block from its text, loosely; a text of more or fewer bytes is a bad spelling.
+/// Reads the content of a block from its text, loosely; a text of any length but the four that a block may have is a bad spelling.
 pub(crate) fn read_content(alloc: Global, text: &[u8]) -> Result<Content, BadLine>
     ensures value { Gives result (read_content text.now) }
     ensures valid { IfOk result IsContent }
 {
     let (bytes, place) = read_parts(alloc, text)?;
     let bytes = with_end(bytes, place)?;
-    if bytes.len() != BLOCK_BYTES {
-        return Err(BadLine::Spelling);
-    }
-    Ok(Content::of_vec(alloc, bytes)?.unwrap())
+    Content::of_vec(alloc, bytes)?.ok_or(BadLine::Spelling)
 }
 
 /// Two lists of bytes that are spelled alike are one list.

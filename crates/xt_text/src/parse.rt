@@ -34,13 +34,13 @@ fn is_strict_request(request: &Request) -> bool
     )
 }
 
-/// Whether no line but its own gives a step: not where answers are spelled.
+/// Whether no line but its own gives a step: not where answers are spelled, nor where a size may stand.
 fn is_strict(step: &Step) -> bool
     ensures { result ≡ is_strict step.now }
 {
     match step {
         Step::Call { request, .. } => is_strict_request(request),
-        Step::Flush { .. } => false,
+        Step::Mount { .. } | Step::Flush { .. } => false,
         _ => true,
     }
 }

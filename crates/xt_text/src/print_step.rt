@@ -5,7 +5,7 @@ ghost use Rattle.std.specs.Prelude.{◌≡◌, ◌∷◌, ◌++◌, Some, codes}
 ghost use Rattle.xt_text.specs.Buffer.{put};
 ghost use Rattle.xt_text.specs.DataText.{spelling};
 ghost use Rattle.xt_text.specs.LineReading.{parsed};
-ghost use Rattle.xt_text.specs.Lines.{IsStep, answer_text, line_of, name_text, perm_text, request_text, sync_text, trans_text, ◌·◌, ◌␣◌};
+ghost use Rattle.xt_text.specs.Lines.{IsStep, answer_text, line_of, name_text, perm_text, request_text, size_text, sync_text, trans_text, ◌·◌, ◌␣◌};
 
 use crate::buffer::Text;
 use crate::fields::{
@@ -157,14 +157,24 @@ fn put_job_step(out: &mut Text, word: &[u8], worker: Worker, name: JobName)
     then_name(out, name);
 }
 
-/// Puts a mount's slot, the size of its log and how many blocks its home device has.
+/// Puts a mount's slot, the size of its log, how many blocks its home device has, and the size of a block where one is said.
 #[tactic(auto, using(crate::proofs::BufferLemmas::put_put))]
-fn put_mount(out: &mut Text, slot: Slot, log_bytes: u32, blocks: u64)
-    ensures { out.new ≡ put out.old (codes "mount" ␣ decimal slot ␣ decimal log_bytes ␣ decimal blocks) }
+fn put_mount(out: &mut Text, slot: Slot, log_bytes: u32, blocks: u64, size: Option<u32>)
+    ensures { out.new ≡ put out.old (codes "mount" ␣ decimal slot ␣ decimal log_bytes ␣ (decimal blocks ++ size_text size)) }
 {
     put_with_slot(out, b"mount", slot);
     then_number(out, log_bytes as u64);
     then_number(out, blocks);
+    put_size(out, size);
+}
+
+/// Puts the size of a block, where one is said.
+fn put_size(out: &mut Text, size: Option<u32>)
+    ensures { out.new ≡ put out.old (size_text size) }
+{
+    if let Some(bytes) = size {
+        then_number(out, bytes as u64);
+    }
 }
 
 /// Puts a word and a slot.
@@ -186,7 +196,8 @@ fn put_step(step: &Step, out: &mut Text)
             slot,
             log_bytes,
             blocks,
-        } => put_mount(out, *slot, *log_bytes, *blocks),
+            size,
+        } => put_mount(out, *slot, *log_bytes, *blocks, *size),
         Step::Call {
             slot,
             life,

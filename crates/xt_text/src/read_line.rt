@@ -2,7 +2,7 @@
 //! may give its step too.
 
 ghost use Rattle.std.specs.Prelude.{◌≡◌, ◌<◌, ◌^◌, IfErr, IfOk, IsErrOf, IsTrue};
-ghost use Rattle.xt_text.specs.LineReading.{alloc_of, answer_of, asked_of, before, begin_of, behind, call_of, drop_of, end_of, flush_of, log_of, mount_of, mount_request, own_of, own_request, peek_of, post_of, read_of, request_of, show_of, step_of, take_of, trans_request, words_step};
+ghost use Rattle.xt_text.specs.LineReading.{alloc_of, answer_of, asked_of, before, begin_of, behind, call_of, drop_of, end_of, flush_of, log_of, mount_of, mount_request, own_of, own_request, peek_of, post_of, read_of, request_of, show_of, size_of, step_of, take_of, trans_request, words_step};
 ghost use Rattle.xt_text.specs.Lines.{IsAnswer, IsRequest, IsStep};
 ghost use Rattle.xt_text.specs.Reading.{Gives};
 ghost use Rattle.xt_text.specs.SessionLines.{takes_data, takes_words};
@@ -220,7 +220,20 @@ fn peek_of(words: &[u8]) -> Result<Step, BadLine>
     Ok(Step::Peek(slot))
 }
 
-/// SLOT LOG BLOCKS.
+/// What stands behind the blocks of a mount: nothing, or the size of a block.
+#[tactic(auto, unfolding(crate::specs::LineReading::size_of))]
+fn size_of(words: &[u8]) -> Result<Option<u32>, BadLine>
+    ensures value { Gives result (size_of words.now) }
+    ensures spelling { IfErr result (λ e. e ≡ Spelling) }
+{
+    if words.is_empty() {
+        return Ok(None);
+    }
+    let size = u32_of(words)?;
+    Ok(Some(size))
+}
+
+/// SLOT LOG BLOCKS, and the size of a block.
 #[tactic(auto, unfolding(crate::specs::LineReading::mount_of))]
 fn mount_of(words: &[u8]) -> Result<Step, BadLine>
     ensures value { Gives result (mount_of words.now) }
@@ -228,14 +241,17 @@ fn mount_of(words: &[u8]) -> Result<Step, BadLine>
     ensures spelling { IfErr result (λ e. e ≡ Spelling) }
 {
     let (slot, words) = cut(words, BLANK);
-    let (log_bytes, blocks) = cut(words, BLANK);
+    let (log_bytes, words) = cut(words, BLANK);
+    let (blocks, size) = cut(words, BLANK);
     let slot = slot_of(slot)?;
     let log_bytes = u32_of(log_bytes)?;
     let blocks = number_of(blocks)?;
+    let size = size_of(size)?;
     Ok(Step::Mount {
         slot,
         log_bytes,
         blocks,
+        size,
     })
 }
 

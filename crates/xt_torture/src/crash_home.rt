@@ -1,13 +1,12 @@
 //! A home device that crashes.
 
-ghost use Rattle.std.specs.Prelude.{◌<◌, [], false};
-ghost use Rattle.xt_base.specs.declared.sizes.TheConstants.{CHUNKS};
+ghost use Rattle.std.specs.Prelude.{[], false};
 
 use crate::image::Image;
 use std::alloc::{AllocError, Global};
 use xt_base::content::Content;
 use xt_base::names::Block;
-use xt_base::sizes::{CHUNK_BYTES, CHUNKS};
+use xt_base::sizes::CHUNK_BYTES;
 use xt_base::steps::HomeOffer;
 use xt_dev::fault::DevFault;
 use xt_dev::home::HomeDevice;
@@ -23,21 +22,14 @@ struct Write {
 }
 
 impl Write {
-    /// Writes one of its chunks over an image.
-    fn land(&self, image: &mut Image, chunk: u32)
-        requires { chunk < CHUNKS }
-    {
-        let first = chunk as usize * CHUNK_BYTES;
-        let bytes = &self.content.bytes()[first..first + CHUNK_BYTES];
-        image.write(self.block, first, bytes);
-    }
-
     /// Writes some of its chunks over an image, as the dice say; all of them where a sync made it safe.
     fn land_some(&self, image: &mut Image, dice: &mut Dice, is_synced: bool) {
-        for chunk in 0..CHUNKS {
+        let mut first = 0usize;
+        for chunk in self.content.bytes().chunks(CHUNK_BYTES) {
             if is_synced && self.ok || dice.is_one_in(2) {
-                self.land(image, chunk);
+                image.write(self.block, first, chunk);
             }
+            first = first.saturating_add(chunk.len());
         }
     }
 }
@@ -130,6 +122,15 @@ impl CrashHome {
     }
 }
 
+/// Hands out what a block has; zeros where another size is asked.
+fn give(content: &[u8], into: &mut [u8]) {
+    if content.len() == into.len() {
+        into.copy_from_slice(content);
+    } else {
+        into.fill(0);
+    }
+}
+
 impl HomeDevice for CrashHome {
     ghost home_tells = { λ _. false };
 
@@ -139,7 +140,7 @@ impl HomeDevice for CrashHome {
 
     fn read(&mut self, block: Block, into: &mut [u8]) -> Result<(), DevFault> {
         match self.content(block) {
-            Some(content) => into.copy_from_slice(content.bytes()),
+            Some(content) => give(content.bytes(), into),
             None => into.fill(0),
         }
         Ok(())

@@ -11,9 +11,10 @@ use crate::round::first_answers;
 use crate::wreck::Wreck;
 use std::alloc::{AllocError, Global};
 use xt_base::content::{Content, Data};
+use xt_base::form::Form;
 use xt_base::names::{Block, JobKind, JobName, Life, Slot, TransNo, Worker};
 use xt_base::outcomes::Turn;
-use xt_base::sizes::{BLOCK_BYTES, FLUSH_BLOCKS};
+use xt_base::sizes::FLUSH_BLOCKS;
 use xt_base::steps::{Answer, Errno, HomeAnswers, LogAnswers, Reply, Request, Step};
 use xt_core::HostCore;
 use xt_core::host::TurnFault;
@@ -82,6 +83,7 @@ fn raise(count: &mut u64, by: u64) {
 #[derive(Drop)]
 pub struct CrashLife {
     alloc: Global,
+    form: Form,
     host: HostCore,
     guess: Guess,
     home: CrashHome,
@@ -148,25 +150,28 @@ fn is_last(step: &Step, reply: &Reply) -> bool {
     }
 }
 
-/// A change of a block by a transaction.
+/// A change of a block of so many bytes by a transaction.
 fn any_change(
     alloc: Global,
     dice: &mut Dice,
     trans: TransNo,
     block: Block,
+    size: u32,
 ) -> Result<Request, AllocError> {
     match dice.below(16) {
         0 => Ok(Request::Inval { trans, block }),
-        1 | 2 => Ok(match Data::of_repeated(alloc, dice.byte(), BLOCK_BYTES)? {
-            Some(bytes) => Request::Log {
-                first: 0,
-                trans,
-                block,
-                bytes,
+        1 | 2 => Ok(
+            match Data::of_repeated(alloc, dice.byte(), size as usize)? {
+                Some(bytes) => Request::Log {
+                    first: 0,
+                    trans,
+                    block,
+                    bytes,
+                },
+                None => Request::Force,
             },
-            None => Request::Force,
-        }),
-        _ => log_request(alloc, dice, trans, block),
+        ),
+        _ => log_request(alloc, dice, trans, block, size),
     }
 }
 
@@ -185,9 +190,10 @@ fn log_answers(dice: &mut Dice, pieces: u32) -> LogAnswers {
 }
 
 impl CrashLife {
-    /// Mounts over what a home device has, with an empty log.
+    /// Mounts over what a home device has, in blocks of the size that is said, if one is, with an empty log.
     pub fn new(
         alloc: Global,
+        size: Option<u32>,
         home: Image,
         counts: CrashCounts,
         dice: &mut Dice,
@@ -195,6 +201,7 @@ impl CrashLife {
         let plain = Plain::new(alloc, &home)?;
         let mut life = CrashLife {
             alloc,
+            form: home.form(),
             host: HostCore::new(alloc)?,
             guess: Guess::new(alloc, slot(), BLOCKS)?,
             home: CrashHome::over(alloc, home, u64::from(dice.below(u32::MAX))),
@@ -211,6 +218,7 @@ impl CrashLife {
             slot: slot(),
             log_bytes: LOG_BYTES,
             blocks: u64::from(BLOCKS),
+            size,
         })?;
         Ok(life)
     }
@@ -286,7 +294,7 @@ impl CrashLife {
         for _ in 0..dice.below(4) + 1 {
             let block = Block(u64::from(dice.below(u32::from(BLOCKS))));
             self.read(dice, trans, block)?;
-            let change = any_change(self.alloc, dice, trans, block)?;
+            let change = any_change(self.alloc, dice, trans, block, self.form.size())?;
             self.call(dice, change)?;
         }
         self.call(dice, Request::Commit { trans })
@@ -315,7 +323,7 @@ impl CrashLife {
 
     /// What the home device answers to a read.
     fn answer(&mut self, dice: &mut Dice, block: Block) -> Result<Answer, AllocError> {
-        let mut bytes = vec![in self.alloc; 0u8; BLOCK_BYTES]?;
+        let mut bytes = vec![in self.alloc; 0u8; self.form.block_bytes()]?;
         if dice.is_one_in(400) || self.home.read(block, &mut bytes).is_err() {
             return Ok(Answer::Failed);
         }

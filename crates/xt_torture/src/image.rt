@@ -1,8 +1,5 @@
 //! The contents of all blocks of a home device.
 
-ghost use Rattle.std.specs.Prelude.{◌≤◌, ◌+◌, length};
-ghost use Rattle.xt_base.specs.declared.sizes.TheConstants.{BLOCK_BYTES};
-
 use std::alloc::{AllocError, Global};
 use xt_base::content::Content;
 use xt_base::form::Form;
@@ -14,6 +11,7 @@ pub const BLOCKS: u8 = 24;
 /// The contents of all blocks of a home device, the first block's first.
 #[derive(Drop)]
 pub struct Image {
+    form: Form,
     contents: Vec<Content>,
 }
 
@@ -23,13 +21,18 @@ fn place(block: Block) -> usize {
 }
 
 impl Image {
-    /// Zeros.
-    pub fn zeros(alloc: Global) -> Result<Self, AllocError> {
+    /// Zeros, in blocks of a form.
+    pub fn zeros(alloc: Global, form: Form) -> Result<Self, AllocError> {
         let mut contents = Vec::with_capacity(alloc, usize::from(BLOCKS))?;
         for _ in 0..BLOCKS {
-            contents.push(Content::zeros(alloc, Form::one())?)?;
+            contents.push(Content::zeros(alloc, form)?)?;
         }
-        Ok(Image { contents })
+        Ok(Image { form, contents })
+    }
+
+    /// The form of its blocks.
+    pub fn form(&self) -> Form {
+        self.form
     }
 
     /// A copy.
@@ -38,7 +41,10 @@ impl Image {
         for content in &self.contents {
             contents.push(content.copy(alloc)?)?;
         }
-        Ok(Image { contents })
+        Ok(Image {
+            form: self.form,
+            contents,
+        })
     }
 
     /// What a block has; None behind the last.
@@ -46,12 +52,10 @@ impl Image {
         self.contents.get(place(block))
     }
 
-    /// Writes bytes of a block from `first` on.
-    pub fn write(&mut self, block: Block, first: usize, bytes: &[u8])
-        requires { first + length bytes.now ≤ BLOCK_BYTES }
-    {
+    /// Writes bytes of a block from `first` on, where they lie in it.
+    pub fn write(&mut self, block: Block, first: usize, bytes: &[u8]) {
         if let Some(content) = self.contents.get_mut(place(block)) {
-            content.write(first, bytes);
+            write_within(content, first, bytes);
         }
     }
 
@@ -61,5 +65,13 @@ impl Image {
             (Some(one), Some(other)) => one.bytes() == other.bytes(),
             _ => false,
         }
+    }
+}
+
+/// Writes bytes of a content from `first` on, where they lie in it.
+pub fn write_within(content: &mut Content, first: usize, bytes: &[u8]) {
+    let size = content.bytes().len();
+    if first <= size && bytes.len() <= size - first {
+        content.write(first, bytes);
     }
 }

@@ -25,6 +25,7 @@ mod plain;
 mod refusals;
 mod round;
 mod simulation;
+mod sizes;
 mod wreck;
 
 use crate::bytes::try_bytes;
@@ -59,8 +60,8 @@ fn print_simulation<R: Print>(
     let found = simulate(alloc, seed, steps, is_hungry)?;
     let counts = found.counts;
     println!(rt;
-        "simulation, seed {seed}: {} steps of sixteen tenants on {} hosts, {} more out of order, {} device calls failed: {} tenants different",
-        counts.steps, found.rounds, counts.disorder, counts.failed, found.different
+        "simulation, seed {seed}: {} steps of sixteen tenants on {} hosts, {} more out of order, {} device calls failed: {} tenants different, {} answers of a wrong size taken",
+        counts.steps, found.rounds, counts.disorder, counts.failed, found.different, counts.misfits
     )?;
     if is_hungry {
         println!(rt;
@@ -68,7 +69,7 @@ fn print_simulation<R: Print>(
             counts.refused
         )?;
     }
-    Ok(status(found.different))
+    Ok(status(found.different.saturating_add(counts.misfits)))
 }
 
 /// Tries texts, and prints how they were read: the status.

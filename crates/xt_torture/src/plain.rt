@@ -1,14 +1,10 @@
 //! A plain reading of what is committed, block by block, from what a mount is asked and replies.
 
-ghost use Rattle.std.specs.Prelude.{◌≤◌, ◌+◌, length};
-ghost use Rattle.xt_base.specs.declared.sizes.TheConstants.{BLOCK_BYTES};
-
-use crate::image::{BLOCKS, Image};
+use crate::image::{BLOCKS, Image, write_within};
 use std::alloc::{AllocError, Global};
 use xt_base::content::{Content, Data};
-use xt_base::form::Form;
 use xt_base::names::{Block, TransNo};
-use xt_base::sizes::{BLOCK_BYTES, DATA_BYTES};
+use xt_base::sizes::DATA_BYTES;
 use xt_base::steps::{Answer, Errno, Reply, Request, Step};
 
 /// What is committed: the content of each block, and the blocks that were given up, of which nothing is promised.
@@ -218,14 +214,12 @@ impl Plain {
     ) -> Result<(), AllocError> {
         let mut content = match self.seen(block) {
             Some(content) => content.copy(self.alloc)?,
-            None => Content::zeros(self.alloc, Form::one())?,
+            None => Content::zeros(self.alloc, self.committed.image.form())?,
         };
         let mut room = [0; DATA_BYTES];
         let own = &mut room[..bytes.len()];
         bytes.copy_to(own);
-        if first <= BLOCK_BYTES && own.len() <= BLOCK_BYTES - first {
-            content.write(first, own);
-        }
+        write_within(&mut content, first, own);
         self.change(trans, block, Some(content))
     }
 

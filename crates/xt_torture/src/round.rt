@@ -1,15 +1,19 @@
 //! A list of random steps, taken one by one by a host of sixteen tenants.
 
 use crate::hunger::Hunger;
+use crate::sizes::any_size;
 use std::alloc::{AllocError, Global};
 use std::collections::VecDeque;
 use xt_base::content::{Content, Data};
-use xt_base::names::{JobKind, JobName, Slot, Worker};
+use xt_base::names::{JobKind, JobName, Life, Slot, Worker};
 use xt_base::sizes::{FLUSH_BLOCKS, SLOTS, WORKERS};
 use xt_base::steps::{Answer, HomeAnswers, LogAnswers, Reply, Request, Step};
 use xt_core::HostCore;
 use xt_trials::dice::Dice;
 use xt_trials::guess::{BLOCKS, Guess};
+
+/// A size that no block may have.
+const NO_SIZE: u32 = 600;
 
 /// What a worker has in hand.
 #[derive(Clone, Copy)]
@@ -30,6 +34,8 @@ pub struct Counts {
     pub refused: u64,
     /// Device calls that were said to fail.
     pub failed: u64,
+    /// Contents of another size than the mount's that were taken as answers to reads.
+    pub misfits: u64,
 }
 
 /// A host, the steps that it took with its replies, and what is guessed of it.
@@ -178,34 +184,60 @@ impl Round {
         if self.attempt(dice, asked)? || !matches!(again, Request::Read { .. }) {
             return Ok(());
         }
-        let answer = self.answer(dice)?;
+        self.answered(dice, slot, life, again)
+    }
+
+    /// Tries a read with an answer of the home device, which now and then is a content of another size: then it must not come.
+    fn answered(
+        &mut self,
+        dice: &mut Dice,
+        slot: Slot,
+        life: Life,
+        request: Request,
+    ) -> Result<(), AllocError> {
+        let Some(guess) = self.guesses.get(slot.index()) else {
+            return Ok(());
+        };
+        let size = guess.size();
+        let is_misfit = dice.is_one_in(10);
+        let given = if is_misfit { other_size(size) } else { size };
+        let answer = self.answer(dice, given)?;
+        let is_content = matches!(answer, Answer::Content(_));
         let step = Step::Call {
             slot,
             life,
-            request: again,
+            request,
             answer,
         };
-        self.attempt(dice, step)?;
+        let is_taken = self.attempt(dice, step)?;
+        if is_taken && is_content && is_misfit {
+            self.counts.misfits = self.counts.misfits.saturating_add(1);
+        }
         Ok(())
     }
 
-    /// Tries a mount.
+    /// Tries a mount, now and then with a size that no block may have.
     fn mount(&mut self, dice: &mut Dice, slot: Slot) -> Result<(), AllocError> {
         let step = Step::Mount {
             slot,
             log_bytes: if dice.is_one_in(3) { 65_536 } else { 262_144 },
             blocks: u64::from(BLOCKS),
+            size: if dice.is_one_in(20) {
+                Some(NO_SIZE)
+            } else {
+                any_size(dice)
+            },
         };
         self.attempt(dice, step)?;
         Ok(())
     }
 
-    /// What the home device answers to a read.
-    fn answer(&mut self, dice: &mut Dice) -> Result<Answer, AllocError> {
+    /// What the home device answers to a read: so many bytes, or that it failed.
+    fn answer(&mut self, dice: &mut Dice, size: u32) -> Result<Answer, AllocError> {
         if self.fails(dice) {
             return Ok(Answer::Failed);
         }
-        let bytes = vec![in self.alloc; dice.byte(); 4_096]?;
+        let bytes = vec![in self.alloc; dice.byte(); size as usize]?;
         Ok(match Content::of_vec(self.alloc, bytes)? {
             Some(content) => Answer::Content(content),
             None => Answer::Failed,
@@ -319,6 +351,11 @@ impl Round {
         self.attempt(dice, step)?;
         Ok(())
     }
+}
+
+/// Another size that a block may have.
+fn other_size(size: u32) -> u32 {
+    if size == 512 { 1_024 } else { 512 }
 }
 
 /// The first answers; those behind them stand for no write, and say no.

@@ -31,6 +31,7 @@ impl Found {
         sum.disorder = sum.disorder.saturating_add(counts.disorder);
         sum.refused = sum.refused.saturating_add(counts.refused);
         sum.failed = sum.failed.saturating_add(counts.failed);
+        sum.misfits = sum.misfits.saturating_add(counts.misfits);
     }
 }
 

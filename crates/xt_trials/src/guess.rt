@@ -38,6 +38,8 @@ pub struct Guess {
     held: Vec<Block>,
     serial: u64,
     checkpoint: u64,
+    /// The bytes of a block of the mount that is tried.
+    size: u32,
     /// A device failed or the mount is shut, so it is brought to its end.
     is_ending: bool,
     /// Nothing is mounted.
@@ -45,7 +47,7 @@ pub struct Guess {
 }
 
 impl Guess {
-    /// Of a slot that was never mounted, over a home device of so many blocks.
+    /// Of a slot that was never mounted, over a home device of so many blocks, of 4,096 bytes until another size is told.
     pub fn new(alloc: Global, slot: Slot, blocks: u8) -> Result<Self, AllocError> {
         Ok(Guess {
             slot,
@@ -56,9 +58,20 @@ impl Guess {
             held: Vec::with_capacity(alloc, REMEMBERED)?,
             serial: 0,
             checkpoint: 0,
+            size: BLOCK_BYTES as u32,
             is_ending: false,
             is_empty: true,
         })
+    }
+
+    /// The slot is to be mounted with blocks of so many bytes: changes are tried within them, and a little past their end.
+    pub fn set_size(&mut self, size: u32) {
+        self.size = size;
+    }
+
+    /// The bytes of a block of the slot's mount, or of its last where there is none.
+    pub fn size(&self) -> u32 {
+        self.size
     }
 
     /// Whether the slot should be mounted: mostly where it is empty.
@@ -187,7 +200,7 @@ impl Guess {
                 block: self.held_block(dice),
             },
             21..=23 => Request::Inval { trans, block },
-            _ => log_request(alloc, dice, trans, block)?,
+            _ => log_request(alloc, dice, trans, block, self.size)?,
         })
     }
 
@@ -235,6 +248,9 @@ impl Guess {
             _ => {}
         }
         match step {
+            Step::Mount { size, .. } if matches!(reply, Reply::Life(_)) => {
+                self.size = size.unwrap_or(BLOCK_BYTES as u32);
+            }
             Step::Post(name) => self.serial = name.serial,
             Step::Call { request, .. } => self.learn_call(request, reply),
             _ => {}
@@ -347,16 +363,19 @@ fn unit(dice: &mut Dice) -> u32 {
     }
 }
 
-/// A change of some bytes of a block.
+/// A change of some bytes of a block that has so many.
 pub fn log_request(
     alloc: Global,
     dice: &mut Dice,
     trans: TransNo,
     block: Block,
+    size: u32,
 ) -> Result<Request, AllocError> {
-    let first = dice.below(BLOCK_BYTES as u32);
-    let most = if dice.is_one_in(8) { 4_096 } else { 300 };
-    let room = BLOCK_BYTES as u32 - first;
+    // No block is empty or longer, which a number does not say.
+    let size = size.clamp(1, BLOCK_BYTES as u32);
+    let first = dice.below(size);
+    let most = if dice.is_one_in(8) { size } else { 300 };
+    let room = size - first;
     let count = (dice.below(most) + 1).min(room + dice.below(2)) as usize;
     let data = if dice.is_one_in(2) {
         Data::of_repeated(alloc, dice.byte(), count)?

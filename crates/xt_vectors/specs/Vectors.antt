@@ -1,8 +1,7 @@
 -- Log vectors: the chunks of a block that were logged, and their bytes.
-use Rattle.std.specs.Prelude.{List, None, Option, Some, Vec, [], map, vec_capacity, ℕ, ◌≤◌}
+use Rattle.std.specs.Prelude.{List, None, Option, Some, Vec, [], map, ℕ}
 use Rattle.std.specs.declared.alloc.Global.{Global}
 use Rattle.xt_base.specs.Text.{chunk_bytes, content_at}
-use Rattle.xt_base.specs.declared.sizes.TheConstants.{BLOCK_BYTES}
 
 -- chunks, and their bytes, one after another
 pub record Vector : Type 0 where
@@ -13,11 +12,6 @@ pub record Vector : Type 0 where
 abbrev pub bytes_in : Option (Vec ℕ Global) → List ℕ
 bytes_in None = []
 bytes_in (Some v) = v.items
-
--- there is room for all chunks of a block, where there are bytes
-abbrev pub HasRoom : Option (Vec ℕ Global) → Type 0
-HasRoom None = Unit {0}
-HasRoom (Some v) = BLOCK_BYTES ≤ vec_capacity v
 
 -- some chunks of a content
 abbrev pub vector : List ℕ → List ℕ → Vector

@@ -23,13 +23,13 @@ pub struct LogVector {
 impl Model for LogVector {
     ghost use Rattle.std.specs.Prelude.{◌≡◌, ◌*◌, length};
     ghost use Rattle.xt_base.specs.declared.sizes.TheConstants.{CHUNK_BYTES};
-    ghost use Rattle.xt_vectors.specs.Vectors.{HasRoom, Vector, bytes_in};
+    ghost use Rattle.xt_vectors.specs.Vectors.{Vector, bytes_in};
 
     ghost Value = { Vector };
 
     ghost view = { λ v. record { chunks = v.chunks; bytes = bytes_in v.bytes } };
 
-    ghost invariant = { λ v. (length (bytes_in v.bytes) ≡ CHUNK_BYTES * length v.chunks) × HasRoom v.bytes };
+    ghost invariant = { λ v. length (bytes_in v.bytes) ≡ CHUNK_BYTES * length v.chunks };
 }
 
 impl LogVector {
@@ -50,11 +50,11 @@ impl LogVector {
         self.chunks
     }
 
-    /// The room that it had, if it had some, for a later one. It takes no memory.
+    /// The room that it had, if it had some that any block fits in, for a later one. It takes no memory.
     pub fn into_room(self) -> Option<VectorRoom> {
         let LogVector { bytes, .. } = self;
         match bytes {
-            Some(bytes) => Some(emptied(bytes)),
+            Some(bytes) => emptied(bytes),
             None => None,
         }
     }
@@ -71,8 +71,8 @@ impl LogVector {
     }
 }
 
-/// Room for a log vector, made before it is known which chunks it has: as many bytes as a block has. Clauses see nothing of it
-/// but that it is there.
+/// Room for a log vector, made before it is known which chunks it has: as many bytes as a block has at most. The log vector of a
+/// smaller block gives the rest back. Clauses see nothing of it but that it is there.
 #[derive(Debug, Drop)]
 pub struct VectorRoom {
     bytes: Vec<u8>,
@@ -104,13 +104,15 @@ impl VectorRoom {
         }
     }
 
-    /// The log vector of some chunks that a content has, in this room. It takes no memory.
+    /// The log vector of some chunks that a content has, in this room, of which it keeps as much as the content is long. It is never
+    /// refused memory.
     pub fn filled(self, content: &Content, chunks: Chunks) -> LogVector
         requires { IsWithin (length content.now) chunks }
         ensures { result ≡ vector content.now chunks }
     {
         let VectorRoom { mut bytes } = self;
         push_chunks(&mut bytes, content, chunks);
+        give_back(&mut bytes, content_len(content));
         LogVector {
             chunks,
             bytes: Some(bytes),
@@ -126,12 +128,23 @@ pub(crate) fn content_len(content: &Content) -> usize
     content.bytes().len()
 }
 
-/// Room without bytes.
-fn emptied(mut bytes: Vec<u8>) -> VectorRoom
-    requires { BLOCK_BYTES ≤ vec_capacity bytes }
-{
+/// Room without bytes, where any block fits in.
+fn emptied(mut bytes: Vec<u8>) -> Option<VectorRoom> {
+    if bytes.capacity() < BLOCK_BYTES {
+        return None;
+    }
     bytes.clear();
-    VectorRoom { bytes }
+    Some(VectorRoom { bytes })
+}
+
+/// What a room has beyond the length of a content that is shorter than others is given back: the log vectors of small blocks are
+/// small. Where the allocator can't do so, the room stays as it is.
+fn give_back(bytes: &mut Vec<u8>, len: usize)
+    ensures { bytes.new.items ≡ bytes.old.items }
+{
+    if len < BLOCK_BYTES {
+        bytes.shrink_to(len);
+    }
 }
 
 /// Appends the bytes of some chunks that a content has, one after another, to none.

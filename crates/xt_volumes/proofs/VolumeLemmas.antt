@@ -2,20 +2,21 @@
 use Rattle.std.proofs.Common.{rules, IsSome, IsSomeAnd, [], ◌∷◌, ◌^◌, zero, suc, All, IfSome, MatchOption, None, Option, Some, arith, ap, get_or, length, not, refl, subst, sym, IsTrue, List, Bool, true, false, ℕ, ◌+◌, ◌-◌, ◌∙◌, ◌≡◌, ◌≢◌, ◌<◌, ◌≤◌, ◌⊎◌}
 use Rattle.std.proofs.lemmas.Bool.{cases_eq, cases_lt}
 use Rattle.std.proofs.lemmas.List.Elements.{All-append, All-cons, All-drop, All-take, Contains-get_or}
-use Rattle.std.proofs.lemmas.List.{get_or_default}
+use Rattle.std.proofs.lemmas.List.{get_or_at, get_or_default, length-append}
 use Rattle.std.proofs.lemmas.List.Edits.{get_or-insert_above, get_or-insert_at, get_or-insert_below, length-insert}
 use Rattle.std.proofs.lemmas.List.Sums.{prefix_len_passes, prefix_len_stops}
 use Rattle.std.specs.Fmt.{decimal}
+use Rattle.std.specs.String.{string_bytes}
 use Rattle.std.specs.List.{Contains, insert}
 use Rattle.std.proofs.lemmas.Fmt.{decimal_is_IsNumeral}
-use Rattle.std.proofs.lemmas.Str.Pattern.{IsSplitOnceResult, split_after}
+use Rattle.std.proofs.lemmas.Str.Pattern.{IsSplitOnceResult, split_after, split_parts}
 use Rattle.std.specs.Char.{digit_value}
 use Rattle.std.specs.Str.Parse.{AllDigits}
-use Rattle.std.specs.Prelude.{nat_lt}
+use Rattle.std.specs.Prelude.{is_some, nat_lt}
 use denote.Bor.{Bor}
 use mathlib.Core.Logic.{⊎_elim}
-use Rattle.xt_volumes.specs.Volumes.{AreAscending, HasNoColon, HasSizes, IsFileName, IsFirstBad, IsRefused, Spells, SpellsNone, parted, place_of}
-use Rattle.xt_base.specs.declared.sizes.TheConstants.{SLOTS}
+use Rattle.xt_volumes.specs.Volumes.{AreAscending, HasNoColon, HasSizes, IsFileName, IsFirstBad, IsRefused, SaysSize, Spells, SpellsNone, last_of, parted, place_of, spelled_as}
+use Rattle.xt_base.specs.declared.sizes.TheConstants.{BLOCK_BYTES, SLOTS}
 use Rattle.xt_base.specs.declared.steps.Errno.{Errno}
 use Rattle.xt_base.specs.declared.steps.Errno.TheVariants.{Busy, Invalid}
 use Rattle.xt_volumes.specs.declared.volume.Volume.{Volume}
@@ -153,8 +154,56 @@ pub cut_there : (bs xs ys : List ℕ) (cut : Option (Bor (List ℕ) × Bor (List
 cut_there bs xs ys None found is none = split_after 58 bs xs ys None found (omega arith) is none
 cut_there bs xs ys (Some cut) found is none = split_after 58 bs xs ys (Some cut) found (omega arith) is none
 
-some_is : (m n : ℕ) → Some m ≡ Some n → m ≡ n
+-- and where it has none, it is not cut
+pub not_cut : (bs : List ℕ) (cut : Option (Bor (List ℕ) × Bor (List ℕ))) → IsSplitOnceResult 58 bs cut → HasNoColon bs → cut ≡ None
+not_cut bs None found none = refl
+not_cut bs (Some cut) found none =
+    let at = split_parts 58 bs (Some cut) found (omega arith) in
+    let inside : length cut.0.now < length bs = omega (arith, ap length at.0, length-append cut.0.now (58 ∷ cut.1.now)) in
+    absurd (none (length cut.0.now) inside (ap (λ l. get_or l (length cut.0.now) 0) at.0 ∙ get_or_at cut.0.now 58 cut.1.now 0 (length cut.0.now) refl))
+
+-- the last parts of a word: the name of the file of the log, and the size of a block, or what stands for it where it is left out
+pub last_parts : (rest word : List ℕ) (v : Volume) (says_size : Bool) (log : List ℕ) (size : Option (Bor (List ℕ))) → rest ≡ last_of says_size v → (says_size ≡ false → v.size ≡ BLOCK_BYTES) → HasNoColon (string_bytes v.log) → word ≡ spelled_as says_size v
+    → ((xs ys : List ℕ) → HasNoColon xs → rest ≡ parted xs ys → (log ≡ xs) × IsSomeAnd size (λ said. said.now ≡ ys))
+    → (HasNoColon rest → (log ≡ rest) × (size ≡ None))
+    → (log ≡ string_bytes v.log) × SaysSize v.size size × (word ≡ spelled_as (is_some size) v)
+last_parts rest word v true log None is left_out free spells said unsaid = let found = said (string_bytes v.log) (decimal v.size) free is in search (rules, found)
+last_parts rest word v true log (Some size) is left_out free spells said unsaid = let found = said (string_bytes v.log) (decimal v.size) free is in (found.0, found.1, spells)
+last_parts rest word v false log None is left_out free spells said unsaid = let found = unsaid (subst HasNoColon (sym is) free) in (found.0 ∙ is, left_out refl, spells)
+last_parts rest word v false log (Some size) is left_out free spells said unsaid = let found = unsaid (subst HasNoColon (sym is) free) in search (rules, found)
+
+-- what is there once is one
+pub some_is : (m n : ℕ) → Some m ≡ Some n → m ≡ n
 some_is m n is = search (rules, is)
+
+-- and so are three
+pub three_are : (a b c x y z : ℕ) → ◌≡◌ {A = Option (ℕ × ℕ × ℕ)} (Some (a, b, c)) (Some (x, y, z)) → (a ≡ x) × (b ≡ y) × (c ≡ z)
+three_are a b c x y z is = search (rules, is)
+
+-- two volumes whose parts are the same have the same words
+pub spelled_same : (v x : Volume) (says_size : Bool) → x.slot ≡ v.slot → x.log_bytes ≡ v.log_bytes → x.blocks ≡ v.blocks → x.size ≡ v.size → string_bytes x.home ≡ string_bytes v.home → string_bytes x.log ≡ string_bytes v.log → spelled_as says_size x ≡ spelled_as says_size v
+spelled_same v x says_size slot log_bytes blocks size home log =
+    let last : last_of says_size x ≡ last_of says_size v = last_same says_size in
+    ap (λ n. parted (decimal n) (parted (decimal x.log_bytes) (parted (decimal x.blocks) (parted (string_bytes x.home) (last_of says_size x))))) slot
+    ∙ ap (λ n. parted (decimal v.slot) (parted (decimal n) (parted (decimal x.blocks) (parted (string_bytes x.home) (last_of says_size x))))) log_bytes
+    ∙ ap (λ n. parted (decimal v.slot) (parted (decimal v.log_bytes) (parted (decimal n) (parted (string_bytes x.home) (last_of says_size x))))) blocks
+    ∙ ap (λ h. parted (decimal v.slot) (parted (decimal v.log_bytes) (parted (decimal v.blocks) (parted h (last_of says_size x))))) home
+    ∙ ap (λ l. parted (decimal v.slot) (parted (decimal v.log_bytes) (parted (decimal v.blocks) (parted (string_bytes v.home) l)))) last
+  where
+    last_same : (says_size : Bool) → last_of says_size x ≡ last_of says_size v
+    last_same true = ap (λ l. parted l (decimal x.size)) log ∙ ap (λ n. parted (string_bytes v.log) (decimal n)) size
+    last_same false = log
+
+-- so a word of the one is found to be a word of the other
+pub found_spelled : (word : List ℕ) (v x : Volume) (says_size said found : Bool) → (IsTrue found → word ≡ spelled_as said x) × (word ≡ spelled_as said x → IsTrue found) → says_size ≡ said → word ≡ spelled_as says_size v
+    → x.slot ≡ v.slot → x.log_bytes ≡ v.log_bytes → x.blocks ≡ v.blocks → x.size ≡ v.size → string_bytes x.home ≡ string_bytes v.home → string_bytes x.log ≡ string_bytes v.log → IsTrue found
+found_spelled word v x says_size said found finds same is slot log_bytes blocks size home log =
+    finds.1 (subst (λ b. word ≡ spelled_as b x) same (is ∙ sym (spelled_same v x says_size slot log_bytes blocks size home log)))
+
+-- a size that is left out is found as 4,096
+pub left_out_is : (said : Option (Bor (List ℕ))) (found : Option ℕ) (size : ℕ) → ((n : ℕ) → n < 2 ^ 32 → SaysSize n said → found ≡ Some n) → found ≡ Some size → is_some said ≡ false → size ≡ BLOCK_BYTES
+left_out_is None found size finds is none = some_is size BLOCK_BYTES (sym is ∙ finds BLOCK_BYTES (omega arith) refl)
+left_out_is (Some said) found size finds is none = search (rules, none)
 
 -- the one that was made of the index of a slot is that slot
 pub made_slot : (made : Option ℕ) (index n : ℕ) → ((IsSome made → index < SLOTS) × (index < SLOTS → IsSome made)) → IfSome made (λ slot. slot ≡ index) → Some index ≡ Some n → n < SLOTS → made ≡ Some n

@@ -1,10 +1,11 @@
 -- Volumes as the command line spells them.
 use denote.Ref.{Bor}
 use Rattle.std.specs.Fmt.{decimal}
-use Rattle.std.specs.Prelude.{All, List, get_or, length, nat_lt, slice_index, ℕ, ◌++◌, ◌<◌, ◌≡◌, ◌≢◌, ◌≤◌, ◌^◌, ◌∷◌}
+use Rattle.std.specs.Prelude.{All, Bool, List, None, Option, Some, false, get_or, is_some, length, nat_lt, slice_index, true, ℕ, ◌++◌, ◌<◌, ◌≡◌, ◌≢◌, ◌≤◌, ◌^◌, ◌∷◌}
 use Rattle.std.specs.List.{AllPairs, Contains, prefix_len}
 use Rattle.std.specs.String.{string_bytes}
-use Rattle.xt_base.specs.declared.sizes.TheConstants.{LEAST_LOG, MOST_BLOCKS, MOST_LOG, SLOTS}
+use Rattle.xt_base.specs.Form.{is_size}
+use Rattle.xt_base.specs.declared.sizes.TheConstants.{BLOCK_BYTES, LEAST_LOG, MOST_BLOCKS, MOST_LOG, SLOTS}
 use Rattle.xt_base.specs.declared.steps.Errno.{Errno}
 use Rattle.xt_base.specs.declared.steps.Errno.TheVariants.{Busy, Invalid}
 use Rattle.xt_volumes.specs.declared.volume.Volume.{Volume}
@@ -13,9 +14,15 @@ use Rattle.xt_volumes.specs.declared.volume.Volume.{Volume}
 abbrev pub parted : List ℕ → List ℕ → List ℕ
 parted xs ys = xs ++ 58 ∷ ys
 
--- the word of a volume: its slot, the bytes of its log, its blocks, and the names of the files of its home device and of its log
-abbrev pub spelled : Volume → List ℕ
-spelled v = parted (decimal v.slot) (parted (decimal v.log_bytes) (parted (decimal v.blocks) (parted (string_bytes v.home) (string_bytes v.log))))
+-- what a word of a volume says last: the name of the file of its log, and maybe the size of a block
+abbrev pub last_of : Bool → Volume → List ℕ
+last_of true v = parted (string_bytes v.log) (decimal v.size)
+last_of false v = string_bytes v.log
+
+-- the word of a volume: its slot, the bytes of its log, its blocks, and the names of the files of its home device and of its log; and the size of
+-- a block, or not
+abbrev pub spelled_as : Bool → Volume → List ℕ
+spelled_as says_size v = parted (decimal v.slot) (parted (decimal v.log_bytes) (parted (decimal v.blocks) (parted (string_bytes v.home) (last_of says_size v))))
 
 -- no colon stands in a text
 abbrev pub HasNoColon : List ℕ → Type 0
@@ -26,10 +33,12 @@ pub record IsFileName (name : List ℕ) : Type 0 where
   pub some : 0 < length name
   pub no_colon : HasNoColon name
 
--- a word spells a volume
+-- a word spells a volume: it says the size of a block, or leaves it out where that is 4,096
 pub record Spells (word : List ℕ) (v : Volume) : Type 0 where
-  pub word_is : word ≡ spelled v
-  pub in_range : (v.slot < SLOTS) × (v.log_bytes < 2 ^ 32) × (v.blocks < 2 ^ 64)
+  pub says_size : Bool
+  pub word_is : word ≡ spelled_as says_size v
+  pub left_out : says_size ≡ false → v.size ≡ BLOCK_BYTES
+  pub in_range : (v.slot < SLOTS) × (v.log_bytes < 2 ^ 32) × (v.blocks < 2 ^ 64) × (v.size < 2 ^ 32)
   pub home : IsFileName (string_bytes v.home)
   pub log : IsFileName (string_bytes v.log)
 
@@ -43,9 +52,21 @@ pub record IsFirstBad (words : List (Bor (List ℕ))) (number : ℕ) : Type 0 wh
   pub bad : (word : Bor (List ℕ)) → SpellsNone (get_or words number word).now
   pub before : (i : ℕ) → i < number → (word : Bor (List ℕ)) → (v : Volume) × Spells (get_or words i word).now v
 
--- these are the parts of the word of a volume
-abbrev pub ArePartsOf : Volume → Bor (List ℕ) × Bor (List ℕ) × Bor (List ℕ) × Bor (List ℕ) × Bor (List ℕ) → Type 0
-ArePartsOf v parts = (parts.0.now ≡ decimal v.slot) × (parts.1.now ≡ decimal v.log_bytes) × (parts.2.now ≡ decimal v.blocks) × (parts.3.now ≡ string_bytes v.home) × (parts.4.now ≡ string_bytes v.log)
+-- what a word says of the size of a block, if it does: it is this one, and one that is left out is 4,096
+abbrev pub SaysSize : ℕ → Option (Bor (List ℕ)) → Type 0
+SaysSize size None = size ≡ BLOCK_BYTES
+SaysSize size (Some said) = said.now ≡ decimal size
+
+-- these are the parts of a word of a volume, which says the size of a block just where there is a part for it
+abbrev pub ArePartsOf : List ℕ → Volume → Bor (List ℕ) × Bor (List ℕ) × Bor (List ℕ) × Bor (List ℕ) × Bor (List ℕ) × Option (Bor (List ℕ)) → Type 0
+ArePartsOf word v parts =
+    (parts.0.now ≡ decimal v.slot)
+    × (parts.1.now ≡ decimal v.log_bytes)
+    × (parts.2.now ≡ decimal v.blocks)
+    × (parts.3.now ≡ string_bytes v.home)
+    × (parts.4.now ≡ string_bytes v.log)
+    × SaysSize v.size parts.5
+    × (word ≡ spelled_as (is_some parts.5) v)
 
 -- a volume is spelled by one of these words
 abbrev pub IsNamed : List (Bor (List ℕ)) → Volume → Type 0
@@ -53,7 +74,7 @@ IsNamed words v = (word : Bor (List ℕ)) × Contains words word × Spells word.
 
 -- a mount of these sizes is not refused
 abbrev pub HasSizes : Volume → Type 0
-HasSizes v = (LEAST_LOG ≤ v.log_bytes) × (v.log_bytes ≤ MOST_LOG) × (1 ≤ v.blocks) × (v.blocks ≤ MOST_BLOCKS)
+HasSizes v = (LEAST_LOG ≤ v.log_bytes) × (v.log_bytes ≤ MOST_LOG) × (1 ≤ v.blocks) × (v.blocks ≤ MOST_BLOCKS) × (is_size (Some v.size) ≡ true)
 
 -- the slots rise, so none is there twice
 abbrev pub AreAscending : List Volume → Type 0

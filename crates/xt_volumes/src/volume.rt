@@ -1,6 +1,6 @@
 //! Volumes as the command line names them.
 
-ghost use Rattle.std.specs.Prelude.{◌≡◌, ◌≤◌, ◌<◌, ◌+◌, ◌↔◌, ◌≢◌, ◌^◌, ◌⊎◌, ℕ, List, All, IsErrOf, IsSomeAnd, None, Ok, Some, IfOk, IfSome, IsTrue, OnOk, length, vec_len};
+ghost use Rattle.std.specs.Prelude.{◌≡◌, ◌≤◌, ◌<◌, ◌+◌, ◌↔◌, ◌≢◌, ◌^◌, ◌⊎◌, ℕ, List, All, IsErrOf, IsSomeAnd, None, Ok, Some, IfOk, IfSome, IsTrue, OnOk, false, length, true, vec_len};
 ghost use Rattle.std.specs.Fmt.{decimal};
 ghost use Rattle.std.specs.List.{insert};
 ghost use Rattle.std.specs.String.{string_bytes};
@@ -9,43 +9,59 @@ ghost use Rattle.xt_base.specs.declared.steps.Errno.{Errno as AnErrno};
 ghost use Rattle.xt_base.specs.declared.steps.Errno.TheVariants.{Busy, Invalid};
 ghost use Rattle.xt_base.specs.declared.sizes.TheConstants.{SLOTS};
 ghost use Rattle.xt_volumes.specs.declared.volume.Volume.{Volume as AVolume};
-ghost use Rattle.xt_volumes.specs.Volumes.{ArePartsOf, AreAscending, HasNoColon, HasSizes, IsFileName, IsFirstBad, IsNamed, IsRefused, IsTaken, Spells, SpellsNone, parted, place_of, spelled};
+ghost use Rattle.xt_volumes.specs.Volumes.{ArePartsOf, AreAscending, HasNoColon, HasSizes, IsFileName, IsFirstBad, IsNamed, IsRefused, IsTaken, SaysSize, Spells, SpellsNone, parted, place_of, spelled_as};
 
 use crate::fault::VolumeFault;
 use std::alloc::{AllocError, Global};
+use xt_base::form::is_block_size;
 use xt_base::names::Slot;
-use xt_base::sizes::{LEAST_LOG, MOST_BLOCKS, MOST_LOG};
+use xt_base::sizes::{BLOCK_BYTES, LEAST_LOG, MOST_BLOCKS, MOST_LOG};
 use xt_base::steps::Errno;
 
-/// A volume: its slot, the sizes of its log in bytes and of its home device in blocks, and the names of the files of both.
+/// A volume: its slot, the sizes of its log in bytes and of its home device in blocks, the bytes of a block, and the names of the files
+/// of both.
 #[derive(Debug, Drop)]
 pub struct Volume {
     pub slot: Slot,
     pub log_bytes: u32,
     pub blocks: u64,
+    pub size: u32,
     pub home: String,
     pub log: String,
 }
 
-/// The parts of a word: a slot, bytes, blocks, and the names of two files.
-type Parts<'a> = (&'a str, &'a str, &'a str, &'a str, &'a str);
+/// The parts of a word: a slot, bytes, blocks, the names of two files, and the size of a block where that is said.
+type Parts<'a> = (&'a str, &'a str, &'a str, &'a str, &'a str, Option<&'a str>);
 
 /// What stands in a text before its first colon, and what stands behind it.
 fn cut<'a>(text: &'a str) -> Option<(&'a str, &'a str)>
-    ensures { (xs ys : List ℕ) → HasNoColon xs → text.now ≡ parted xs ys → IsSomeAnd result (λ halves. (halves.0.now ≡ xs) × (halves.1.now ≡ ys)) }
+    ensures cut { (xs ys : List ℕ) → HasNoColon xs → text.now ≡ parted xs ys → IsSomeAnd result (λ halves. (halves.0.now ≡ xs) × (halves.1.now ≡ ys)) }
+    ensures whole { HasNoColon text.now → result ≡ None }
 {
     text.split_once(':')
 }
 
-/// The five parts of a word between its first four colons, if it has so many.
+/// The name of a log's file, and the size of a block where a colon stands between.
+fn log_and_size<'a>(text: &'a str) -> (&'a str, Option<&'a str>)
+    ensures said { (xs ys : List ℕ) → HasNoColon xs → text.now ≡ parted xs ys → (result.0.now ≡ xs) × IsSomeAnd result.1 (λ size. size.now ≡ ys) }
+    ensures unsaid { HasNoColon text.now → (result.0.now ≡ text.now) × (result.1 ≡ None) }
+{
+    match cut(text) {
+        Some((log, size)) => (log, Some(size)),
+        None => (text, None),
+    }
+}
+
+/// The parts of a word between its first five colons, of which the last may lack, if it has so many.
 fn parts<'a>(word: &'a str) -> Option<Parts<'a>>
-    ensures { (v : AVolume) → Spells word.now v → IsSomeAnd result (ArePartsOf v) }
+    ensures { (v : AVolume) → Spells word.now v → IsSomeAnd result (ArePartsOf word.now v) }
 {
     let (slot, rest) = cut(word)?;
     let (log_bytes, rest) = cut(rest)?;
     let (blocks, rest) = cut(rest)?;
-    let (home, log) = cut(rest)?;
-    Some((slot, log_bytes, blocks, home, log))
+    let (home, rest) = cut(rest)?;
+    let (log, size) = log_and_size(rest);
+    Some((slot, log_bytes, blocks, home, log, size))
 }
 
 /// The slot that a word spells, loosely: a sign and leading zeros are let through.
@@ -56,8 +72,8 @@ fn slot_of(word: &str) -> Option<Slot>
     Slot::new(index)
 }
 
-/// The bytes of a log that a word spells, loosely.
-fn log_bytes_of(word: &str) -> Option<u32>
+/// The bytes that a word spells, loosely.
+fn bytes_of(word: &str) -> Option<u32>
     ensures { (n : ℕ) → n < 2 ^ 32 → word.now ≡ decimal n → result ≡ Some n }
 {
     word.parse().ok()
@@ -70,12 +86,22 @@ fn blocks_of(word: &str) -> Option<u64>
     word.parse().ok()
 }
 
+/// The size of a block that a word spells, loosely, where there is one; else 4,096.
+fn size_of(word: Option<&str>) -> Option<u32>
+    ensures { (n : ℕ) → n < 2 ^ 32 → SaysSize n word.entry → result ≡ Some n }
+{
+    match word {
+        Some(word) => bytes_of(word),
+        None => Some(BLOCK_BYTES as u32),
+    }
+}
+
 /// The numbers that three words spell, loosely.
 fn numbers(slot: &str, log_bytes: &str, blocks: &str) -> Option<(Slot, u32, u64)>
     ensures { (s l b : ℕ) → s < SLOTS → l < 2 ^ 32 → b < 2 ^ 64 → slot.now ≡ decimal s → log_bytes.now ≡ decimal l → blocks.now ≡ decimal b → result ≡ Some (s, l, b) }
 {
     let slot = slot_of(slot)?;
-    let log_bytes = log_bytes_of(log_bytes)?;
+    let log_bytes = bytes_of(log_bytes)?;
     let blocks = blocks_of(blocks)?;
     Some((slot, log_bytes, blocks))
 }
@@ -88,13 +114,13 @@ fn is_file_name(name: &str) -> bool
 }
 
 impl Volume {
-    /// The volume that a word spells, `SLOT:LOGBYTES:BLOCKS:HOMEFILE:LOGFILE`, with the numbers as in the line `mount`; None where it spells
-    /// none. The one error is want of memory.
+    /// The volume that a word spells, `SLOT:LOGBYTES:BLOCKS:HOMEFILE:LOGFILE`, which may end in `:SIZE`, with the numbers as in the line
+    /// `mount`; None where it spells none. The one error is want of memory.
     fn read(alloc: Global, word: &str) -> Result<Option<Self>, AllocError>
         ensures spelled { IfOk result (λ found. IfSome found (Spells word.now)) }
         ensures none { result ≡ Ok None → SpellsNone word.now }
     {
-        let Some((slot, log_bytes, blocks, home, log)) = parts(word) else {
+        let Some((slot, log_bytes, blocks, home, log, said)) = parts(word) else {
             return Ok(None);
         };
         if !is_file_name(home) || !is_file_name(log) {
@@ -103,15 +129,18 @@ impl Volume {
         let Some((slot, log_bytes, blocks)) = numbers(slot, log_bytes, blocks) else {
             return Ok(None);
         };
+        let Some(size) = size_of(said) else {
+            return Ok(None);
+        };
         let volume = Volume {
             slot,
             log_bytes,
             blocks,
+            size,
             home: String::from_str(alloc, home)?,
             log: String::from_str(alloc, log)?,
         };
-        let spelled = volume.word(alloc)?;
-        if spelled.as_str() != word {
+        if !volume.is_spelled(alloc, said.is_some(), word)? {
             return Ok(None);
         }
         Ok(Some(volume))
@@ -130,14 +159,43 @@ impl Volume {
         }
     }
 
-    /// The one word that spells it.
-    fn word(&self, alloc: Global) -> Result<String, AllocError>
-        ensures { IfOk result (λ word. string_bytes word ≡ spelled self.now) }
+    /// The word of it that leaves the size of a block out.
+    fn short_word(&self, alloc: Global) -> Result<String, AllocError>
+        ensures { IfOk result (λ word. string_bytes word ≡ spelled_as false self.now) }
     {
         let index = self.slot.index();
         let (log_bytes, blocks) = (self.log_bytes, self.blocks);
         let (home, log) = (self.home.as_str(), self.log.as_str());
         format!(in alloc; "{index}:{log_bytes}:{blocks}:{home}:{log}")
+    }
+
+    /// The word of it that says the size of a block.
+    fn long_word(&self, alloc: Global) -> Result<String, AllocError>
+        ensures { IfOk result (λ word. string_bytes word ≡ spelled_as true self.now) }
+    {
+        let index = self.slot.index();
+        let (log_bytes, blocks, size) = (self.log_bytes, self.blocks, self.size);
+        let (home, log) = (self.home.as_str(), self.log.as_str());
+        format!(in alloc; "{index}:{log_bytes}:{blocks}:{home}:{log}:{size}")
+    }
+
+    /// The one word of it that says the size of a block, or the one that leaves it out.
+    fn word(&self, alloc: Global, says_size: bool) -> Result<String, AllocError>
+        ensures { IfOk result (λ word. string_bytes word ≡ spelled_as says_size self.now) }
+    {
+        if says_size {
+            self.long_word(alloc)
+        } else {
+            self.short_word(alloc)
+        }
+    }
+
+    /// Whether a word is the one of it that says the size of a block, or the one that leaves it out.
+    fn is_spelled(&self, alloc: Global, says_size: bool, word: &str) -> Result<bool, AllocError>
+        ensures { IfOk result (λ is. IsTrue is ↔ (word.now ≡ spelled_as says_size self.now)) }
+    {
+        let spelled = self.word(alloc, says_size)?;
+        Ok(spelled.as_str() == word)
     }
 
     /// Whether a mount of its sizes is not refused.
@@ -148,6 +206,7 @@ impl Volume {
             && self.log_bytes <= MOST_LOG
             && self.blocks >= 1
             && self.blocks <= MOST_BLOCKS
+            && is_block_size(self.size as usize)
     }
 }
 

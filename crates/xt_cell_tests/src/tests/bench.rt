@@ -1,6 +1,7 @@
 //! One cell with its devices, driven by a table of deeds.
 
-ghost use Rattle.std.specs.Prelude.{◌≡◌};
+ghost use Rattle.std.specs.Prelude.{◌≡◌, ◌<◌, Some, length, true};
+ghost use Rattle.xt_base.specs.Form.{is_size};
 
 use crate::tests::deeds::{Deed, Told, answer_of, request_of};
 use crate::tests::opening::{Devices, Parts};
@@ -57,12 +58,12 @@ impl<H: House> Bench<H> {
         }
     }
 
-    /// Mounts the slot over the devices that are at hand.
-    fn mount<R: Wait>(&mut self, rt: &R) -> Told {
+    /// Mounts the slot over the devices that are at hand, with blocks of a size where one is said.
+    fn mount<R: Wait>(&mut self, rt: &R, size: Option<u32>) -> Told {
         let Some(devices) = self.devices.take() else {
             return Told::Missing;
         };
-        let outcome = self.parts.mount(rt, devices);
+        let outcome = self.parts.mount(rt, size, devices);
         match outcome {
             Ok(at) => self.live(at.life),
             Err(refused) => self.put_back(refused),
@@ -207,12 +208,14 @@ impl<H: House> Bench<H> {
     }
 
     /// The first byte of each of the first two chunks of a block, as the device at hand gives it.
-    fn home(&mut self, block: u64) -> Told {
-        let mut bytes = [0; 4096];
+    fn home(&mut self, block: u64, bytes: &mut [u8]) -> Told
+        requires size { is_size (Some (length bytes.old)) ≡ true }
+        requires chunks { 128 < length bytes.old }
+    {
         let Some((home, _)) = &mut self.devices else {
             return Told::Missing;
         };
-        if home.read(Block(block), &mut bytes).is_err() {
+        if home.read(Block(block), bytes).is_err() {
             return Told::Missing;
         }
         Told::Bytes(bytes[0], bytes[128])
@@ -221,14 +224,16 @@ impl<H: House> Bench<H> {
     /// Does one thing.
     fn act<R: Abort + Wait>(&mut self, rt: &R, deed: Deed) -> Told {
         match deed {
-            Deed::Mount => self.mount(rt),
+            Deed::Mount => self.mount(rt, None),
+            Deed::MountSized(size) => self.mount(rt, Some(size)),
             Deed::Unmount => self.unmount(rt),
             Deed::Begin => self.begin(rt),
             Deed::End => self.end_own(rt),
             Deed::Flush => self.flush(rt),
             Deed::Fold => self.fold(),
             Deed::Peek => self.peek(),
-            Deed::Home(block) => self.home(block),
+            Deed::Home(block) => self.home(block, &mut [0; 4096]),
+            Deed::HomeSmall(block) => self.home(block, &mut [0; 512]),
             Deed::Count => self.count(),
             asked => self.ask(rt, asked),
         }

@@ -23,6 +23,8 @@ pub struct Faults {
 pub enum Deed {
     /// Mounts it, over the devices that are at hand.
     Mount,
+    /// The same, with blocks of so many bytes.
+    MountSized(u32),
     /// Takes its devices back.
     Unmount,
     /// Opens a transaction of one leg, of so many log bytes.
@@ -46,8 +48,14 @@ pub enum Deed {
         first: u32,
         byte: u8,
     },
-    /// Writes all bytes of a block.
+    /// Writes 4,096 bytes, all of a block.
     Fill {
+        trans: u64,
+        block: u64,
+        byte: u8,
+    },
+    /// Writes 512 bytes, all of a small block.
+    FillSmall {
         trans: u64,
         block: u64,
         byte: u8,
@@ -69,6 +77,8 @@ pub enum Deed {
     Fold,
     /// The first byte of each of the first two chunks of a block, as the home device that came back gives it.
     Home(u64),
+    /// The same of a block of 512 bytes.
+    HomeSmall(u64),
 }
 
 /// What it is answered.
@@ -170,6 +180,7 @@ pub fn request_of(alloc: Global, deed: Deed) -> Result<Request, AllocError>
             byte,
         } => logged(alloc, trans, block, first, &[byte])?,
         Deed::Fill { trans, block, byte } => logged(alloc, trans, block, 0, &[byte; BLOCK_BYTES])?,
+        Deed::FillSmall { trans, block, byte } => logged(alloc, trans, block, 0, &[byte; 512])?,
         Deed::Commit(trans) => Request::Commit {
             trans: TransNo(trans),
         },

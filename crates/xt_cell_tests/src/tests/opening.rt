@@ -211,11 +211,24 @@ impl<H: House> Parts<H> {
         self.cell.fold();
     }
 
-    /// Mounts the slot.
-    pub fn mount<R: Wait>(&mut self, rt: &R, devices: Devices) -> Result<MountRef, MountRefused> {
+    /// Mounts the slot, with blocks of a size where one is said.
+    pub fn mount<R: Wait>(
+        &mut self,
+        rt: &R,
+        size: Option<u32>,
+        devices: Devices,
+    ) -> Result<MountRef, MountRefused> {
         let (home, log) = devices;
-        self.cell
-            .mount(rt, &mut self.seat, &self.board, 65536, 1024, home, log)
+        self.cell.mount(
+            rt,
+            &mut self.seat,
+            &self.board,
+            65536,
+            1024,
+            size,
+            home,
+            log,
+        )
     }
 
     /// Takes the devices back.

@@ -414,3 +414,81 @@ fn a_block_is_asked_for(rt: HostRuntime) -> Result<(), AllocError> {
     assert!(rt; is_answered(read.step.get(), Some(7)));
     Ok(())
 }
+
+/// Devices that do not fail; block 7 of the home device has sevens, 4,096 of them.
+const SEVENS: Faults = Faults {
+    keeper: Keeper::Sevens,
+    home_at: NEVER,
+    log_at: NEVER,
+};
+
+/// Blocks of 512 bytes. A device in memory has nothing of that length at block 7, so it is read as zeros. Then the slot is mounted
+/// anew over the same devices, with blocks of 4,096.
+const SMALL_BLOCKS: &[(Deed, Told)] = &[
+    (Deed::MountSized(600), Told::Refused(Errno::Invalid)),
+    (Deed::MountSized(512), Told::Life(1)),
+    (Deed::Alloc(708), Told::Trans(1)),
+    (Deed::Read { trans: 1, block: 7 }, Told::Okay),
+    (Deed::View { trans: 1, block: 7 }, Told::Data(0)),
+    (
+        Deed::Log {
+            trans: 1,
+            block: 7,
+            first: 512,
+            byte: 0x11,
+        },
+        Told::Refused(Errno::Invalid),
+    ),
+    (
+        Deed::Log {
+            trans: 1,
+            block: 7,
+            first: 128,
+            byte: 0x11,
+        },
+        Told::Okay,
+    ),
+    (Deed::Get { trans: 1, block: 8 }, Told::Okay),
+    (
+        Deed::Fill {
+            trans: 1,
+            block: 8,
+            byte: 0x22,
+        },
+        Told::Refused(Errno::Invalid),
+    ),
+    (
+        Deed::FillSmall {
+            trans: 1,
+            block: 8,
+            byte: 0x22,
+        },
+        Told::Okay,
+    ),
+    (Deed::Commit(1), Told::Committed(1)),
+    (Deed::Force, Told::Wait(1)),
+    (
+        Deed::Begin,
+        Told::Begun {
+            number: 1,
+            pieces: 1,
+        },
+    ),
+    (Deed::End, Told::Landed(1)),
+    (Deed::Push, Told::Okay),
+    (Deed::Flush, Told::Flushed(2)),
+    (Deed::Unmount, Told::Okay),
+    (Deed::HomeSmall(7), Told::Bytes(0, 0x11)),
+    (Deed::HomeSmall(8), Told::Bytes(0x22, 0x22)),
+    (Deed::Mount, Told::Life(2)),
+    (Deed::Alloc(176), Told::Trans(1)),
+    (Deed::Read { trans: 1, block: 8 }, Told::Okay),
+    (Deed::View { trans: 1, block: 8 }, Told::Data(0)),
+];
+
+/// A slot has small blocks, and then others. The book leads the host core to the same state.
+#[test]
+fn blocks_are_small(rt: HostRuntime) {
+    let is_so = plays_again(&rt, rt.alloc(), SEVENS, SMALL_BLOCKS);
+    assert_eq!(rt; is_so, Ok(true));
+}

@@ -12,12 +12,19 @@ use xt_base::names::Slot;
 use xt_dev::{FileFault, FileHome, FileLog};
 use xt_volumes::Volume;
 
-/// A volume whose files are open.
-#[derive(Drop)]
-pub struct Opened {
+/// What a mount of a volume is told: its slot, the bytes of its log, the blocks of its home device, and the bytes of a block.
+#[derive(Clone, Copy, Debug)]
+pub struct Geometry {
     pub slot: Slot,
     pub log_bytes: u32,
     pub blocks: u64,
+    pub size: u32,
+}
+
+/// A volume whose files are open.
+#[derive(Drop)]
+pub struct Opened {
+    pub geometry: Geometry,
     pub home: TellingHome,
     pub log: GrowingLog,
 }
@@ -159,9 +166,12 @@ fn open_one(
         Err(found) => return Err(fault(alloc, volume.log.as_str(), found)),
     };
     Ok(Opened {
-        slot: volume.slot,
-        log_bytes: volume.log_bytes,
-        blocks: volume.blocks,
+        geometry: Geometry {
+            slot: volume.slot,
+            log_bytes: volume.log_bytes,
+            blocks: volume.blocks,
+            size: volume.size,
+        },
         home: TellingHome::new(home, volume.slot, rt.stderr()),
         log,
     })

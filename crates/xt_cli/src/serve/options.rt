@@ -7,10 +7,11 @@ use clap::{Arg, ArgAction, ArgMatches, Command};
 use std::alloc::{AllocError, Global};
 use xt_volumes::{Volume, VolumeFault, volumes};
 
-/// What a volume is, with an example.
-const VOLUME: &str = "A volume, SLOT:LOGBYTES:BLOCKS:HOMEFILE:LOGFILE: \
-a slot (0 to 15), the bytes of its log (65536 to 16777216), the blocks of 4096 bytes of its home device, and the files of both, \
-which are made where they are missing; the log file must be empty, or --recover be said. Example: 0:65536:1024:vol.home:vol.log";
+/// What a volume is, with two examples.
+const VOLUME: &str = "A volume, SLOT:LOGBYTES:BLOCKS:HOMEFILE:LOGFILE[:SIZE]: \
+a slot (0 to 15), the bytes of its log (65536 to 16777216), the blocks of its home device, the files of both, which are made where they \
+are missing, and the bytes of a block (512, 1024, 2048 or 4096, which it is where it is left out); the log file must be empty, or \
+--recover be said. Examples: 0:65536:1024:vol.home:vol.log 1:65536:8192:small.home:small.log:512";
 
 /// What a service is asked to do.
 #[derive(Debug, Drop)]

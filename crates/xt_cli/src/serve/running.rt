@@ -8,7 +8,7 @@ ghost use Rattle.xt_cell.specs.Ledgers.{AreCut, AreNamed};
 
 use crate::serve::ending::{Ended, print_shut, status, with_shut};
 use crate::serve::fault::ServeFault;
-use crate::serve::files::Opened;
+use crate::serve::files::{Geometry, Opened};
 use std::alloc::Global;
 use std::io::{self, Eprint, Print, Stdin};
 use std::marker::Brand;
@@ -64,20 +64,25 @@ fn watch_input<R: Threads>(
     }
 }
 
-/// Mounts a volume over its devices.
+/// Mounts a volume over its devices, with texts that say the size of a block.
 fn mount<H: House, R: Wait>(
     rt: &R,
     host: &Host<H>,
     seat: &mut HostSeat<H>,
-    volume: (Slot, u32, u64),
+    volume: Geometry,
     home: Box<dyn HomeDevice + Send>,
     log: Box<dyn LogDevice + Send>,
 ) -> Result<MountRef, ServeFault>
     requires board { seat.old.board.board ≡ host.now.board }
     ensures board { seat.new.board.board ≡ seat.old.board.board }
 {
-    let (slot, log_bytes, blocks) = volume;
-    match host.mount(rt, seat, slot, log_bytes, blocks, home, log) {
+    let Geometry {
+        slot,
+        log_bytes,
+        blocks,
+        size,
+    } = volume;
+    match host.mount_sized(rt, seat, slot, log_bytes, blocks, size, home, log) {
         Ok(at) => Ok(at),
         Err(back) => Err(ServeFault::Slot(slot, back.errno)),
     }
@@ -197,14 +202,12 @@ fn run<
     let mut mounts = Vec::new(alloc);
     for opened in volumes {
         let Opened {
-            slot,
-            log_bytes,
-            blocks,
+            geometry,
             home,
             log,
         } = opened;
         let (home, log) = (Box::new(alloc, home)?, Box::new(alloc, log)?);
-        let at = mount(&rt, &host, &mut seat, (slot, log_bytes, blocks), home, log)?;
+        let at = mount(&rt, &host, &mut seat, geometry, home, log)?;
         mounts.push(at)?;
     }
     let door = Arc::new(alloc, Door::new())?;

@@ -13,7 +13,7 @@ use xt_cell::mount_ref::MountRef;
 use xt_cell::seat::HostSeat;
 use xt_host::desk::Desk;
 use xt_host::host::Host;
-use xt_host::outcomes::CommitFault;
+use xt_host::outcomes::{CommitFault, RollFault};
 use xt_host::tokens::{HeldList, Trans};
 
 /// Takes a list apart of which it is known that nothing was held.
@@ -82,6 +82,35 @@ pub fn settle<H: House, D: Desk<H, R>, R: Abort + Wait>(
         return Err(errno);
     }
     finish(rt, host, seat, trans)
+}
+
+/// Rolls a transaction that holds nothing, once there is log space for another leg, and gives that leg up: the number of the checkpoint
+/// that will have the leg before it.
+pub fn roll_off<H: House, D: Desk<H, R>, R: Abort + Wait>(
+    rt: &R,
+    host: &Host<H, D>,
+    seat: &mut HostSeat<H>,
+    trans: Trans,
+) -> Result<CkptNo, Errno>
+    requires board { seat.old.board.board ≡ host.now.board }
+    ensures board { seat.new.board.board ≡ seat.old.board.board }
+{
+    match host.roll_wait(rt, seat, trans) {
+        Ok((number, held, trans)) => {
+            none_held(rt, held);
+            give_up(rt, host, seat, trans);
+            Ok(number)
+        }
+        Err(RollFault::Aborted(trans, held)) => {
+            none_held(rt, held);
+            give_up(rt, host, seat, trans);
+            Err(Errno::Io)
+        }
+        Err(RollFault::Back(trans, errno)) => {
+            give_up(rt, host, seat, trans);
+            Err(errno)
+        }
+    }
 }
 
 /// Locks a block in a transaction, unread, and writes it whole.

@@ -53,6 +53,20 @@ pub trait Place<H: House, R: Abort + Wait>: Workplace<H, R> + FromBlanks<H> + In
         requires board { seat.old.board.board ≡ host.now.board }
         ensures board { seat.new.board.board ≡ seat.old.board.board };
 
+    /// The same with blocks of a size.
+    fn mount_sized(
+        rt: &R,
+        host: &Host<H, Self>,
+        seat: &mut HostSeat<H>,
+        slot: Slot,
+        size: u32,
+        devices: Self::Devices,
+    ) -> Result<MountRef, Errno>
+    where
+        Self: Sized,
+        requires board { seat.old.board.board ≡ host.now.board }
+        ensures board { seat.new.board.board ≡ seat.old.board.board };
+
     /// Unmounts a mount, and lets its devices go.
     fn unmount(
         rt: &R,
@@ -95,6 +109,19 @@ impl<H: House, R: Abort + Wait> Place<H, R> for Slots<H> {
     ) -> Result<MountRef, Errno> {
         let (home, log) = devices;
         let mounted = host.mount(rt, seat, slot, 65_536, 1_024, home, log);
+        mounted.map_err(|back| back.errno)
+    }
+
+    fn mount_sized(
+        rt: &R,
+        host: &Host<H, Slots<H>>,
+        seat: &mut HostSeat<H>,
+        slot: Slot,
+        size: u32,
+        devices: Devices,
+    ) -> Result<MountRef, Errno> {
+        let (home, log) = devices;
+        let mounted = host.mount_sized(rt, seat, slot, 65_536, 1_024, size, home, log);
         mounted.map_err(|back| back.errno)
     }
 

@@ -4,9 +4,9 @@ ghost use Rattle.std.specs.Prelude.{◌≡◌, ◌-◌, ◌^◌, IfOk};
 ghost use Rattle.std.specs.Arc.{arc_value};
 ghost use Rattle.xt_cell.specs.Ledgers.{AreCut, AreNamed};
 
-use crate::tests::calls::{change, finish, give_up};
+use crate::tests::calls::{change, finish, give_up, roll_off};
 use crate::tests::door::Door;
-use crate::tests::place::{Devices, Place, Workplace, in_memory, stand, work_off};
+use crate::tests::place::{Devices, Place, Workplace, stand, work_off};
 use std::alloc::Global;
 use std::marker::Brand;
 use std::process::Abort;
@@ -14,18 +14,23 @@ use std::rt::HostRuntime;
 use std::sync::Wait;
 use std::thread;
 use std::thread::{Threads, join};
+use xt_base::content::Data;
 use xt_base::names::{Block, Caller, CkptNo, Slot};
-use xt_base::steps::{Errno, Reply};
+use xt_base::steps::{Errno, Reply, Step};
 use xt_cell::account::Account;
 use xt_cell::house::House;
 use xt_cell::mount_ref::MountRef;
 use xt_cell::reserve::Blanks;
 use xt_cell::seat::HostSeat;
+use xt_dev::call::HomeCall;
+use xt_dev::fail_at::FailAt;
 use xt_dev::mem_home::MemHome;
+use xt_dev::mem_log::MemLog;
 use xt_host::comparing::compare_all;
 use xt_host::desk::{Desk, IntoBooks, Slots};
 use xt_host::fault::CloseFault;
 use xt_host::host::{BOOK_ENTRIES, Host};
+use xt_host::tokens::Trans;
 use xt_queue::jobs::WorkPass;
 
 /// How often a thread looks whether another one has called, and how often it lets others run between two looks.
@@ -33,18 +38,55 @@ const LOOKS: u32 = 10_000;
 
 const YIELDS: u32 = 1_000;
 
+/// How a wait for what another thread's transaction has comes to its end.
+#[derive(Clone, Copy)]
+enum End {
+    /// The transaction is committed.
+    Commit,
+    /// The mount is shut.
+    Shutdown,
+}
+
 /// What one thread waits for, and another one does.
 #[derive(Clone, Copy)]
 enum Scene {
     /// A block that a transaction of the other one has, until that is committed.
     Lock,
-    /// The content of such a block.
-    Content,
+    /// The content of such a block, until it ends so.
+    Content(End),
+    /// The content of such a block, which the home device fails to read when it is free.
+    FailedRead,
+    /// Log space for another leg, which a transaction of the other one has, until it ends so.
+    Leg(End),
     /// A transaction of a mount that is frozen, until the other one thaws it.
     Thaw,
     /// The first checkpoint, until the other one has written it.
     Force,
 }
+
+/// What the other one's transaction has.
+#[derive(Clone, Copy)]
+struct Stake {
+    /// Log bytes of its one leg.
+    unit: u32,
+    block: Block,
+    /// How many calls the thread that waits has made when it has tried.
+    calls: u64,
+}
+
+/// The block that is waited for: that thread opens a transaction and tries for it.
+const A_BLOCK: Stake = Stake {
+    unit: 176,
+    block: Block(7),
+    calls: 2,
+};
+
+/// All log space but for one leg of 304 bytes: that thread opens a transaction, reads a block, changes it, and tries to roll.
+const LOG_SPACE: Stake = Stake {
+    unit: 65_232,
+    block: Block(9),
+    calls: 4,
+};
 
 /// Lets others run for a while.
 fn rest() {
@@ -74,9 +116,48 @@ fn wait_for_lock<H: House, D: Desk<H, R>, R: Abort + Wait>(
     told
 }
 
+/// Locks a block that is free in a transaction, with its content, and writes its first byte.
+fn mark<H: House, D: Desk<H, R>, R: Wait>(
+    rt: &R,
+    alloc: Global,
+    host: &Host<H, D>,
+    seat: &mut HostSeat<H>,
+    trans: &mut Trans,
+) -> Result<(), Errno>
+    requires board { seat.old.board.board ≡ host.now.board }
+    ensures board { seat.new.board.board ≡ seat.old.board.board }
+{
+    let Ok(Some(byte)) = Data::of_repeated(alloc, 0x11, 1) else {
+        return Err(Errno::NoMemory);
+    };
+    host.read_wait(rt, seat, trans, Block(7))?;
+    host.log(rt, seat, trans, Block(7), 0, byte)
+}
+
+/// Opens a transaction of one leg, changes a block, waits for log space for another leg, and gives up what it has: what it was told.
+fn wait_for_leg<H: House, D: Desk<H, R>, R: Abort + Wait>(
+    rt: &R,
+    alloc: Global,
+    host: &Host<H, D>,
+    seat: &mut HostSeat<H>,
+    at: &MountRef,
+) -> Result<(), Errno>
+    requires board { seat.old.board.board ≡ host.now.board }
+    ensures board { seat.new.board.board ≡ seat.old.board.board }
+{
+    let mut trans = host.begin_trans(rt, seat, *at, 304, 1, true)?;
+    if let Err(errno) = mark(rt, alloc, host, seat, &mut trans) {
+        give_up(rt, host, seat, trans);
+        return Err(errno);
+    }
+    let _number = roll_off(rt, host, seat, trans)?;
+    Ok(())
+}
+
 /// Waits in a scene: what it was told.
 fn waits<H: House, D: Desk<H, R>, R: Abort + Wait>(
     rt: &R,
+    alloc: Global,
     host: &Host<H, D>,
     seat: &mut HostSeat<H>,
     at: &MountRef,
@@ -87,7 +168,8 @@ fn waits<H: House, D: Desk<H, R>, R: Abort + Wait>(
 {
     match scene {
         Scene::Lock => wait_for_lock(rt, host, seat, at, false),
-        Scene::Content => wait_for_lock(rt, host, seat, at, true),
+        Scene::Content(_) | Scene::FailedRead => wait_for_lock(rt, host, seat, at, true),
+        Scene::Leg(_) => wait_for_leg(rt, alloc, host, seat, at),
         Scene::Thaw => {
             let trans = host.begin_trans_wait(rt, seat, *at, 176, 1, false)?;
             give_up(rt, host, seat, trans);
@@ -123,23 +205,31 @@ fn sees_others<H: House, D: Desk<H, R>, R: Wait>(
     Ok(false)
 }
 
-/// Locks a block, opens the door, and commits once another seat has opened a transaction and tried for the block: whether it did.
-fn free_lock<H: House, D: Desk<H, R>, R: Abort + Wait>(
+/// Takes log space and a block, opens the door, and lets go what another seat waits for once that has tried: whether it did. A commit on
+/// a mount that is shut ends a transaction that changed nothing.
+fn let_go<H: House, D: Desk<H, R>, R: Abort + Wait>(
     rt: &R,
     host: &Host<H, D>,
     seat: &mut HostSeat<H>,
     at: &MountRef,
     door: &Door,
+    stake: Stake,
+    end: End,
 ) -> Result<bool, Errno>
     requires board { seat.old.board.board ≡ host.now.board }
     ensures board { seat.new.board.board ≡ seat.old.board.board }
 {
-    let mut trans = host.begin_trans(rt, seat, *at, 176, 1, false)?;
-    let told = host.get(rt, seat, &mut trans, Block(7));
+    let mut trans = host.begin_trans(rt, seat, *at, stake.unit, 1, false)?;
+    let told = host.get(rt, seat, &mut trans, stake.block);
     door.shut();
-    let seen = sees_others(rt, host, seat, at, 2);
+    let seen = sees_others(rt, host, seat, at, stake.calls);
+    let shut = match end {
+        End::Commit => Ok(()),
+        End::Shutdown => host.shutdown(rt, seat, *at),
+    };
     finish(rt, host, seat, trans)?;
     told?;
+    shut?;
     seen
 }
 
@@ -157,7 +247,11 @@ fn does<H: House, D: Desk<H, R>, R: Abort + Wait>(
     ensures board { seat.new.board.board ≡ seat.old.board.board }
 {
     match scene {
-        Scene::Lock | Scene::Content => free_lock(rt, host, seat, at, door),
+        Scene::Lock | Scene::FailedRead => {
+            let_go(rt, host, seat, at, door, A_BLOCK, End::Commit)
+        }
+        Scene::Content(end) => let_go(rt, host, seat, at, door, A_BLOCK, end),
+        Scene::Leg(end) => let_go(rt, host, seat, at, door, LOG_SPACE, end),
         Scene::Thaw => {
             host.freeze(rt, seat, *at)?;
             door.shut();
@@ -182,6 +276,7 @@ type Did<H> = (HostSeat<H>, Result<bool, Errno>);
 /// A thread that waits, once the door is shut.
 fn wait_behind<H: House, D: Desk<H, R>, R: Abort + Wait>(
     rt: &R,
+    alloc: Global,
     host: &Host<H, D>,
     seat: HostSeat<H>,
     at: MountRef,
@@ -193,7 +288,7 @@ fn wait_behind<H: House, D: Desk<H, R>, R: Abort + Wait>(
     let mut seat = seat;
     for _ in rt.forever() {
         if door.is_shut() {
-            let told = waits(rt, host, &mut seat, &at, scene);
+            let told = waits(rt, alloc, host, &mut seat, &at, scene);
             return (seat, told);
         }
         thread::yield_now();
@@ -245,7 +340,7 @@ fn by_two<H: House + Send + Sync, D: Workplace<H, R> + Sync, R: Abort + Threads 
         rt,
         move || -> Waited<H>
             requires { second.board.board ≡ host.now.board }
-        { wait_behind(rt, host, second, place, door, scene) },
+        { wait_behind(rt, alloc, host, second, place, door, scene) },
         move || -> Did<H>
             requires { (pass.queue ≡ arc_value host.now.queue) × (first.board.board ≡ host.now.board) }
         { do_beside(rt, alloc, host, pass, first, at, door, scene) },
@@ -257,12 +352,13 @@ fn is_told_again(reply: &Reply) -> bool {
     matches!(reply, Reply::Refused(Errno::Again) | Reply::Wait(_))
 }
 
-/// How many calls of a caller a book has, and how many of them were told to try again.
+/// How many calls of a caller a book has, and how many of them were told to try again. A job that one of them made owed is booked as
+/// posted for that caller, and is no call.
 fn tries_in(book: &Account, caller: Caller) -> (u64, u64) {
     let mut calls: u64 = 0;
     let mut tries: u64 = 0;
     for entry in book.entries() {
-        if entry.caller == caller {
+        if entry.caller == caller && !matches!(entry.step.get(), Step::Post(_)) {
             calls = calls.saturating_add(1);
             if is_told_again(entry.reply.get()) {
                 tries = tries.saturating_add(1);
@@ -346,6 +442,22 @@ fn play_on_slots<H: House + Send + Sync, R: Abort + Threads + Wait + Sync>(
     play::<H, Slots<H>, R>(rt, alloc, blanks, scene, devices)
 }
 
+/// A home device in memory, which fails the read of a scene that is about that, and a log device.
+fn devices_of(
+    alloc: Global,
+    scene: Scene,
+) -> Result<(Box<FailAt<MemHome, HomeCall>>, Box<MemLog>), Errno> {
+    let at = match scene {
+        Scene::FailedRead => 1,
+        _ => u64::MAX,
+    };
+    let home = FailAt::over_home(alloc, MemHome::new(alloc), at);
+    let (Ok(home), Ok(log)) = (Box::new(alloc, home), Box::new(alloc, MemLog::new(alloc))) else {
+        return Err(Errno::NoMemory);
+    };
+    Ok((home, log))
+}
+
 /// The same over new ledgers.
 fn plays<R: Abort + Threads + Wait + Sync>(
     rt: &R,
@@ -355,14 +467,14 @@ fn plays<R: Abort + Threads + Wait + Sync>(
 ) -> Result<Told, Errno>
     requires parts { AreCut (2 ^ 64 - 1) blanks }
 {
-    let (home, log) = in_memory(alloc, Ok(MemHome::new(alloc)))?;
+    let (home, log) = devices_of(alloc, scene)?;
     play_on_slots::<Brand, R>(rt, alloc, blanks, scene, (home, log))
 }
 
-/// What is to become of a scene, in which so many calls are not told to try again.
-fn wanted(settled: u64) -> Result<Told, Errno> {
+/// What is to become of a scene, in which the thread that waits is told so at last, and so many calls are not told to try again.
+fn wanted(waited: Result<(), Errno>, settled: u64) -> Result<Told, Errno> {
     Ok(Told {
-        waited: Ok(()),
+        waited,
         seen: Ok(true),
         settled,
         counted: true,
@@ -375,7 +487,7 @@ fn wanted(settled: u64) -> Result<Told, Errno> {
 fn a_commit_frees_a_lock(rt: HostRuntime) {
     assert_eq!(rt;
         plays(&rt, rt.alloc(), Blanks::new(), Scene::Lock),
-        wanted(3)
+        wanted(Ok(()), 3)
     );
 }
 
@@ -383,9 +495,32 @@ fn a_commit_frees_a_lock(rt: HostRuntime) {
 #[test]
 fn a_commit_frees_a_content(rt: HostRuntime) {
     assert_eq!(rt;
-        plays(&rt, rt.alloc(), Blanks::new(), Scene::Content),
-        wanted(3)
+        plays(&rt, rt.alloc(), Blanks::new(), Scene::Content(End::Commit)),
+        wanted(Ok(()), 3)
     );
+}
+
+/// The last read is EIO where the other thread shuts the mount, and where the home device fails.
+#[test]
+fn a_wait_for_a_content_fails(rt: HostRuntime) {
+    for scene in [Scene::Content(End::Shutdown), Scene::FailedRead] {
+        assert_eq!(rt;
+            plays(&rt, rt.alloc(), Blanks::new(), scene),
+            wanted(Err(Errno::Io), 3)
+        );
+    }
+}
+
+/// A roll whose leg was the last one, while another thread has the log space: beside the tries there are the alloc, the read, the log, the
+/// last roll, and the cancel. The roll is EIO where that thread shuts the mount.
+#[test]
+fn a_roll_waits_for_log_space(rt: HostRuntime) {
+    for (end, told) in [(End::Commit, Ok(())), (End::Shutdown, Err(Errno::Io))] {
+        assert_eq!(rt;
+            plays(&rt, rt.alloc(), Blanks::new(), Scene::Leg(end)),
+            wanted(told, 5)
+        );
+    }
 }
 
 /// A frozen mount that another thread thaws: beside the tries there are the last alloc, and the cancel.
@@ -393,7 +528,7 @@ fn a_commit_frees_a_content(rt: HostRuntime) {
 fn a_thaw_opens_a_mount(rt: HostRuntime) {
     assert_eq!(rt;
         plays(&rt, rt.alloc(), Blanks::new(), Scene::Thaw),
-        wanted(2)
+        wanted(Ok(()), 2)
     );
 }
 
@@ -402,6 +537,6 @@ fn a_thaw_opens_a_mount(rt: HostRuntime) {
 fn a_worker_ends_a_force(rt: HostRuntime) {
     assert_eq!(rt;
         plays(&rt, rt.alloc(), Blanks::new(), Scene::Force),
-        wanted(1)
+        wanted(Ok(()), 1)
     );
 }

@@ -143,6 +143,28 @@ fn home_in_a_file(rt: HostRuntime) -> Result<(), Fail> {
     Ok(())
 }
 
+/// Small block 9 stands in block 1, of 4,096 bytes, where these have their second 512.
+#[test]
+fn small_blocks_in_a_file(rt: HostRuntime) -> Result<(), Fail> {
+    const CALLS: &[Told] = &[
+        Told::SmallWrite(9, Some(7), true),
+        Told::Sync(true),
+        Told::SmallRead(8, Some(0)),
+        Told::SmallRead(9, Some(7)),
+        Told::SmallRead(10, Some(0)),
+        Told::Read(0, Some(0)),
+        Told::Read(1, None),
+        Told::Write(1, Some(5), true),
+        Told::SmallRead(8, Some(5)),
+        Told::SmallRead(15, Some(5)),
+        Told::SmallRead(16, Some(0)),
+    ];
+    let path = fresh_path(&rt, "small")?;
+    let mut home = FileHome::open(&rt, rt.alloc(), path.as_path())?;
+    assert!(rt; home_answers(&mut home, CALLS) && was_long(&rt, path.as_path(), 8_192)?);
+    Ok(())
+}
+
 /// Whether the first half of a block is all 9, and the other all 0.
 fn is_half(content: &[u8; 4096]) -> bool {
     for (place, byte) in content.iter().enumerate() {
@@ -216,6 +238,26 @@ fn full_file_fails(rt: HostRuntime) -> Result<(), Fail> {
     ];
     let mut log = FileLog::open(&rt, FULL)?;
     assert!(rt; log_answers(&mut log, LOG));
+    let mut home = FileHome::open(&rt, rt.alloc(), FULL)?;
+    assert!(rt; home_answers(&mut home, HOME));
+    Ok(())
+}
+
+/// What was written before a sync that failed is in doubt for blocks of each size that lie there.
+#[test]
+fn doubts_of_another_size(rt: HostRuntime) -> Result<(), Fail> {
+    const HOME: &[Told] = &[
+        Told::Write(1, Some(7), false),
+        Told::SmallWrite(17, Some(7), false),
+        Told::Sync(false),
+        Told::SmallRead(7, Some(0)),
+        Told::SmallUnread(8),
+        Told::SmallUnread(15),
+        Told::SmallRead(16, Some(0)),
+        Told::SmallUnread(17),
+        Told::Unread(2),
+        Told::Read(3, Some(0)),
+    ];
     let mut home = FileHome::open(&rt, rt.alloc(), FULL)?;
     assert!(rt; home_answers(&mut home, HOME));
     Ok(())

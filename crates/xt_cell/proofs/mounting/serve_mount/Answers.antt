@@ -11,7 +11,7 @@ use Rattle.xt_cell.proofs.mounting.serve_mount.Goals as goal
 pub post_both-requires : goal.post_both-requires
 post_both-requires g c =
     let no = sym c.is_no_memory.ensures ∙ c.if-is_no_memory.false in
-    let made = mounts _ _ _ _ _ _ (c.mount-reply.ensures.booked no).entry.served in
+    let made = mounts _ _ _ _ _ _ _ (c.mount-reply.ensures.booked no).entry.served in
     let before = ap (λ (s : SlotState). is_last_post (last_of unposted c.args.poster.now.posted) s) c.make_room.ensures.book.state ∙ c.requires.last in
     let less = c.mount-reply.ensures.room no in
     let room = c.in-Ok.ensures.room in
@@ -20,24 +20,24 @@ post_both-requires g c =
 pub life_of-requires : goal.life_of-requires
 life_of-requires g c =
     let no = sym c.is_no_memory.ensures ∙ c.if-is_no_memory.false in
-    (mounts _ _ _ _ _ _ (c.mount-reply.ensures.booked no).entry.served).life
+    (mounts _ _ _ _ _ _ _ (c.mount-reply.ensures.booked no).entry.served).life
 
 pub returns-clause-idle : goal.returns-clause-idle
 returns-clause-idle g c =
     let no = sym c.is_no_memory.ensures ∙ c.if-is_no_memory.false in
-    let made = mounts _ _ _ _ _ _ (c.mount-reply.ensures.booked no).entry.served in
+    let made = mounts _ _ _ _ _ _ _ (c.mount-reply.ensures.booked no).entry.served in
     c.post_both.ensures.idle (made.idle (ap (λ (s : SlotState). is_flown_by_job s.mounted) c.make_room.ensures.book.state ∙ c.requires.idle))
 
 pub returns-clause-there : goal.returns-clause-there
 returns-clause-there g c =
     let no = sym c.is_no_memory.ensures ∙ c.if-is_no_memory.false in
-    let made = mounts _ _ _ _ _ _ (c.mount-reply.ensures.booked no).entry.served in
+    let made = mounts _ _ _ _ _ _ _ (c.mount-reply.ensures.booked no).entry.served in
     IfOk-weaker _ _ _ (λ life is. pair (c.post_both.ensures.home ∙ (made.there life is).0) (c.post_both.ensures.log ∙ (made.there life is).1)) c.life_of.ensures.life
 
 pub returns-clause-kept : goal.returns-clause-kept
 returns-clause-kept g c =
     let no = sym c.is_no_memory.ensures ∙ c.if-is_no_memory.false in
-    let made = mounts _ _ _ _ _ _ (c.mount-reply.ensures.booked no).entry.served in
+    let made = mounts _ _ _ _ _ _ _ (c.mount-reply.ensures.booked no).entry.served in
     IfErr-weaker _ _ _
     (λ e is.
     pair

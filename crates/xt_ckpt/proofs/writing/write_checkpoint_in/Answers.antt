@@ -1,9 +1,16 @@
-use Rattle.std.proofs.Common.{◌≡◌, ◌∙◌, IfOk, ap, length, subst, sym}
+use Rattle.std.proofs.Common.{◌≡◌, ◌∙◌, IfOk, ap, length, slice_index_or, subst, sym}
 use Rattle.std.specs.List.{flat_map}
 use Rattle.xt_base.proofs.TextLemmas.{plain_text, sized_text}
+use Rattle.xt_base.specs.Sized.{IsWithin}
 use Rattle.xt_base.specs.Text.{pieces as pieces_of, sized_text_with}
 use Rattle.xt_ckpt.specs.Items.{item_bytes}
+use Rattle.xt_ckpt.proofs.Sizes.{within_fits}
 use Rattle.xt_ckpt.proofs.writing.write_checkpoint_in.Goals as goal
+
+pub write_checkpoint2-requires-clause-fits : goal.write_checkpoint2-requires-clause-fits
+write_checkpoint2-requires-clause-fits c k d less =
+    let item = slice_index_or c.args.items.now k d in
+    within_fits c.size.result item (c.are_stored.ensures k d less) (subst (λ size. IsWithin size item.chunks) (sym c.size.ensures.value) (c.requires.within k d less))
 
 pub returns-then-is_sized-clause-text : goal.returns-then-is_sized-clause-text
 returns-then-is_sized-clause-text c =

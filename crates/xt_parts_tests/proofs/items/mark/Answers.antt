@@ -5,4 +5,4 @@ use Rattle.xt_vectors.proofs.VectorLemmas.{all_within}
 
 pub mark-requires-2-clause-within : goal.mark-requires-2-clause-within
 mark-requires-2-clause-within c =
-    all_within (unwrap_or (at c.args.block c.args.items.now.cil) []) c.mark.result c.in-Ok-Ok.content (sym (ap length c.bytes-whole.ensures.value) ∙ c.bytes-whole.ensures.whole)
+    all_within (unwrap_or (at c.args.block c.args.items.now.cil) []) c.mark.result c.in-Ok-Ok.content (sym (ap length c.bytes.ensures.value) ∙ c.if-bytes-ne-BLOCK_BYTES.false)

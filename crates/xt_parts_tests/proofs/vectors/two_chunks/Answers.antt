@@ -5,4 +5,4 @@ use Rattle.xt_vectors.proofs.VectorLemmas.{all_within}
 
 pub filled-requires : goal.filled-requires
 filled-requires c =
-    subst (IsWithin (length c.in-Some.content)) (sym c.union-chunks.ensures) (all_within c.mark.result c.mark-2.result c.in-Some.content (sym (ap length c.bytes-whole.ensures.value) ∙ c.bytes-whole.ensures.whole))
+    subst (IsWithin (length c.in-Some.content)) (sym c.union-chunks.ensures) (all_within c.mark.result c.mark-2.result c.in-Some.content (sym (ap length c.bytes.ensures.value) ∙ c.if-bytes-eq-BLOCK_BYTES.true))

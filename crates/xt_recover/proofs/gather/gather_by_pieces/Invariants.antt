@@ -6,6 +6,6 @@ use Rattle.xt_recover.proofs.gather.gather_by_pieces.Given as goal
 
 abbrev pub invariant-loop-texts : goal.invariant-loop-texts
 invariant-loop-texts g l = record {
-  stands : IfSome (g.L.Read.remaining l.fn.log) (λ bytes. Stands bytes l.window (g.L.Read.remaining l.log) l.texts (overlaid l.fn.overlay) (overlaid l.overlay));
+  stands : IfSome (g.L.Read.remaining l.fn.log) (λ bytes. Stands bytes l.window (g.L.Read.remaining l.log) l.texts (overlaid l.overlay));
   tied : IsTied l.window (g.L.Read.remaining l.log);
 }

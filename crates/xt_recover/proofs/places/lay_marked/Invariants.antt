@@ -8,5 +8,6 @@ use Rattle.xt_recover.proofs.places.lay_marked.Given as goal
 abbrev pub invariant-loop-k : goal.invariant-loop-k
 invariant-loop-k l = record {
   content : l.content ≡ with_chunks (filter (λ k. bit_at l.word k == 1) (below l.k)) l.bytes l.fn.content;
+  len : length l.content ≡ length l.fn.content;
   place : l.place ≡ 128 * length (filter (λ k. bit_at l.word k == 1) (below l.k));
 }

@@ -7,4 +7,4 @@ use Rattle.xt_cell.proofs.book.SlotBook.mount.Goals as goal
 pub invariant_of-self : goal.invariant_of-self
 invariant_of-self g c =
     let room = ap (λ (b : BookView). b.room) c.self.view_is in
-    written_book _ _ _ _ _ _ _ _ (Step.Mount c.self.inside.mount.slot c.args.log_bytes c.args.blocks) _ _ _ _ c.self.invariant c.in-Ok.ensures.served refl (omega (arith, room, c.requires.room)) c.write.ensures.entries (◌∙◌ {b = Step.Mount c.slot-slot.result c.args.log_bytes c.args.blocks} c.mount_twin-step.ensures (ap (λ (n : ℕ). Step.Mount n c.args.log_bytes c.args.blocks) c.slot-slot.ensures)) c.in-Ok.ensures.twice c.write.ensures.total
+    written_book _ _ _ _ _ _ _ _ (Step.Mount c.self.inside.mount.slot c.args.log_bytes c.args.blocks c.args.size) _ _ _ _ c.self.invariant c.in-Ok.ensures.served refl (omega (arith, room, c.requires.room)) c.write.ensures.entries (◌∙◌ {b = Step.Mount c.slot-slot.result c.args.log_bytes c.args.blocks c.args.size} c.mount_twin-step.ensures (ap (λ (n : ℕ). Step.Mount n c.args.log_bytes c.args.blocks c.args.size) c.slot-slot.ensures)) c.in-Ok.ensures.twice c.write.ensures.total

@@ -6,10 +6,10 @@ use Rattle.xt_core.proofs.cell.SlotCell.serve.Goals as goal
 pub returns-in-Mount : goal.returns-in-Mount
 returns-in-Mount c =
     let old = c.self.inside in
-    let named = number_is c.args.step.now (Step.Mount c.in-Mount.slot c.in-Mount.log_bytes c.in-Mount.blocks) (cell_with old.seen_life old.seen_reason old.mount) c.args.self.now c.in-Mount.is c.requires.slot c.self.view_is in
-    turned_as c.args.step.now (Step.Mount old.mount.slot c.in-Mount.log_bytes c.in-Mount.blocks) c.mount.result (cell_with old.seen_life old.seen_reason c.mount.new.self) (cell_with old.seen_life old.seen_reason old.mount) c.args.self.now
-    (c.in-Mount.is ∙ ap (λ n. Step.Mount n c.in-Mount.log_bytes c.in-Mount.blocks) named) c.self.view_is
-    (turned (Step.Mount old.mount.slot c.in-Mount.log_bytes c.in-Mount.blocks) c.mount.result old.seen_life old.seen_reason c.mount.new.self old.mount c.mount.ensures)
+    let named = number_is c.args.step.now (Step.Mount c.in-Mount.slot c.in-Mount.log_bytes c.in-Mount.blocks c.in-Mount.size) (cell_with old.seen_life old.seen_reason old.mount) c.args.self.now c.in-Mount.is c.requires.slot c.self.view_is in
+    turned_as c.args.step.now (Step.Mount old.mount.slot c.in-Mount.log_bytes c.in-Mount.blocks c.in-Mount.size) c.mount.result (cell_with old.seen_life old.seen_reason c.mount.new.self) (cell_with old.seen_life old.seen_reason old.mount) c.args.self.now
+    (c.in-Mount.is ∙ ap (λ n. Step.Mount n c.in-Mount.log_bytes c.in-Mount.blocks c.in-Mount.size) named) c.self.view_is
+    (turned (Step.Mount old.mount.slot c.in-Mount.log_bytes c.in-Mount.blocks c.in-Mount.size) c.mount.result old.seen_life old.seen_reason c.mount.new.self old.mount c.mount.ensures)
 
 pub returns-in-Call : goal.returns-in-Call
 returns-in-Call c =

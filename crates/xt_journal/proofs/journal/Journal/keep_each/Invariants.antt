@@ -1,6 +1,7 @@
 use Rattle.std.proofs.Common.{◌≡◌, ◌≤◌, ◌+◌, length}
 use Rattle.xt_base.specs.Sound.{IsRising}
-use Rattle.xt_journal.specs.Keeping.{AreFramed, changes_kept}
+use Rattle.xt_journal.specs.Keeping.{AreFramed, HaveChunks, changes_kept}
+use Rattle.xt_journal.specs.Over.{changes_over}
 use Rattle.xt_journal.proofs.journal.Journal.keep_each.Given as goal
 
 abbrev pub invariant-loop-block : goal.invariant-loop-block
@@ -10,6 +11,7 @@ invariant-loop-block l = record {
   rising : IsRising l.leg.changes;
   frames : length l.self.frames.frames + length l.leg.changes ≤ 128;
   cil : length l.self.lists.cil + length l.leg.changes ≤ 128;
+  chunks : HaveChunks l.self.lists.cil (changes_over l.self.frames.frames l.leg.changes);
 }
 
 abbrev pub decreases-loop-block : goal.decreases-loop-block

@@ -1,17 +1,11 @@
-use Rattle.std.proofs.Common.{◌∙◌, [], ap, length, subst, sym, unwrap_or}
-use Rattle.xt_base.specs.Maps.{at}
+use Rattle.std.proofs.Common.{◌∙◌, ap, subst}
 use Rattle.xt_base.specs.Sound.{IsRising}
 use Rattle.xt_frames.proofs.ContentLemmas.{put_committed}
 use Rattle.xt_frames.specs.Busy.{committed_of}
 use Rattle.xt_frames.specs.Contents.{Bufs, contents_of}
 use Rattle.xt_frames.specs.Kept.{clean_of}
 use Rattle.xt_journal.proofs.TieLemmas.{tied_marked}
-use Rattle.xt_vectors.proofs.VectorLemmas.{all_within}
 use Rattle.xt_journal.proofs.journal.Journal.keep_own.Goals as goal
-
-pub mark-requires-clause-within : goal.mark-requires-clause-within
-mark-requires-clause-within c =
-    all_within (unwrap_or (at c.args.block c.self.inside.items.cil) []) c.args.marks c.args.content (sym (ap length c.bytes-whole.ensures.value) ∙ c.bytes-whole.ensures.whole)
 
 pub invariant_of-self : goal.invariant_of-self
 invariant_of-self c =

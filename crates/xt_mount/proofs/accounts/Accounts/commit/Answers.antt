@@ -10,9 +10,9 @@ use Rattle.xt_frames.specs.Contents.{contents_of}
 use Rattle.xt_items.specs.Lists.{Lists}
 use Rattle.xt_journal.proofs.OverLemmas.{with_marks_over}
 use Rattle.xt_journal.specs.Journals.{JournalState}
-use Rattle.xt_journal.specs.Keeping.{edits_kept, marks_kept}
+use Rattle.xt_journal.specs.Keeping.{HaveChunks, edits_kept, marks_kept}
 use Rattle.xt_journal.specs.Over.{changes_over, trans_over}
-use Rattle.xt_mount.proofs.AccountsLemmas.{alone_each, closed_there, contents_in, covered, granted_out, kept_parts, listed_in, open_in, pages, paid_in, shown_if}
+use Rattle.xt_mount.proofs.AccountsLemmas.{alone_each, closed_there, contents_in, covered, granted_out, kept_parts, listed_in, open_in, pages, paid_in, shown_fact, shown_if}
 use Rattle.xt_mount.proofs.ShownLemmas.{framed_changes, framed_closed, frames_there, same_beside}
 use Rattle.xt_mount.proofs.accounts.Accounts.commit.Goals as goal
 use Rattle.xt_mount.specs.Accounts.{AccountsState, closed_in, kept_in}
@@ -41,6 +41,13 @@ pub keep_changes-requires-clause-cil : goal.keep_changes-requires-clause-cil
 keep_changes-requires-clause-cil c =
     let now = c.self.inside in
     omega (arith, listed_in c.args.self.now now.space.size now.transactions now.space.landed now.journal c.self.view_is c.args.trans c.in-Some.opened (sym c.remove.ensures.value ∙ c.in-Some.is) c.requires.list, ap (λ (l : Leg). length l.changes) c.into_parts-ticket.ensures.leg)
+
+pub keep_changes-requires-clause-chunks : goal.keep_changes-requires-clause-chunks
+keep_changes-requires-clause-chunks c =
+    let now = c.self.inside in
+    let have = shown_fact c.args.self.now now.space.size now.transactions now.space.landed now.journal c.self.view_is c.args.trans c.in-Some.opened (sym c.remove.ensures.value ∙ c.in-Some.is)
+    (λ (a : AccountsState) (x : Transaction). HaveChunks a.items.cil x.leg.changes) c.requires.chunks in
+    subst (λ (l : Leg). HaveChunks now.journal.lists.cil (changes_over now.journal.frames.frames l.changes)) (sym c.into_parts-ticket.ensures.leg) have
 
 pub commit-requires-clause-granted : goal.commit-requires-clause-granted
 commit-requires-clause-granted c =

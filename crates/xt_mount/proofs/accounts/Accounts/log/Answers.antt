@@ -1,12 +1,12 @@
-use Rattle.std.proofs.Common.{◌∙◌, Err, Ok, OnErr, Result, ap, length, subst, sym}
+use Rattle.std.proofs.Common.{◌∙◌, ◌+◌, ◌≤◌, Err, Ok, OnErr, Result, ap, length, subst, sym}
 use Rattle.std.specs.declared.alloc.AllocError.{AllocError}
-use Rattle.xt_base.specs.Calls.{logged_leg}
+use Rattle.xt_base.specs.Calls.{logged_leg, seen}
 use Rattle.xt_base.specs.Chunks.{marks}
 use Rattle.xt_base.specs.Maps.{put}
 use Rattle.xt_base.specs.Space.{cost, granted}
-use Rattle.xt_base.specs.State.{Leg}
+use Rattle.xt_base.specs.State.{Leg, Transaction}
 use Rattle.xt_journal.specs.Journals.{JournalState}
-use Rattle.xt_mount.proofs.AccountsLemmas.{alone_in, few_in, logged_in, open_in, rises_in, standing, stayed, step_granted, stepped}
+use Rattle.xt_mount.proofs.AccountsLemmas.{alone_in, few_in, logged_in, open_in, rises_in, shown_fact, standing, stayed, step_granted, stepped}
 use Rattle.xt_mount.proofs.ShownLemmas.{clean_alone, framed_step, frames_there}
 use Rattle.xt_mount.proofs.accounts.Accounts.log.Goals as goal
 use Rattle.xt_mount.specs.Accounts.{AccountsState}
@@ -28,6 +28,12 @@ log-requires-clause-fits c =
     let now = c.self.inside in
     logged_in c.args.self.now now.space.size now.transactions now.space.landed now.journal c.self.view_is c.args.trans c.value_mut-opened.result.now c.value_mut-opened.ensures.value c.args.block
     (marks c.args.first (length c.args.bytes.now)) c.requires.fits
+
+pub log-requires-clause-seen : goal.log-requires-clause-seen
+log-requires-clause-seen c =
+    let now = c.self.inside in
+    shown_fact c.args.self.now now.space.size now.transactions now.space.landed now.journal c.self.view_is c.args.trans c.value_mut-opened.result.now c.value_mut-opened.ensures.value
+    (λ (a : AccountsState) (x : Transaction). c.args.first + length c.args.bytes.now ≤ length (seen a.form.size c.args.block x.leg a.frames)) c.requires.seen
 
 pub log-requires-clause-framed : goal.log-requires-clause-framed
 log-requires-clause-framed c =

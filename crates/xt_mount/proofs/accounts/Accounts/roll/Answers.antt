@@ -6,6 +6,7 @@ use Rattle.xt_base.specs.Space.{cost}
 use Rattle.xt_base.specs.State.{Transaction}
 use Rattle.xt_items.specs.Lists.{Lists, with_landed}
 use Rattle.xt_journal.specs.Journals.{JournalState}
+use Rattle.xt_journal.specs.Keeping.{HaveChunks}
 use Rattle.xt_journal.specs.Over.{trans_over, transactions_over}
 use Rattle.xt_journal.proofs.OverLemmas.{with_marks_over}
 use Rattle.xt_mount.proofs.AccountsLemmas.{alone_each, contents_in, covered_there, grant_over, granted_changed, kept_parts, listed_in, next_there, open_in, pages, paid_in, rises_in, shown_fact, shown_if, space_is}
@@ -34,6 +35,12 @@ pub roll-requires-clause-cil : goal.roll-requires-clause-cil
 roll-requires-clause-cil c =
     let now = c.self.inside in
     listed_in c.args.self.now now.space.size now.transactions now.space.landed now.journal c.self.view_is c.args.trans c.value_mut-opened.result.now c.value_mut-opened.ensures.value c.requires.list
+
+pub roll-requires-clause-chunks : goal.roll-requires-clause-chunks
+roll-requires-clause-chunks c =
+    let now = c.self.inside in
+    shown_fact c.args.self.now now.space.size now.transactions now.space.landed now.journal c.self.view_is c.args.trans c.value_mut-opened.result.now c.value_mut-opened.ensures.value
+    (λ (a : AccountsState) (x : Transaction). HaveChunks a.items.cil x.leg.changes) c.requires.chunks
 
 pub roll-requires-clause-granted : goal.roll-requires-clause-granted
 roll-requires-clause-granted c =

@@ -1,4 +1,5 @@
-use Rattle.std.proofs.Common.{◌∙◌, ap, subst, sym}
+use Rattle.std.proofs.Common.{◌∙◌, ap, arith, length, subst, sym, ℕ}
+use Rattle.std.proofs.lemmas.List.{length-replicate}
 use Rattle.xt_base.specs.Calls.{overwritten}
 use Rattle.xt_base.specs.Chunks.{marks}
 use Rattle.xt_base.specs.Form.{Form}
@@ -7,6 +8,13 @@ use Rattle.xt_journal.specs.Journals.{JournalState}
 use Rattle.xt_mount.proofs.StepLemmas.{zeros_step}
 use Rattle.xt_mount.proofs.open_trans.OpenTrans.log_own.Goals as goal
 use Rattle.xt_mount.specs.Shown.{IsStep, shown_logged}
+
+pub write_data-requires : goal.write_data-requires
+write_data-requires c =
+    let size : ℕ = c.args.journal.now.form.size in
+    let zero : ℕ = 0 in
+    let long = ap length c.in_ok-content.ensures ∙ ap (λ (f : Form). length (zeros f.size)) c.form.ensures ∙ length-replicate size zero in
+    omega (arith, long, c.requires.within)
 
 pub returns-clause-ok : goal.returns-clause-ok
 returns-clause-ok c =

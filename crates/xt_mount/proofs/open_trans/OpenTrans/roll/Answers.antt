@@ -8,6 +8,8 @@ use Rattle.xt_base.specs.declared.steps.Errno.TheVariants.{Again}
 use Rattle.xt_items.specs.Lists.{Lists}
 use Rattle.xt_journal.proofs.OverLemmas.{with_marks_over}
 use Rattle.xt_journal.specs.Journals.{JournalState}
+use Rattle.xt_journal.specs.Keeping.{HaveChunks}
+use Rattle.xt_journal.specs.Over.{changes_over}
 use Rattle.xt_mount.proofs.ShownLemmas.{framed_changes}
 use Rattle.xt_mount.proofs.open_trans.OpenTrans.roll.Goals as goal
 use Rattle.xt_mount.specs.Shown.{HasFrames}
@@ -23,6 +25,11 @@ pub keep_changes-requires-clause-framed : goal.keep_changes-requires-clause-fram
 keep_changes-requires-clause-framed c =
     let frames = c.args.journal.now.frames.frames in
     framed_changes frames c.self.inside.leg c.changes_rise.ensures (subst (λ (t : Transaction). HasFrames frames t.leg) (sym c.self.view_is) c.requires.framed)
+
+pub keep_changes-requires-clause-chunks : goal.keep_changes-requires-clause-chunks
+keep_changes-requires-clause-chunks c =
+    let j = c.args.journal.now in
+    subst (λ (t : Transaction). HaveChunks j.lists.cil (changes_over j.frames.frames t.leg.changes)) (sym c.self.view_is) c.requires.chunks
 
 pub next_leg-requires-2-clause-cost : goal.next_leg-requires-2-clause-cost
 next_leg-requires-2-clause-cost c =

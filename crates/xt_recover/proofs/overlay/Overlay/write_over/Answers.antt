@@ -1,6 +1,13 @@
+use Rattle.xt_recover.proofs.WholeLemmas.{whole_first}
 use Rattle.xt_recover.proofs.WriteLemmas.{on_err, so_end, so_next, stopped_behind, stopped_sync}
 use Rattle.xt_recover.specs.Overlaid.{overlaid}
+use Rattle.xt_recover.specs.Sizes.{block_size}
 use Rattle.xt_recover.proofs.overlay.Overlay.write_over.Goals as goal
+
+pub write_block-requires-clause-own : goal.write_block-requires-clause-own
+write_block-requires-clause-own g c =
+    whole_first (block_size c.args.self.now.size) (c.in-Some.block.now, c.in-Some.content.now) c.args.self.now.contents.entries c.loop-block.invariant.done c.loop-block.block-iterator c.next.new.self c.args.self.now.whole
+    c.loop-block.invariant.parts c.in-Some.ensures.steps
 
 pub loop-block-preserved : goal.loop-block-preserved
 loop-block-preserved g c =

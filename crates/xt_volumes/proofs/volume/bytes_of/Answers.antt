@@ -1,7 +1,7 @@
 use Rattle.std.proofs.Common.{arith, ap, ◌∙◌}
 use Rattle.std.proofs.lemmas.Fmt.{parse-decimal}
 use Rattle.std.specs.Result.{result_ok}
-use Rattle.xt_volumes.proofs.volume.log_bytes_of.Goals as goal
+use Rattle.xt_volumes.proofs.volume.bytes_of.Goals as goal
 
 -- the decimal of a number is read as that number
 pub returns : goal.returns
