@@ -15,6 +15,8 @@ import time
 ERRNO = re.compile(r'E[A-Z]+')
 # seconds between two times that the same is asked: twice as long each time, up to the most
 LEAST_PAUSE, MOST_PAUSE = 0.001, 0.1
+# the log bytes that a leg is charged which changes one block of 4,096 bytes, the whole of it
+WHOLE = 36 + 16 + 4096
 
 
 def spell(data):
@@ -104,7 +106,7 @@ class Client:
 
     def change(self, mount, block, first, data):
         """One transaction that writes bytes into a block, from `first` on: the checkpoint that has it, as 'c1'."""
-        trans = self.begin(mount, 4144)
+        trans = self.begin(mount, WHOLE)
         self.again(f'{mount} read {trans} {block}')
         self.request(f'{mount} log {trans} {block} {first} {spell(data)}')
         return self.again(f'{mount} commit {trans}')

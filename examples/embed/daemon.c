@@ -194,7 +194,7 @@ static void recover(void)
     void *text = length == 0 ? NULL : mmap(NULL, length, PROT_READ, MAP_PRIVATE, journal, 0);
     if (text == MAP_FAILED) stop("the log", 0);
     int status = refskold_recovery_open(&recovery, text, length, &told);
-    if (status != 0) stop("the log", status > 0 ? -EILSEQ : status);
+    if (status != 0 || told.size != 0) stop("the log", status < 0 ? status : -EILSEQ); // a log of other blocks is another program's
     for (uint64_t k = 0; k < told.blocks; k++) {
         refskold_recovery_block(&recovery, k, &block);
         if (pread(home, content, sizeof content, (off_t)(block * sizeof content)) != sizeof content) stop("the home device", 0);

@@ -10,7 +10,7 @@ import os
 import sys
 
 BLOCK_BYTES = 4096
-VERSION = 1
+VERSION = 2
 WORDS = {name: word for word, name in enumerate(
     'alloc get read view log hold unhold relse join release inval commit roll cancel force force_to push shutdown freeze thaw unmount'.split())}
 WAIT, KEPT, BEGUN, FAILED = 7, 9, 13, 15

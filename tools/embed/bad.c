@@ -106,6 +106,9 @@ unsigned bad_calls(refskold *mount)
     failed += judge("a log too great", refskold_open(mount, 0, REFSKOLD_MOST_LOG + 1, 1), -EINVAL, &rooms);
     failed += judge("no blocks", refskold_open(mount, 0, REFSKOLD_LEAST_LOG, 0), -EINVAL, &rooms);
     failed += judge("too many blocks", refskold_open(mount, 0, REFSKOLD_LEAST_LOG, REFSKOLD_MOST_BLOCKS + 1), -EINVAL, &rooms);
+    static const uint32_t sizes[] = { 0, 1, 511, 513, 1536, REFSKOLD_BLOCK - 1, 2 * REFSKOLD_BLOCK, UINT32_MAX };
+    for (size_t k = 0; k < sizeof sizes / sizeof *sizes; k++)
+        failed += judge("a size that no block has", refskold_open_sized(mount, 0, REFSKOLD_LEAST_LOG, 1, sizes[k]), -EINVAL, &rooms);
     failed += judge("the last life", refskold_open(mount, UINT32_MAX, REFSKOLD_LEAST_LOG, 1), -ENOSPC, &rooms);
     failed += judge("a plan of no mount", refskold_flush_plan(mount, &rooms.plan), -ENODEV, &rooms);
     failed += judge("homes of no mount", refskold_homes(mount, &rooms.plan, rooms.room, sizeof rooms.room), -ENODEV, &rooms);
@@ -146,7 +149,7 @@ static unsigned null_requests(struct rooms *rooms)
         refskold_commit(NULL, 1, &rooms->reply), refskold_roll(NULL, 1, &rooms->reply), refskold_cancel(NULL, 1, NULL),
         refskold_force(NULL, &rooms->number), refskold_force_to(NULL, 1, &rooms->number), refskold_push(NULL),
         refskold_shutdown(NULL), refskold_freeze(NULL), refskold_thaw(NULL), refskold_unmount(NULL), refskold_shut(NULL),
-        refskold_open(NULL, 0, REFSKOLD_LEAST_LOG, 1), refskold_take(NULL, REFSKOLD_CHECKPOINT, &rooms->number),
+        refskold_open(NULL, 0, REFSKOLD_LEAST_LOG, 1), refskold_open_sized(NULL, 0, REFSKOLD_LEAST_LOG, 1, 512), refskold_take(NULL, REFSKOLD_CHECKPOINT, &rooms->number),
         refskold_begin(NULL, 1, &rooms->reply), refskold_piece(NULL, 0, rooms->room, REFSKOLD_BLOCK), refskold_end(NULL, 1, 0, 0, &rooms->reply),
         refskold_flush_plan(NULL, &rooms->plan), refskold_home(NULL, 0, rooms->room),
         refskold_homes(NULL, &rooms->plan, rooms->room, REFSKOLD_BLOCK), refskold_flush(NULL, 1, 0, 0, 0, NULL), refskold_close(NULL),

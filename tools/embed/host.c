@@ -155,7 +155,7 @@ unsigned slot_of_line(const char *line)
 
 /* ---- Requests ---- */
 
-static int read_block(refskold *mount, const struct words *words, bool *disorder)
+static int read_block(refskold *mount, size_t size, const struct words *words, bool *disorder)
 {
     uint8_t content[REFSKOLD_BLOCK];
     uint64_t trans = numbered(word(words, 2)), block = number(word(words, 3));
@@ -164,8 +164,12 @@ static int read_block(refskold *mount, const struct words *words, bool *disorder
     *disorder = is_answered != (status == REFSKOLD_ASKS);
     if (status != REFSKOLD_ASKS || *disorder) return status;
     if (strcmp(word(words, 5), "fail") == 0) return refskold_read_failed(mount, trans, block);
-    data_of(word(words, 5), content, sizeof content);
-    return refskold_read_content(mount, trans, block, content);
+    size_t length = data_of(word(words, 5), content, sizeof content);
+    status = refskold_read_content_sized(mount, trans, block, content, length);
+    // a content of another length is no answer
+    *disorder = length != size && status != -ENOMEM;
+    if (*disorder && status != -EINVAL) fail("a content of another length was taken");
+    return status;
 }
 
 /* The requests that tell `ok` where they are not refused; -1 where it is another. */
@@ -229,8 +233,10 @@ static int alloc(struct host *host, refskold *mount, const struct words *words)
 }
 
 /* The requests that tell something; 1 where it is another. */
-static int telling_request(struct host *host, refskold *mount, const struct words *words)
+static int telling_request(struct host *host, unsigned slot, const struct words *words)
 {
+    refskold *mount = &host->mounts[slot];
+    size_t size = host->sizes[slot];
     const char *name = word(words, 1);
     uint8_t content[REFSKOLD_BLOCK];
     int unlocked = 0, status;
@@ -238,10 +244,10 @@ static int telling_request(struct host *host, refskold *mount, const struct word
     if (strcmp(name, "commit") == 0 || strcmp(name, "roll") == 0 || strcmp(name, "cancel") == 0) return end_leg(host, mount, words);
     if (strncmp(name, "force", 5) == 0) return force(host, mount, words);
     if (strcmp(name, "view") == 0) {
-        status = refskold_view(mount, numbered(word(words, 2)), number(word(words, 3)), content);
+        status = refskold_view_sized(mount, numbered(word(words, 2)), number(word(words, 3)), content, size);
         if (told_error(host, status)) return status;
         tell(host, "data ");
-        tell_data(host, content, sizeof content);
+        tell_data(host, content, size);
         return status;
     }
     if (strcmp(name, "relse") != 0) return 1;
@@ -259,9 +265,9 @@ static enum ended call(struct host *host, unsigned slot, const struct words *wor
         tell(host, "ESTALE");
         return TOLD;
     }
-    int status = telling_request(host, mount, words);
+    int status = telling_request(host, slot, words);
     if (status == 1) {
-        status = strcmp(word(words, 1), "read") == 0 ? read_block(mount, words, &disorder) : plain_request(mount, words);
+        status = strcmp(word(words, 1), "read") == 0 ? read_block(mount, host->sizes[slot], words, &disorder) : plain_request(mount, words);
         if (status == 1 && !disorder) fail("no request");
         if (disorder) return DISORDER;
         if (!told_error(host, status)) tell(host, "ok");
@@ -347,16 +353,17 @@ static enum ended end(struct host *host, unsigned worker, struct job job, const 
 
 static enum ended flush(struct host *host, unsigned worker, struct job job, const struct words *words)
 {
-    uint8_t contents[REFSKOLD_PLAN][REFSKOLD_BLOCK], content[REFSKOLD_BLOCK];
+    uint8_t contents[REFSKOLD_PLAN * REFSKOLD_BLOCK], content[REFSKOLD_BLOCK];
     refskold *mount = &host->mounts[job.slot];
+    size_t size = host->sizes[job.slot];
     refskold_plan plan;
     refskold_reply reply;
     uint32_t written = 0;
     int count = refskold_homes(mount, &plan, contents, sizeof contents);
     if (!has_in_hand(host, worker, &job) || count < 0 || words->count - 3 != (count > 0 ? (unsigned)count + 1 : 0)) return DISORDER;
     for (unsigned k = 0; k < (unsigned)count; k++) {
-        if (refskold_home(mount, k, content) != 0) fail("no content of a block of the plan");
-        if (memcmp(content, contents[k], sizeof content) != 0) fail("another content of a block of the plan");
+        if (refskold_home_sized(mount, k, content, size) != 0) fail("no content of a block of the plan");
+        if (memcmp(content, contents + k * size, size) != 0) fail("another content of a block of the plan");
         if (strcmp(word(words, 3 + k), "ok") == 0) written |= 1u << k;
     }
     bool is_synced = strcmp(word(words, words->count - 1), "ok") == 0;
@@ -367,7 +374,7 @@ static enum ended flush(struct host *host, unsigned worker, struct job job, cons
     else tell(host, "nothing");
     for (unsigned k = 0; k < (unsigned)count; k++) {
         tell(host, "\n%u home %llu ", job.slot, (unsigned long long)plan.blocks[k]);
-        tell_data(host, contents[k], REFSKOLD_BLOCK);
+        tell_data(host, contents + k * size, size);
         tell(host, written & 1u << k ? " ok" : " fail");
     }
     if (count > 0) tell(host, "\n%u homesync %s", job.slot, is_synced ? "ok" : "fail");
@@ -393,7 +400,11 @@ static enum ended job_step(struct host *host, const struct words *words)
 
 static enum ended mount_slot(struct host *host, unsigned slot, const struct words *words)
 {
-    int status = refskold_open(&host->mounts[slot], host->lives[slot], (uint32_t)number(word(words, 2)), number(word(words, 3)));
+    refskold *mount = &host->mounts[slot];
+    uint32_t last = host->lives[slot], log_bytes = (uint32_t)number(word(words, 2));
+    uint64_t blocks = number(word(words, 3)), size = words->count > 4 ? number(word(words, 4)) : REFSKOLD_BLOCK;
+    int status = words->count > 4 ? refskold_open_sized(mount, last, log_bytes, blocks, (uint32_t)size) : refskold_open(mount, last, log_bytes, blocks);
+    if (status == 0) host->sizes[slot] = (size_t)size;
     if (!told_error(host, status)) tell(host, "life %u", ++host->lives[slot]);
     return status == -ENOMEM ? NO_MEMORY : TOLD;
 }

@@ -27,6 +27,7 @@ struct shown {
 struct host {
     refskold mounts[SLOTS];
     uint32_t lives[SLOTS]; /* the last life of each */
+    size_t sizes[SLOTS];   /* of a block, by the last mount of each */
     struct shown board[SLOTS];
     struct job queue[QUEUE_PLACES];
     unsigned queued;

@@ -153,6 +153,7 @@ static void bad_callers(void) {
     wants("log too great", refskold_open(&m, 0, 16777217, 1), -EINVAL);
     wants("no blocks", refskold_open(&m, 0, 65536, 0), -EINVAL);
     wants("too many blocks", refskold_open(&m, 0, 65536, REFSKOLD_MOST_BLOCKS + 1), -EINVAL);
+    wants("no such size", refskold_open_sized(&m, 0, 65536, 1, 513), -EINVAL);
     wants("last life", refskold_open(&m, UINT32_MAX, 65536, 1), -ENOSPC);
     wants("open", refskold_open(&m, UINT32_MAX - 1, 65536, 64), 0);
     wants("open again", refskold_open(&m, 0, 65536, 64), -EBUSY);
@@ -203,8 +204,35 @@ static void bad_callers(void) {
     refskold_close(&m), wants("closed", (long)m.holds, 0);
 }
 
+/* a mount of blocks of 512 bytes: each content and each room has as many */
+static void small_blocks(void) {
+    enum { SMALL = 512 };
+    refskold m = REFSKOLD_NONE;
+    refskold_plan plan;
+    refskold_reply reply;
+    uint64_t trans = 0, serial = 0;
+    wants("open a small one", refskold_open_sized(&m, 0, 65536, 64, SMALL), 0);
+    wants("alloc there", refskold_alloc(&m, 180, 1, 0, &trans), 0), wants("read there", refskold_read(&m, trans, 7), REFSKOLD_ASKS);
+    wants("a content too long", refskold_read_content(&m, trans, 7, block), -EINVAL);
+    wants("its content", refskold_read_content_sized(&m, trans, 7, block, SMALL), 0);
+    wants("past its end", refskold_log(&m, trans, 7, SMALL - 1, "xy", 2), -EINVAL);
+    wants("its last byte", refskold_log(&m, trans, 7, SMALL - 1, "x", 1), 0);
+    wants("a room too long", refskold_view(&m, trans, 7, room), -EINVAL);
+    wants("its room", refskold_view_sized(&m, trans, 7, room, SMALL), 0), wants("what it shows", room[SMALL - 1], 'x');
+    wants("commit there", refskold_commit(&m, trans, &reply), 0), wants("force there", refskold_force(&m, &trans), 0);
+    wants("take there", refskold_take(&m, REFSKOLD_CHECKPOINT, &serial), REFSKOLD_TAKEN);
+    wants("begin there", refskold_begin(&m, serial, &reply), 0), wants("its piece", refskold_piece(&m, 0, room, sizeof room), 180);
+    wants("its words", memcmp(room, "XCP2", 4), 0), wants("end there", refskold_end(&m, serial, 1, 1, &reply), 0);
+    wants("push there", refskold_push(&m), 0), wants("take a flush there", refskold_take(&m, REFSKOLD_FLUSH, &serial), REFSKOLD_TAKEN);
+    wants("a room too long for a home", refskold_home(&m, 0, room), -EINVAL), wants("a home there", refskold_home_sized(&m, 0, room, SMALL), 0);
+    memset(room, 0x5a, sizeof room);
+    wants("homes there", refskold_homes(&m, &plan, room, SMALL), 1), wants("its content", room[SMALL - 1], 'x'), wants("behind it", room[SMALL], 0x5a);
+    wants("flush there", refskold_flush(&m, serial, 1, 1, 1, &reply), 0), wants("unmount there", refskold_unmount(&m), 0);
+}
+
 int main(void) {
     bad_callers();
+    small_blocks();
     memory();
     memory_of_a_log();
     return failures != 0;
