@@ -18,6 +18,7 @@ ghost use Rattle.xt_queue.specs.Boards.{Rises};
 ghost use Rattle.xt_queue.specs.Words.{word_of};
 
 use crate::host::Host;
+use crossbeam_utils::sync::Key;
 use std::sync::Wait;
 use xt_base::names::{JobName, Slot, Worker};
 use xt_base::steps::{Errno, Reply, Request};
@@ -67,6 +68,17 @@ impl<H: House, D> Host<H, D> {
         ensures taken { MatchOption result (pass.new.taken ≡ pass.old.taken) (λ name. pass.new.taken ≡ pass.old.taken ++ name ∷ []) }
     {
         self.queue.take(rt, pass)
+    }
+
+    /// Announces the rest of a worker, which then takes what names wait, and waits on the key: until a name is posted, or workers are
+    /// woken, after the announcement. To drop the key is to rest not.
+    pub fn prepare_rest(&self) -> Key<'_> {
+        self.queue.prepare_rest()
+    }
+
+    /// Ends the rest of all workers, as where they are to stop.
+    pub fn wake_workers(&self) {
+        self.queue.wake_all();
     }
 }
 

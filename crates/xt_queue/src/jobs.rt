@@ -10,6 +10,7 @@ ghost use Rattle.xt_queue.specs.Queues.{Posts, Sees, Takes};
 use crate::rule::{NextPass, OnceInOrder, Post, Take};
 use crate::views::JobView;
 use crossbeam_queue::{Pass, RuledArrayQueue};
+use crossbeam_utils::sync::{EventCount, Key};
 use std::alloc::{AllocError, Global};
 use std::marker::Model;
 use std::sync::Wait;
@@ -21,6 +22,8 @@ use xt_base::steps::Errno;
 #[derive(Drop)]
 pub struct JobQueue {
     ring: RuledArrayQueue<JobName, JobView, OnceInOrder>,
+    /// What workers sleep on: each post wakes one of them.
+    posted: EventCount,
 }
 
 impl Model for JobQueue {
@@ -139,7 +142,8 @@ impl JobQueue {
         ensures none { IfOk result (λ made. made.1.made ≡ 0) }
     {
         let (ring, pass) = RuledArrayQueue::ruled(alloc, QUEUE_PLACES)?;
-        Ok((JobQueue { ring }, Maker { pass }))
+        let posted = EventCount::new();
+        Ok((JobQueue { ring, posted }, Maker { pass }))
     }
 
     /// The passes of all slots, in order.
@@ -200,7 +204,7 @@ impl JobQueue {
         }
     }
 
-    /// Adds a name at the back. Where 32 names wait it comes back, and nothing has changed.
+    /// Adds a name at the back, and wakes a worker that rests. Where 32 names wait it comes back, and nothing has changed.
     #[tactic(auto, using(crate::proofs::NameLemmas::last_longer))]
     pub fn post<R: Wait>(&self, rt: &R, pass: &mut PostPass, name: JobName) -> Result<(), JobName>
         requires queue { pass.old.queue ≡ self.now }
@@ -213,7 +217,11 @@ impl JobQueue {
         ensures last { OnOk result (last_of unposted pass.new.posted ≡ (name.life, name.serial)) }
         ensures rule { MatchResult result (λ _. Posts (of_post pass.old) name (of_post pass.new)) (λ _. Held QUEUE_PLACES (Sees (of_post pass.old))) }
     {
-        self.ring.push_as::<Post, R>(rt, &mut pass.pass, name)
+        let posted = self.ring.push_as::<Post, R>(rt, &mut pass.pass, name);
+        if posted.is_ok() {
+            self.posted.notify_one();
+        }
+        posted
     }
 
     /// Takes the name at the front; None only where no name waits.
@@ -226,5 +234,16 @@ impl JobQueue {
         ensures rule { MatchOption result (Held 0 (Sees (of_work pass.old))) (λ name. Takes (of_work pass.old) name (of_work pass.new)) }
     {
         self.ring.pop_as::<Take, R>(rt, &mut pass.pass)
+    }
+
+    /// Announces a rest. A worker that then finds no name waits on the key, until a name is posted or all are woken after the
+    /// announcement; so no post is missed. To drop the key is to rest not.
+    pub fn prepare_rest(&self) -> Key<'_> {
+        self.posted.prepare_wait()
+    }
+
+    /// Ends the rest of all workers, and of those that have announced one.
+    pub fn wake_all(&self) {
+        self.posted.notify_all();
     }
 }

@@ -8,16 +8,11 @@ ghost use Rattle.xt_service.specs.Seats.{HasWorked, IsUsed};
 use crate::door::Door;
 use crate::workplace::Workplace;
 use std::sync::Wait;
-use std::thread;
-use std::time::{Clock, Duration};
 use xt_cell::house::House;
 use xt_cell::mount_ref::MountRef;
 use xt_cell::seat::HostSeat;
 use xt_host::host::Host;
 use xt_queue::jobs::WorkPass;
-
-/// How long a worker rests where no name waits, in milliseconds.
-const REST_MILLIS: u64 = 1;
 
 /// A seat and a pass of a host, for one thread.
 #[derive(Drop)]
@@ -48,8 +43,9 @@ impl<H: House> Bench<H> {
         unreachable!()
     }
 
-    /// Works for a host until a door is shut and no name waits, with a rest each time that none does.
-    pub fn work_until<D: Workplace<H, R>, R: Wait + Clock>(
+    /// Works for a host until a door is shut and no name waits. Where none does it rests until one is posted: whoever shuts the door
+    /// wakes the workers of the host.
+    pub fn work_until<D: Workplace<H, R>, R: Wait>(
         &mut self,
         rt: &R,
         host: &Host<H, D>,
@@ -64,12 +60,15 @@ impl<H: House> Bench<H> {
         ensures worked { HasWorked self.old.pass.worker self.new.pass.taken self.old.seat self.new.seat }
     {
         for _ in rt.forever() {
+            self.work(rt, host);
+            // it looks for a name once more behind the announcement, so that none is posted unseen before it sleeps
+            let rest = host.prepare_rest();
             let is_last = door.is_shut();
             self.work(rt, host);
             if is_last {
                 return;
             }
-            thread::sleep(rt, Duration::from_millis(REST_MILLIS));
+            rest.wait(rt);
         }
         unreachable!()
     }

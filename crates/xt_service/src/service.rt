@@ -129,7 +129,7 @@ fn full_table<H: House, D, R: Wait>(
 }
 
 /// Works at a bench until a door is shut.
-fn work_at<H: House, D: Workplace<H, R> + Drop, R: Wait + Clock + Copy>(
+fn work_at<H: House, D: Workplace<H, R> + Drop, R: Wait + Copy>(
     rt: R,
     host: Arc<Host<H, D>, Global>,
     bench: Bench<H>,
@@ -150,7 +150,7 @@ fn work_at<H: House, D: Workplace<H, R> + Drop, R: Wait + Clock + Copy>(
 fn hire<
     H: House + Send + Sync + 'static,
     D: Workplace<H, R> + Drop + Send + Sync + 'static,
-    R: Threads + Wait + Clock + Copy + Send + 'static,
+    R: Threads + Wait + Copy + Send + 'static,
 >(
     rt: R,
     host: &Arc<Host<H, D>, Global>,
@@ -194,9 +194,9 @@ impl<H: House> Crew<H> {
         ensures benches { All (λ bench. (bench.seat.board.board ≡ host.now.board) × (bench.pass.queue ≡ arc_value host.now.queue)) result.items }
         ensures unsplit { All (λ bench. bench.seat.board.splits ≡ 0) result.items }
     {
-        let _ = host;
         let Crew { workers, door } = self;
         door.shut();
+        host.wake_workers();
         let mut benches = room;
         for worker in workers {
             benches.push_reserved(worker.join(rt));
@@ -210,7 +210,7 @@ impl<H: House + Send + Sync + 'static> Crew<H> {
     #[tactic(auto, using(crate::proofs::SplitLemmas::split_none, crate::proofs::SplitLemmas::split_same))]
     fn add_all<
         D: Workplace<H, R> + Drop + Send + Sync + 'static,
-        R: Threads + Wait + Clock + Copy + Send + 'static,
+        R: Threads + Wait + Copy + Send + 'static,
     >(
         &mut self,
         rt: R,
@@ -246,7 +246,7 @@ impl<H: House + Send + Sync + 'static> Service<H> {
     /// A service over a host: a worker in a thread of its own for each pass, and no session yet. ENOMEM where memory or a thread is
     /// refused, ENOSPC where the numbers of callers end; then the workers that there are have stopped.
     #[tactic(auto, using(crate::proofs::SplitLemmas::split_both))]
-    pub fn start<R: Threads + Wait + Clock + Copy + Send + 'static>(
+    pub fn start<R: Threads + Wait + Copy + Send + 'static>(
         rt: R,
         alloc: Global,
         host: &Arc<Host<H>, Global>,

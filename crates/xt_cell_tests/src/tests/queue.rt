@@ -199,6 +199,18 @@ fn an_empty_queue_gives_none(rt: HostRuntime) -> Result<(), Errno> {
     Ok(())
 }
 
+#[test]
+fn a_post_and_a_wake_end_a_rest(rt: HostRuntime) -> Result<(), Errno> {
+    let (queue, mut passes) = JobQueue::new(rt.alloc())?;
+    let rest = queue.prepare_rest();
+    assert!(rt; post_two(&rt, &queue, &mut passes.posts, 15).is_some());
+    rest.wait(&rt);
+    let rest = queue.prepare_rest();
+    queue.wake_all();
+    rest.wait(&rt);
+    Ok(())
+}
+
 /// How many names each slot posts in the exchange, and how many each worker takes.
 const SERIALS: usize = 50;
 
@@ -220,7 +232,7 @@ fn post_all<R: Wait>(rt: &R, queue: &JobQueue, mut pass: PostPass, index: u8)
     unreachable!()
 }
 
-/// Fills the room in a list with names, waiting where there is none to take.
+/// Fills the room in a list with names, and sleeps while there is none to take.
 fn take_all<R: Wait>(
     rt: &R,
     queue: &JobQueue,
@@ -235,9 +247,10 @@ fn take_all<R: Wait>(
         if names.len() >= SERIALS {
             return names;
         }
+        let rest = queue.prepare_rest();
         match queue.take(rt, &mut pass) {
             Some(name) => names.push_reserved(name),
-            None => thread::yield_now(),
+            None => rest.wait(rt),
         }
     }
     unreachable!()
