@@ -9,3 +9,4 @@ pub mod RunLemmas
 pub mod StepAgain
 pub mod StrictLemmas
 pub mod WordsAgain
+pub mod CutLemmas

@@ -12,10 +12,10 @@ use crate::bad_line::BadLine;
 use crate::buffer::Text;
 use crate::data_text::{read_content, spelled_data};
 use crate::home_answers::home_of;
-use crate::numbers::number_of;
+use crate::numbers::number_before;
 use crate::words::{
-    BLANK, block_of, ckpt_of, cut, is_word, life_of, name_of, perm_of, slot_of, sync_of, trans_of,
-    u32_of, worker_of,
+    BLANK, block_before, block_of, ckpt_of, cut, is_word, life_of, name_of, perm_of, slot_before,
+    slot_of, sync_of, trans_before, trans_of, u32_before, u32_of, worker_before,
 };
 use std::alloc::Global;
 use xt_base::names::{Block, Life, Slot, TransNo};
@@ -28,10 +28,12 @@ fn alloc_of(words: &[u8]) -> Result<Request, BadLine>
     ensures valid { IfOk result IsRequest }
     ensures spelling { IfErr result (λ e. e ≡ Spelling) }
 {
-    let (unit, words) = cut(words, BLANK);
-    let (count, perm) = cut(words, BLANK);
-    let unit = u32_of(unit)?;
-    let count = u32_of(count)?;
+    let Ok((unit, words)) = u32_before(words, BLANK) else {
+        return Err(BadLine::Spelling);
+    };
+    let Ok((count, perm)) = u32_before(words, BLANK) else {
+        return Err(BadLine::Spelling);
+    };
     let perm = perm_of(perm)?;
     Ok(Request::Alloc { unit, count, perm })
 }
@@ -43,8 +45,9 @@ fn own_of(words: &[u8]) -> Result<(TransNo, Block), BadLine>
     ensures range { IfOk result (λ p. (p.0 < 2 ^ 64) × (p.1 < 2 ^ 64)) }
     ensures spelling { IfErr result (λ e. e ≡ Spelling) }
 {
-    let (trans, block) = cut(words, BLANK);
-    let trans = trans_of(trans)?;
+    let Ok((trans, block)) = trans_before(words) else {
+        return Err(BadLine::Spelling);
+    };
     let block = block_of(block)?;
     Ok((trans, block))
 }
@@ -55,12 +58,15 @@ fn log_of(alloc: Global, words: &[u8], text: &mut Text) -> Result<Request, BadLi
     ensures value { Gives result (log_of words.now) }
     ensures valid { IfOk result IsRequest }
 {
-    let (trans, words) = cut(words, BLANK);
-    let (block, words) = cut(words, BLANK);
-    let (first, bytes) = cut(words, BLANK);
-    let trans = trans_of(trans)?;
-    let block = block_of(block)?;
-    let first = u32_of(first)?;
+    let Ok((trans, words)) = trans_before(words) else {
+        return Err(BadLine::Spelling);
+    };
+    let Ok((block, words)) = block_before(words) else {
+        return Err(BadLine::Spelling);
+    };
+    let Ok((first, bytes)) = u32_before(words, BLANK) else {
+        return Err(BadLine::Spelling);
+    };
     let bytes = spelled_data(alloc, bytes, text)?;
     Ok(Request::Log {
         first,
@@ -240,12 +246,15 @@ fn mount_of(words: &[u8]) -> Result<Step, BadLine>
     ensures valid { IfOk result IsStep }
     ensures spelling { IfErr result (λ e. e ≡ Spelling) }
 {
-    let (slot, words) = cut(words, BLANK);
-    let (log_bytes, words) = cut(words, BLANK);
-    let (blocks, size) = cut(words, BLANK);
-    let slot = slot_of(slot)?;
-    let log_bytes = u32_of(log_bytes)?;
-    let blocks = number_of(blocks)?;
+    let Ok((slot, words)) = slot_before(words, BLANK) else {
+        return Err(BadLine::Spelling);
+    };
+    let Ok((log_bytes, words)) = u32_before(words, BLANK) else {
+        return Err(BadLine::Spelling);
+    };
+    let Ok((blocks, size)) = number_before(words, BLANK) else {
+        return Err(BadLine::Spelling);
+    };
     let size = size_of(size)?;
     Ok(Step::Mount {
         slot,
@@ -261,10 +270,12 @@ fn read_of(alloc: Global, slot: Slot, life: Life, words: &[u8]) -> Result<Step, 
     ensures value { Gives result (read_of slot life words.now) }
     ensures valid { IfOk result IsStep }
 {
-    let (trans, words) = cut(words, BLANK);
-    let (block, answer) = cut(words, BLANK);
-    let trans = trans_of(trans)?;
-    let block = block_of(block)?;
+    let Ok((trans, words)) = trans_before(words) else {
+        return Err(BadLine::Spelling);
+    };
+    let Ok((block, answer)) = block_before(words) else {
+        return Err(BadLine::Spelling);
+    };
     let answer = answer_of(alloc, answer)?;
     Ok(Step::Call {
         slot,
@@ -300,17 +311,19 @@ fn asked_of(
     })
 }
 
-/// A call: SLOT.LIFE, and the request.
+/// A call: SLOT.LIFE, and the request. It stands apart, so that the other lines are read with none of what it lays out.
+#[inline(never)]
 #[tactic(auto, unfolding(crate::specs::LineReading::call_of))]
 fn call_of(alloc: Global, mount: &[u8], words: &[u8], text: &mut Text) -> Result<Step, BadLine>
     ensures value { Gives result (call_of mount.now words.now) }
     ensures valid { IfOk result IsStep }
     ensures memory { IsErrOf result Memory → IsTrue (takes_data (before BLANK words.now)) }
 {
-    let (slot, life) = cut(mount, b'.');
-    let (verb, words) = cut(words, BLANK);
-    let slot = slot_of(slot)?;
+    let Ok((slot, life)) = slot_before(mount, b'.') else {
+        return Err(BadLine::Spelling);
+    };
     let life = life_of(life)?;
+    let (verb, words) = cut(words, BLANK);
     asked_of(alloc, slot, life, verb, words, text)
 }
 
@@ -332,8 +345,9 @@ fn take_of(words: &[u8]) -> Result<Step, BadLine>
     ensures valid { IfOk result IsStep }
     ensures spelling { IfErr result (λ e. e ≡ Spelling) }
 {
-    let (worker, name) = cut(words, BLANK);
-    let worker = worker_of(worker)?;
+    let Ok((worker, name)) = worker_before(words) else {
+        return Err(BadLine::Spelling);
+    };
     let name = name_of(name)?;
     Ok(Step::Take { worker, name })
 }
@@ -345,8 +359,9 @@ fn begin_of(words: &[u8]) -> Result<Step, BadLine>
     ensures valid { IfOk result IsStep }
     ensures spelling { IfErr result (λ e. e ≡ Spelling) }
 {
-    let (worker, name) = cut(words, BLANK);
-    let worker = worker_of(worker)?;
+    let Ok((worker, name)) = worker_before(words) else {
+        return Err(BadLine::Spelling);
+    };
     let name = name_of(name)?;
     Ok(Step::Begin { worker, name })
 }
@@ -358,12 +373,14 @@ fn end_of(words: &[u8]) -> Result<Step, BadLine>
     ensures valid { IfOk result IsStep }
     ensures spelling { IfErr result (λ e. e ≡ Spelling) }
 {
-    let (worker, words) = cut(words, BLANK);
+    let Ok((worker, words)) = worker_before(words) else {
+        return Err(BadLine::Spelling);
+    };
     let (name, words) = cut(words, BLANK);
-    let (taken, sync) = cut(words, BLANK);
-    let worker = worker_of(worker)?;
     let name = name_of(name)?;
-    let taken = u32_of(taken)?;
+    let Ok((taken, sync)) = u32_before(words, BLANK) else {
+        return Err(BadLine::Spelling);
+    };
     let sync = sync_of(sync)?;
     Ok(Step::End {
         worker,
@@ -378,9 +395,10 @@ fn flush_of(alloc: Global, words: &[u8]) -> Result<Step, BadLine>
     ensures value { Gives result (flush_of words.now) }
     ensures valid { IfOk result IsStep }
 {
-    let (worker, words) = cut(words, BLANK);
+    let Ok((worker, words)) = worker_before(words) else {
+        return Err(BadLine::Spelling);
+    };
     let (name, answers) = cut(words, BLANK);
-    let worker = worker_of(worker)?;
     let name = name_of(name)?;
     let answers = home_of(alloc, answers)?;
     Ok(Step::Flush {

@@ -2,15 +2,15 @@
 //! Each gives a value in its one spelling alone.
 
 ghost use Rattle.std.specs.List.{position_or_len};
-ghost use Rattle.std.specs.Prelude.{◌≡◌, ◌==◌, ◌<◌, ◌^◌, IfErr, IfOk};
+ghost use Rattle.std.specs.Prelude.{◌≡◌, ◌==◌, ◌<◌, ◌^◌, ◌∷◌, [], IfErr, IfOk};
 ghost use Rattle.std.specs.Str.{bytes_eq};
 ghost use Rattle.xt_text.specs.LineReading.{before, behind, kind_of, lettered, name_of, perm_of, sync_of, u32_of};
 ghost use Rattle.xt_text.specs.Lines.{IsName};
-ghost use Rattle.xt_text.specs.Reading.{Gives, below, number_of};
+ghost use Rattle.xt_text.specs.Reading.{Gives, GivesAs, below, number_of};
 ghost use Rattle.xt_text.specs.declared.bad_line.BadLine.TheVariants.{Spelling};
 
 use crate::bad_line::BadLine;
-use crate::numbers::{below, number_of};
+use crate::numbers::{below, below_before, next_of, number_before, number_of};
 use xt_base::names::{Block, CkptNo, JobKind, JobName, Life, Slot, TransNo, Worker};
 use xt_base::sizes::{SLOTS, WORKERS};
 
@@ -55,6 +55,16 @@ pub(crate) fn u32_of(word: &[u8]) -> Result<u32, BadLine>
     Ok(number as u32)
 }
 
+/// A u32 before the first separator of a text, and what stands behind that.
+pub(crate) fn u32_before(text: &[u8], separator: u8) -> Result<(u32, &[u8]), BadLine>
+    ensures value { GivesAs (λ p. p.0) result (u32_of (before separator text.now)) }
+    ensures rest { IfOk result (λ p. p.1.now ≡ behind separator text.now) }
+    ensures spelling { IfErr result (λ e. e ≡ Spelling) }
+{
+    let (number, rest) = below_before(text, separator, 1 << 32)?;
+    Ok((number as u32, rest))
+}
+
 /// A slot.
 pub(crate) fn slot_of(word: &[u8]) -> Result<Slot, BadLine>
     ensures value { Gives result (below SLOTS word.now) }
@@ -65,14 +75,26 @@ pub(crate) fn slot_of(word: &[u8]) -> Result<Slot, BadLine>
     Ok(Slot::new(index as u8).unwrap())
 }
 
-/// A worker.
-pub(crate) fn worker_of(word: &[u8]) -> Result<Worker, BadLine>
-    ensures value { Gives result (below WORKERS word.now) }
-    ensures range { IfOk result (λ worker. worker < WORKERS) }
+/// A slot before the first separator of a text, and what stands behind that.
+pub(crate) fn slot_before(text: &[u8], separator: u8) -> Result<(Slot, &[u8]), BadLine>
+    ensures value { GivesAs (λ p. p.0) result (below SLOTS (before separator text.now)) }
+    ensures range { IfOk result (λ p. p.0 < SLOTS) }
+    ensures rest { IfOk result (λ p. p.1.now ≡ behind separator text.now) }
     ensures spelling { IfErr result (λ e. e ≡ Spelling) }
 {
-    let index = below(word, WORKERS as u64)?;
-    Ok(Worker::new(index as u8).unwrap())
+    let (index, rest) = below_before(text, separator, SLOTS as u64)?;
+    Ok((Slot::new(index as u8).unwrap(), rest))
+}
+
+/// A worker before a space, and what stands behind that.
+pub(crate) fn worker_before(text: &[u8]) -> Result<(Worker, &[u8]), BadLine>
+    ensures value { GivesAs (λ p. p.0) result (below WORKERS (before BLANK text.now)) }
+    ensures range { IfOk result (λ p. p.0 < WORKERS) }
+    ensures rest { IfOk result (λ p. p.1.now ≡ behind BLANK text.now) }
+    ensures spelling { IfErr result (λ e. e ≡ Spelling) }
+{
+    let (index, rest) = below_before(text, BLANK, WORKERS as u64)?;
+    Ok((Worker::new(index as u8).unwrap(), rest))
 }
 
 /// A life.
@@ -95,6 +117,17 @@ pub(crate) fn block_of(word: &[u8]) -> Result<Block, BadLine>
     Ok(Block(block))
 }
 
+/// A block before a space, and what stands behind that.
+pub(crate) fn block_before(text: &[u8]) -> Result<(Block, &[u8]), BadLine>
+    ensures value { GivesAs (λ p. p.0) result (number_of (before BLANK text.now)) }
+    ensures range { IfOk result (λ p. p.0 < 2 ^ 64) }
+    ensures rest { IfOk result (λ p. p.1.now ≡ behind BLANK text.now) }
+    ensures spelling { IfErr result (λ e. e ≡ Spelling) }
+{
+    let (block, rest) = number_before(text, BLANK)?;
+    Ok((Block(block), rest))
+}
+
 /// A number behind a letter.
 fn lettered(letter: u8, word: &[u8]) -> Result<u64, BadLine>
     ensures value { Gives result (lettered letter word.now) }
@@ -114,6 +147,22 @@ pub(crate) fn trans_of(word: &[u8]) -> Result<TransNo, BadLine>
 {
     let number = lettered(b't', word)?;
     Ok(TransNo(number))
+}
+
+/// The number of a transaction before a space, and what stands behind that.
+pub(crate) fn trans_before(text: &[u8]) -> Result<(TransNo, &[u8]), BadLine>
+    ensures value { GivesAs (λ p. p.0) result (lettered 116 (before BLANK text.now)) }
+    ensures range { IfOk result (λ p. p.0 < 2 ^ 64) }
+    ensures rest { IfOk result (λ p. p.1.now ≡ behind BLANK text.now) }
+    ensures spelling { IfErr result (λ e. e ≡ Spelling) }
+{
+    match next_of(text, BLANK) {
+        Some((b't', digits)) => {
+            let (number, rest) = number_before(digits, BLANK)?;
+            Ok((TransNo(number), rest))
+        }
+        _ => Err(BadLine::Spelling),
+    }
 }
 
 /// The number of a checkpoint.
@@ -148,16 +197,18 @@ pub(crate) fn name_of(word: &[u8]) -> Result<JobName, BadLine>
     ensures range { IfOk result IsName }
     ensures spelling { IfErr result (λ e. e ≡ Spelling) }
 {
-    let (slot, rest) = cut(word, b'.');
-    let (life, rest) = cut(rest, b'.');
+    let Ok((slot, rest)) = slot_before(word, b'.') else {
+        return Err(BadLine::Spelling);
+    };
+    let Ok((life, rest)) = u32_before(rest, b'.') else {
+        return Err(BadLine::Spelling);
+    };
     let (kind, serial) = cut(rest, b'.');
-    let slot = slot_of(slot)?;
-    let life = life_of(life)?;
     let kind = kind_of(kind)?;
     let serial = number_of(serial)?;
     Ok(JobName {
         slot,
-        life,
+        life: Life(life),
         kind,
         serial,
     })
