@@ -1,5 +1,5 @@
 -- How long texts are at most.
-use Rattle.std.proofs.Common.{Bool, List, None, Option, Some, [], arith, cond, eqb, false, inl, inr, flat_map, length, length-append, ltb, replicate, refl, suc, true, zero, ℕ, ◌&&◌, ◌%◌, ◌*◌, ◌++◌, ◌+◌, ◌/◌, ◌<◌, ◌^◌, ◌≡◌, ◌≤◌, ◌∷◌}
+use Rattle.std.proofs.Common.{Bool, List, None, Option, Some, [], append_assoc, arith, cond, eqb, false, inl, inr, flat_map, length, length-append, ltb, replicate, refl, suc, true, zero, ℕ, ◌&&◌, ◌%◌, ◌*◌, ◌++◌, ◌+◌, ◌/◌, ◌<◌, ◌^◌, ◌≡◌, ◌≤◌, ◌∷◌}
 use Rattle.std.specs.Fmt.{decimal}
 use Rattle.std.specs.Prelude.{IfSome}
 use Rattle.std.specs.List.{AllByRecursion}
@@ -28,6 +28,15 @@ decimal_fits n small = length-decimal-le 20 n (omega arith) (omega arith) small
 -- one of two digits
 pub two_digits : (n : ℕ) → 10 ≤ n → n < 100 → decimal n ≡ (48 + n / 10) ∷ (48 + n % 10) ∷ []
 two_digits n least small = rw (decimal_step n least (omega arith), decimal_digit (n / 10) (omega arith)) refl
+
+-- one of more is its hundreds and two digits
+pub hundreds : (n : ℕ) → 100 ≤ n → n < 2 ^ 64 → decimal n ≡ decimal (n / 100) ++ (48 + n % 100 / 10) ∷ (48 + n % 100 % 10) ∷ []
+hundreds n least small =
+    let tens : n / 10 / 10 ≡ n / 100 = omega arith in
+    let ten : n / 10 % 10 ≡ n % 100 / 10 = omega arith in
+    let one : n % 10 ≡ n % 100 % 10 = omega arith in
+    rw (decimal_step n (omega arith) small, decimal_step (n / 10) (omega arith) (omega arith), tens, ten, one)
+    (append_assoc (decimal (n / 100)) ((48 + n % 100 / 10) ∷ []) ((48 + n % 100 % 10) ∷ []))
 
 -- ---- data
 -- how many bytes some runs have

@@ -313,11 +313,8 @@ fn hex_digit(value: u8) -> u8
     requires { value < DIGITS }
     ensures { result ≡ hex_digit value }
 {
-    if value < 10 {
-        b'0' + value
-    } else {
-        b'a' - 10 + value
-    }
+    let base = if value < 10 { b'0' } else { b'a' - 10 };
+    base + value
 }
 
 /// Puts a byte as two digits.
@@ -328,7 +325,7 @@ pub(crate) fn put_hex(out: &mut Text, byte: u8)
     out.push_both(hex_digit(byte / DIGITS), hex_digit(byte % DIGITS));
 }
 
-/// Puts a run's text.
+/// Puts a run's text: a byte that stands alone, as most do, at once.
 #[inline(always)]
 #[tactic(auto, using(crate::proofs::BufferLemmas::put_put, crate::proofs::BufferLemmas::put_none, crate::proofs::RunLemmas::hex_more))]
 fn put_run(out: &mut Text, run: Run)
@@ -336,7 +333,18 @@ fn put_run(out: &mut Text, run: Run)
 {
     if run.count == 1 {
         put_hex(out, run.byte);
-    } else if is_short(run) {
+    } else {
+        put_longer(out, run);
+    }
+}
+
+/// The same of any run.
+#[inline(never)]
+#[tactic(auto, using(crate::proofs::BufferLemmas::put_put, crate::proofs::BufferLemmas::put_none, crate::proofs::RunLemmas::hex_more))]
+fn put_longer(out: &mut Text, run: Run)
+    ensures { out.new ≡ put out.old (run_text run) }
+{
+    if is_short(run) {
         for _ in 0..run.count {
             put_hex(out, run.byte);
         }
@@ -377,7 +385,8 @@ fn count_equal(bytes: &[u8], byte: u8) -> usize
     }
 }
 
-/// The same by whole blocks first.
+/// The same by whole blocks first. It stands apart, since few runs are so long.
+#[inline(never)]
 #[tactic(auto, using(crate::proofs::RunLemmas::block_more))]
 fn count_blocks(bytes: &[u8], byte: u8) -> usize
     ensures value { result ≡ prefix_len (λ x. x == byte) bytes.now }

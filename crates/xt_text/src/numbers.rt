@@ -1,7 +1,7 @@
 //! Numbers as text: decimal without leading zeros, both ways.
 
 ghost use Rattle.std.specs.Fmt.{decimal};
-ghost use Rattle.std.specs.Prelude.{◌≡◌, ◌<◌, ◌≤◌, ◌∷◌, [], None, drop, length, IfErr, IfOk, IfSome};
+ghost use Rattle.std.specs.Prelude.{◌≡◌, ◌<◌, ◌≤◌, ◌∷◌, ◌+◌, ◌/◌, ◌%◌, [], None, drop, length, IfErr, IfOk, IfSome};
 ghost use Rattle.xt_text.specs.Buffer.{put};
 ghost use Rattle.xt_text.specs.LineReading.{before, behind};
 ghost use Rattle.xt_text.specs.Reading.{Gives, GivesAs, below, is_plain, number_of, number_on};
@@ -143,26 +143,55 @@ pub(crate) fn below(word: &[u8], limit: u64) -> Result<u64, BadLine>
     }
 }
 
+/// Puts the two last digits of a number.
+#[inline(always)]
+fn put_pair(out: &mut Text, pair: u64)
+    requires { pair < 100 }
+    ensures { out.new ≡ put out.old ((48 + pair / 10) ∷ (48 + pair % 10) ∷ []) }
+{
+    out.push_both(b'0' + (pair / 10) as u8, b'0' + (pair % 10) as u8);
+}
+
+/// Puts a number of one digit or two.
+#[inline(always)]
+#[tactic(auto, using(crate::proofs::Lengths::two_digits, std::proofs::lemmas::Fmt::decimal_digit))]
+fn put_few(out: &mut Text, number: u64)
+    requires { number < 100 }
+    ensures { out.new ≡ put out.old (decimal number) }
+{
+    if number < 10 {
+        out.push(b'0' + number as u8);
+    } else {
+        put_pair(out, number);
+    }
+}
+
 /// Puts a number in decimal: a digit or two, as most numbers of a line have, at once.
 #[inline(always)]
-#[tactic(auto, using(crate::proofs::Lengths::decimal_fits, crate::proofs::Lengths::two_digits, std::proofs::lemmas::Fmt::decimal_digit))]
+#[tactic(auto, using(crate::proofs::Lengths::decimal_fits))]
 pub(crate) fn put_number(out: &mut Text, number: u64)
     ensures text { out.new ≡ put out.old (decimal number) }
     ensures short { length (decimal number) ≤ 20 }
 {
-    if number < 10 {
-        out.push(b'0' + number as u8);
-    } else if number < 100 {
-        out.push_both(b'0' + (number / 10) as u8, b'0' + (number % 10) as u8);
+    if number < 100 {
+        put_few(out, number);
     } else {
         put_digits(out, number);
     }
 }
 
-/// Puts a number in decimal.
+/// Puts a number of more digits in decimal: up to four of them by twos.
+#[inline(never)]
+#[tactic(auto, using(crate::proofs::BufferLemmas::put_put, crate::proofs::Lengths::hundreds))]
 fn put_digits(out: &mut Text, number: u64)
+    requires { 100 ≤ number }
     ensures { out.new ≡ put out.old (decimal number) }
 {
+    if number < 10_000 {
+        put_few(out, number / 100);
+        put_pair(out, number % 100);
+        return;
+    }
     let mut buffer = Buffer::new();
     out.put(buffer.format(number).as_bytes());
 }
