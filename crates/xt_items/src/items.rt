@@ -1,6 +1,6 @@
 //! The item lists: the commit list, the checkpoint in flight, and the active list.
 
-ghost use Rattle.std.specs.Prelude.{ℕ, ◌≡◌, ◌+◌, ◌<◌, ◌≤◌, ◌==◌, ◌*◌, [], Bool, length, filter, Some, None, true, is_some, not, sum_by, unwrap_or, if◌then◌else◌, IfOk, IfSome};
+ghost use Rattle.std.specs.Prelude.{ℕ, ◌≡◌, ◌+◌, ◌<◌, ◌≤◌, ◌==◌, ◌*◌, [], Bool, length, false, filter, Some, None, true, is_some, not, sum_by, unwrap_or, if◌then◌else◌, IfOk, IfSome};
 ghost use Rattle.xt_base.specs.Chunks.{union};
 ghost use Rattle.xt_base.specs.Maps.{at, has, is_in, put, without};
 ghost use Rattle.xt_base.specs.Space.{cost, flight_items, is_listed, item_cost, least_number, lesser};
@@ -162,7 +162,16 @@ impl Items {
     pub fn is_listed_near(&self, near: &mut usize, block: u64) -> bool
         ensures { result ≡ is_listed (with_landed [] self.now) block }
     {
-        self.ail.contains_near(near, block) || self.is_committed(block) || self.is_in_flight(block)
+        self.is_active_near(near, block) || self.is_committed(block) || self.is_in_flight(block)
+    }
+
+    /// Whether a block is on the active list, asked as `is_listed_near` is. Where the place to look shows that it is not, nothing is
+    /// searched.
+    #[inline(always)]
+    fn is_active_near(&self, near: &mut usize, block: u64) -> bool
+        ensures { result ≡ is_in block self.now.ail }
+    {
+        !is_passed(self.ail.entries(), *near, block) && self.ail.contains_near(near, block)
     }
 
     /// Whether a checkpoint is in flight.
@@ -226,10 +235,10 @@ impl Items {
         requires within { IsWithin (length content.now) (union (unwrap_or (at block self.old.cil) []) marks) }
         ensures { self.new ≡ marked block (union (unwrap_or (at block self.old.cil) []) marks) content.now self.old }
     {
-        let before = self.marks(block).unwrap_or(Chunks::none());
-        let chunks = before.union(marks);
+        let before = self.marks(block);
+        let chunks = joined(&before, marks);
         let vector = room.filled(content, chunks);
-        self.put_vector(block, vector);
+        self.put_vector(block, &before, vector);
     }
 
     /// The block's item cancels it: it has no chunks. It takes no memory.
@@ -237,32 +246,40 @@ impl Items {
         requires { length self.old.cil < ROOM }
         ensures { self.new ≡ record self.old { cil = put block [] self.old.cil; vectors = put block no_vector self.old.vectors } }
     {
-        self.put_vector(block, LogVector::none());
+        let before = self.marks(block);
+        self.put_vector(block, &before, LogVector::none());
     }
 
-    /// The block's item has this log vector, and its chunks.
-    fn put_vector(&mut self, block: u64, vector: LogVector)
-        requires { length self.old.cil < ROOM }
+    /// The block's item has this log vector, and its chunks; `before` are those that it had.
+    fn put_vector(&mut self, block: u64, before: &Option<Chunks>, vector: LogVector)
+        requires few { length self.old.cil < ROOM }
+        requires before { before.now ≡ at block self.old.cil }
         ensures { self.new ≡ record self.old { cil = put block vector.chunks self.old.cil; vectors = put block vector self.old.vectors } }
     {
         let chunks = vector.chunks();
-        let weight = self.weight_with(block, chunks);
+        let weight = self.weight_with(block, before, chunks);
         self.cil.put(block, chunks);
         self.weight = weight;
-        let before = self.vectors.exchange(block, vector);
-        self.spare_rooms.give(room_of(before));
+        keep_vector(
+            &mut self.vectors,
+            &mut self.spare_rooms,
+            block,
+            before.is_none(),
+            vector,
+        );
     }
 
-    /// What the items of the commit list cost once the block's item has these chunks.
-    fn weight_with(&self, block: u64, chunks: Chunks) -> u64
-        requires { length self.now.cil < ROOM }
+    /// What the items of the commit list cost once the block's item has these chunks in place of those before.
+    fn weight_with(&self, block: u64, before: &Option<Chunks>, chunks: Chunks) -> u64
+        requires room { length self.now.cil < ROOM }
+        requires before { before.now ≡ at block self.now.cil }
         ensures value { result ≡ sum_by item_cost (put block chunks self.now.cil) }
         ensures few { length chunks ≤ CHUNKS }
     {
         // For the proof, that the blocks rise: at run time nothing.
         let _items = self.cil.entries();
         let weight = self.weight + item_cost(chunks);
-        match self.marks(block) {
+        match *before {
             Some(before) => weight - item_cost(before),
             None => weight,
         }
@@ -400,12 +417,43 @@ impl Items {
     }
 }
 
+/// The chunks that an item had, if there was one, and these.
+fn joined(before: &Option<Chunks>, marks: Chunks) -> Chunks
+    ensures { result ≡ union (unwrap_or before.now []) marks }
+{
+    match *before {
+        Some(before) => before.union(marks),
+        None => Chunks::none().union(marks),
+    }
+}
+
 /// The room of a log vector, if there is one.
 fn room_of(vector: Option<LogVector>) -> Option<VectorRoom> {
     match vector {
         Some(vector) => vector.into_room(),
         None => None,
     }
+}
+
+/// A block has this log vector, which is its first where it `is_new`; the room of the one before it is kept for a later one. It takes no
+/// memory.
+fn keep_vector(
+    vectors: &mut NumberMap<LogVector>,
+    spare_rooms: &mut SpareRooms,
+    block: u64,
+    is_new: bool,
+    vector: LogVector,
+)
+    requires new { is_new ≡ true → is_in block vectors.old ≡ false }
+    requires few { length vectors.old < ROOM }
+    ensures { vectors.new ≡ put block vector vectors.old }
+{
+    if is_new {
+        vectors.put_new(block, vector);
+        return;
+    }
+    let before = vectors.exchange(block, vector);
+    spare_rooms.give(room_of(before));
 }
 
 /// All log vectors go, the last one first, and their rooms are kept for later ones. It takes no memory.
@@ -426,6 +474,20 @@ fn item_cost(chunks: Chunks) -> u64
     ensures few { length chunks ≤ CHUNKS }
 {
     ITEM_COST + CHUNK_COST * u64::from(chunks.count())
+}
+
+/// Whether the entry at a place has a higher block, and the one before it, if there is one, a lower one: then the block has no entry.
+fn is_passed(entries: &[(u64, u64)], at: usize, block: u64) -> bool
+    requires { IsRising entries.now }
+    ensures { result ≡ true → is_in block entries.now ≡ false }
+{
+    if at >= entries.len() || block >= entries[at].0 {
+        return false;
+    }
+    if at == 0 {
+        return true;
+    }
+    entries[at - 1].0 < block
 }
 
 /// The least number among entries.
