@@ -192,30 +192,31 @@ module _ (frames cleared next : Slab Frame) (es : Index) (b key : ℕ) (content 
       ∙ put_without 0 b content (busy_of frames es) (rises_view (frame_in frames) 0 es tied.rising)
 
 -- ---- by places
-some_frame : (x e : Frame) → Some x ≡ Some e → x ≡ e
-some_frame x e is = cc
+module _ {V : Type 0} where
+  some_entry : (x e : ℕ × V) → Some x ≡ Some e → x ≡ e
+  some_entry x e is = cc
 
--- the key at a place is above those before it
-above : (n i : ℕ) (xs : List Frame) (e : Frame) → RisesFrom n xs → slice_get xs i ≡ Some e → n ≤ e.0
-above n i [] e r is = absurd (cc)
-above n zero (x ∷ xs) e r is = subst (λ (y : Frame). n ≤ y.0) (some_frame x e is) r.0
-above n (suc i) (x ∷ xs) e r is = omega (arith, r.0, above (suc x.0) i xs e r.1 is)
+  -- the key at a place is above those before it
+  above : (n i : ℕ) (xs : List (ℕ × V)) (e : ℕ × V) → RisesFrom n xs → slice_get xs i ≡ Some e → n ≤ e.0
+  above n i [] e r is = absurd (cc)
+  above n zero (x ∷ xs) e r is = subst (λ (y : ℕ × V). n ≤ y.0) (some_entry x e is) r.0
+  above n (suc i) (x ∷ xs) e r is = omega (arith, r.0, above (suc x.0) i xs e r.1 is)
 
--- a rising map has at a key what stands at its place
-pub at_placed : (n i : ℕ) (xs : List Frame) (e : Frame) → RisesFrom n xs → slice_get xs i ≡ Some e → at e.0 xs ≡ Some e.1
-at_placed n i [] e r is = absurd (cc)
-at_placed n zero (x ∷ xs) e r is = let same = some_frame x e is in at_first e.0 x xs (sym (ap (λ (y : Frame). y.0) same)) ∙ ap (λ (y : Frame). Some y.1) same
-at_placed n (suc i) (x ∷ xs) e r is =
-    let le : suc x.0 ≤ e.0 = above (suc x.0) i xs e r.1 is in
-    at_later e.0 x xs (λ s. omega (arith, s, le)) ∙ at_placed (suc x.0) i xs e r.1 is
+  -- a rising map has at a key what stands at its place
+  pub at_placed : (n i : ℕ) (xs : List (ℕ × V)) (e : ℕ × V) → RisesFrom n xs → slice_get xs i ≡ Some e → at e.0 xs ≡ Some e.1
+  at_placed n i [] e r is = absurd (cc)
+  at_placed n zero (x ∷ xs) e r is = let same = some_entry x e is in at_first e.0 x xs (sym (ap (λ (y : ℕ × V). y.0) same)) ∙ ap (λ (y : ℕ × V). Some y.1) same
+  at_placed n (suc i) (x ∷ xs) e r is =
+      let le : suc x.0 ≤ e.0 = above (suc x.0) i xs e r.1 is in
+      at_later e.0 x xs (λ s. omega (arith, s, le)) ∙ at_placed (suc x.0) i xs e r.1 is
 
--- without it, the others stand as they were
-pub cut_placed : (n i : ℕ) (xs : List Frame) (e : Frame) → RisesFrom n xs → slice_get xs i ≡ Some e → without e.0 xs ≡ take i xs ++ drop (suc i) xs
-cut_placed n i [] e r is = absurd (cc)
-cut_placed n zero (x ∷ xs) e r is = without_first e.0 x xs (sym (ap (λ (y : Frame). y.0) (some_frame x e is)))
-cut_placed n (suc i) (x ∷ xs) e r is =
-    let le : suc x.0 ≤ e.0 = above (suc x.0) i xs e r.1 is in
-    without_later e.0 x xs (λ s. omega (arith, s, le)) ∙ ap (λ ys. x ∷ ys) (cut_placed (suc x.0) i xs e r.1 is)
+  -- without it, the others stand as they were
+  pub cut_placed : (n i : ℕ) (xs : List (ℕ × V)) (e : ℕ × V) → RisesFrom n xs → slice_get xs i ≡ Some e → without e.0 xs ≡ take i xs ++ drop (suc i) xs
+  cut_placed n i [] e r is = absurd (cc)
+  cut_placed n zero (x ∷ xs) e r is = without_first e.0 x xs (sym (ap (λ (y : ℕ × V). y.0) (some_entry x e is)))
+  cut_placed n (suc i) (x ∷ xs) e r is =
+      let le : suc x.0 ≤ e.0 = above (suc x.0) i xs e r.1 is in
+      without_later e.0 x xs (λ s. omega (arith, s, le)) ∙ ap (λ ys. x ∷ ys) (cut_placed (suc x.0) i xs e r.1 is)
 
 placed_in : (frames : Slab Frame) (es : Index) (i b key : ℕ) → Each (IsNamed frames) es → slice_get es i ≡ Some (b, key) → (c : Framed) × (slice_get (busy_of frames es) i ≡ Some (b, c))
 placed_in frames [] i b key named is = absurd (cc)
@@ -247,20 +248,29 @@ module _ (frames : Slab Frame) (es ns : Index) (now : List Frame) (i : ℕ) (tie
       let found = placed frames es i block_here (slice_index_or ns i (0, 0)).1 tied (ap (λ xs. slice_get xs i) (sym same) ∙ there_at ns i lt) in
       (found.0, ap (λ xs. slice_get xs i) (sym seen) ∙ found.1)
 
+-- the frame whose entry stands at a place of the index goes
+module _ (frames next : Slab Frame) (es less : Index) (now : List Frame) (i b key : ℕ) (tied : AreTied frames es) (seen : busy_of frames es ≡ now) (is : slice_get es i ≡ Some (b, key))
+    (left : less ≡ take i es ++ drop (i + 1) es) where
+  pub key_placed : at b es ≡ Some key
+  key_placed = at_placed 0 i es (b, key) tied.rising is
+
+  pub less_is : less ≡ without b es
+  less_is = left ∙ ap (λ n. take i es ++ drop n es) (add-one i) ∙ sym (cut_placed 0 i es (b, key) tied.rising is)
+
+  frame_here : (c : Framed) × (slice_get now i ≡ Some (b, c))
+  frame_here = let found = placed frames es i b key tied is in (found.0, ap (λ xs. slice_get xs i) (sym seen) ∙ found.1)
+
   rising : RisesFrom 0 now
   rising = subst (RisesFrom 0) seen (rises_view (frame_in frames) 0 es tied.rising)
 
-  at_here : at block_here now ≡ Some content_here.0
-  at_here = at_placed 0 i now (block_here, content_here.0) rising content_here.1
+  pub frame_placed : (e : Frame) → get frames key ≡ Some e → slice_get now i ≡ Some (b, e.1)
+  frame_placed e there =
+      let shows : Some e.1 ≡ at b now = ap (option_map (λ (x : Frame). x.1)) (sym there) ∙ found_at frames es b (Some key) tied (sym key_placed) ∙ ap (at b) seen in
+      frame_here.1 ∙ ap (λ x. Some (b, x)) (some_same frame_here.0 e.1 (sym (at_placed 0 i now (b, frame_here.0) rising frame_here.1) ∙ sym shows))
 
-  pub not_missing : (o : Option Framed) → o ≡ None → o ≡ at block_here now → ⊥
-  not_missing o none is = let bad : None ≡ Some content_here.0 = sym none ∙ is ∙ at_here in cc
-
-  pub value_here : (c : Framed) → Some c ≡ at block_here now → slice_get now i ≡ Some (block_here, c)
-  value_here c is = content_here.1 ∙ ap (λ x. Some (block_here, x)) (some_same content_here.0 c (sym at_here ∙ sym is))
-
-  pub rest_here : (new : List Frame) → new ≡ without block_here now → new ≡ take i now ++ drop (i + 1) now
-  rest_here new is = is ∙ cut_placed 0 i now (block_here, content_here.0) rising content_here.1 ∙ ap (λ n. take i now ++ drop n now) (sym (add-one i))
+  pub rest_placed : Updates frames next key None → busy_of next less ≡ take i now ++ drop (i + 1) now
+  rest_placed gone =
+      busy_without frames next es b key tied key_placed gone less less_is ∙ ap (without b) seen ∙ cut_placed 0 i now (b, frame_here.0) rising frame_here.1 ∙ ap (λ n. take i now ++ drop n now) (sym (add-one i))
 
 -- ---- copies one by one
 cut_at : (es : Index) (i : ℕ) → i < length es → drop i es ≡ slice_index_or es i (0, 0) ∷ drop (i + 1) es

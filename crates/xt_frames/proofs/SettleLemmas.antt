@@ -190,16 +190,16 @@ module _ (index block : ℕ) (now : Bufs) (here : fresh_block index now ≡ Some
   mark_fewer new gone = subst (λ (f : Bufs). length f.fresh - index < length now.fresh - index) (sym gone) (fewer_without now.fresh index mark_there)
 
 -- ---- all of them
--- nothing is left from these places on
-pub all_settled : (busy : ℕ → Bool) (is_kept : Bool) (frame mark : ℕ) (now : Bufs) → frame_block frame now ≡ None → fresh_block mark now ≡ None → length now.idle ≤ 64
-    → now ≡ fresh_from busy mark (frames_from busy is_kept frame now)
-all_settled busy is_kept frame mark now none unmarked short =
+-- nothing is left from a place on
+pub all_framed : (busy : ℕ → Bool) (is_kept : Bool) (frame : ℕ) (now : Bufs) → frame_block frame now ≡ None → length now.idle ≤ 64 → now ≡ frames_from busy is_kept frame now
+all_framed busy is_kept frame now none short =
     let past = past_of now.frames frame (none_is (slice_get now.frames frame) none) in
-    let beyond = past_of now.fresh mark unmarked in
     ap (λ (c : List Frame). record now { frames = c }) (sym (filter_past (λ e. busy e.0) now.frames frame past))
-    ∙ ap (λ (ks : List ℕ). record now { frames = take frame now.frames ++ filter (λ e. busy e.0) (drop frame now.frames); fresh = ks }) (sym (filter_past busy now.fresh mark beyond))
-    ∙ ap (λ (i : List (ℕ × List ℕ)). record { frames = take frame now.frames ++ filter (λ e. busy e.0) (drop frame now.frames); fresh = take mark now.fresh ++ filter busy (drop mark now.fresh); idle = i })
+    ∙ ap (λ (i : List (ℕ × List ℕ)). record now { frames = take frame now.frames ++ filter (λ e. busy e.0) (drop frame now.frames); idle = i })
     (sym (ap (λ xs. rest_of busy is_kept (committed_of xs) now.idle) (drop_past now.frames frame past) ∙ rests_none is_kept now.idle short))
+
+pub all_marked : (busy : ℕ → Bool) (mark : ℕ) (now : Bufs) → fresh_block mark now ≡ None → now ≡ fresh_from busy mark now
+all_marked busy mark now unmarked = ap (λ (ks : List ℕ). record now { fresh = ks }) (sym (filter_past busy now.fresh mark (past_of now.fresh mark unmarked)))
 
 pub all_saved : (saved : ℕ → Bool) (frame : ℕ) (now : Bufs) → frame_block frame now ≡ None → now ≡ frames_from saved false frame now
 all_saved saved frame now none =

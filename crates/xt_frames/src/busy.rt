@@ -140,11 +140,9 @@ impl BusyFrames {
         ensures value { slice_get self.old index ≡ Some result }
         ensures rest { self.new ≡ take index self.old ++ drop (index + 1) self.old }
     {
-        let block = self.index.entries()[index].0;
-        match self.remove(block) {
-            Some(frame) => (block, frame),
-            None => unreachable!(),
-        }
+        let (block, key) = self.index.remove_at(index);
+        let (_, frame) = self.frames.remove(key);
+        (block, frame)
     }
 
     /// All frames go, and the spare rooms. It takes no memory.

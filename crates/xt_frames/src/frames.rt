@@ -1,6 +1,6 @@
 //! Contents: those of busy blocks in frames, fresh marks, and the idle list.
 
-ghost use Rattle.std.specs.Prelude.{ℕ, Bool, ◌≡◌, ◌+◌, ◌-◌, Some, None, ◌<◌, ◌≤◌, ◌++◌, ◌∷◌, [], length, take, drop, slice_get, false, true, IfErr, IfOk, IfSome, OnErr, OnOk, option_copied, if◌then◌else◌, ◌⊎◌, ◌&&◌, nat_lt, not};
+ghost use Rattle.std.specs.Prelude.{ℕ, Bool, ◌≡◌, ◌+◌, ◌-◌, Some, None, ◌<◌, ◌≤◌, ◌++◌, ◌∷◌, [], length, take, drop, slice_get, false, true, IfErr, IfOk, IfSome, OnErr, OnOk, option_copied, if◌then◌else◌, ◌&&◌, nat_lt, not};
 ghost use Rattle.xt_base.specs.Maps.{at, has, is_in, put, with_member, without, without_member};
 ghost use Rattle.xt_base.specs.Sound.{IsRising};
 ghost use Rattle.xt_frames.specs.Busy.{changed_in, committed_of};
@@ -215,19 +215,38 @@ impl Frames {
     }
 
     /// Frames and fresh marks of blocks that are not busy go. Where contents are kept, the committed ones go to the front of the
-    /// idle list, ascending by block, which is cut at 64. `is_busy` is asked of the blocks in rising order, up to the first frame
-    /// that goes and then from there on, with each fresh block; what it is lent is its own, for where it looked last. It
-    /// takes no memory.
+    /// idle list, ascending by block, which is cut at 64. `is_busy` is asked of the blocks that have frames in rising order, and then
+    /// of the fresh ones; what it is lent is its own, for where it looked last. It takes no memory.
     pub fn settle<F: Fn(&mut usize, u64) -> bool>(&mut self, is_kept: bool, is_busy: F)
         requires { F.IsAlwaysCallable is_busy }
         ensures { (busy : ℕ → Bool) → ((near : _) → (b : ℕ) → (r : Bool) → (after : _) → F.post is_busy near b r after → r ≡ busy b) → self.new ≡ bufs_settled_by busy is_kept self.old }
     {
+        self.settle_frames(is_kept, &is_busy);
+        self.settle_marks(&is_busy);
+    }
+
+    /// What `settle` does with frames.
+    fn settle_frames<F: Fn(&mut usize, u64) -> bool>(&mut self, is_kept: bool, is_busy: &F)
+        requires { F.IsAlwaysCallable is_busy.now }
+        ensures { (busy : ℕ → Bool) → ((near : _) → (b : ℕ) → (r : Bool) → (after : _) → F.post is_busy.now near b r after → r ≡ busy b) → self.new ≡ frames_from busy is_kept 0 self.old }
+    {
         let mut near = 0;
-        let mut frame = self.first_leaving(&mut near, &is_busy);
-        let mut mark = 0;
-        while let Some(block) = self.next_block(frame, mark) {
+        let mut frame = 0;
+        while let Some(block) = self.frame_block(frame) {
             let stays = is_busy(&mut near, block);
             frame = self.settle_frame(frame, block, stays, is_kept);
+        }
+    }
+
+    /// What `settle` does with fresh marks.
+    fn settle_marks<F: Fn(&mut usize, u64) -> bool>(&mut self, is_busy: &F)
+        requires { F.IsAlwaysCallable is_busy.now }
+        ensures { (busy : ℕ → Bool) → ((near : _) → (b : ℕ) → (r : Bool) → (after : _) → F.post is_busy.now near b r after → r ≡ busy b) → self.new ≡ fresh_from busy 0 self.old }
+    {
+        let mut near = 0;
+        let mut mark = 0;
+        while let Some(block) = self.fresh_block(mark) {
+            let stays = is_busy(&mut near, block);
             mark = self.settle_mark(mark, block, stays);
         }
     }
@@ -281,21 +300,6 @@ impl Frames {
         self.idle.put(block, content);
     }
 
-    /// The place of the first frame whose block is not busy, or how many frames there are: those before it stay.
-    fn first_leaving<F: Fn(&mut usize, u64) -> bool>(&self, near: &mut usize, is_busy: &F) -> usize
-        requires { F.IsAlwaysCallable is_busy.now }
-        ensures { (busy : ℕ → Bool) → ((near : _) → (b : ℕ) → (r : Bool) → (after : _) → F.post is_busy.now near b r after → r ≡ busy b) → (is_kept : Bool) → frames_from busy is_kept result self.now ≡ frames_from busy is_kept 0 self.now }
-    {
-        let mut index = 0;
-        while let Some(block) = self.frame_block(index) {
-            if !is_busy(near, block) {
-                return index;
-            }
-            index += 1;
-        }
-        index
-    }
-
     /// Frames of blocks that are not saved go. It takes no memory.
     pub fn forget<F: Fn(u64) -> bool>(&mut self, is_saved: F)
         requires { F.IsAlwaysCallable is_saved }
@@ -306,16 +310,6 @@ impl Frames {
             let stays = is_saved(block);
             frame = self.settle_frame(frame, block, stays, false);
         }
-    }
-
-    /// The lesser of the blocks at a place of the frames and at one of the fresh marks.
-    fn next_block(&self, frame: usize, mark: usize) -> Option<u64>
-        ensures frames { result ≡ None → frame_block frame self.now ≡ None }
-        ensures marks { result ≡ None → fresh_block mark self.now ≡ None }
-        ensures block { IfSome result (λ block. (frame_block frame self.now ≡ Some block) ⊎ (fresh_block mark self.now ≡ Some block)) }
-        ensures idle { length self.now.idle ≤ IDLE_BLOCKS }
-    {
-        lesser(self.frame_block(frame), self.fresh_block(mark))
     }
 
     /// The block of the frame at a place.
@@ -341,6 +335,7 @@ impl Frames {
     }
 
     /// The frame at a place stays or goes, where it is of this block. The place of the next one.
+    #[inline(always)]
     fn settle_frame(&mut self, index: usize, block: u64, stays: bool, is_kept: bool) -> usize
         ensures frames { (busy : ℕ → Bool) → stays ≡ busy block → frames_from busy is_kept result self.new ≡ frames_from busy is_kept index self.old }
         ensures fresh { self.new.fresh ≡ self.old.fresh }
@@ -375,6 +370,7 @@ impl Frames {
     }
 
     /// The frame at a place goes; where contents are kept, the committed one to the front of the idle list, which is cut at 64.
+    #[inline(never)]
     fn settle_at(&mut self, index: usize, is_kept: bool)
         requires { index < length self.old.frames }
         ensures { IfSome (slice_get self.old.frames index) (λ e. self.new ≡ record self.old {
@@ -394,24 +390,5 @@ impl Frames {
         ensures { self.new ≡ record self.old { fresh = take index self.old.fresh ++ drop (index + 1) self.old.fresh } }
     {
         self.fresh.remove_at(index);
-    }
-}
-
-/// The lesser of two blocks, of which none may be there.
-fn lesser(one: Option<u64>, other: Option<u64>) -> Option<u64>
-    ensures one { result ≡ None → one ≡ None }
-    ensures other { result ≡ None → other ≡ None }
-    ensures block { IfSome result (λ block. (one ≡ Some block) ⊎ (other ≡ Some block)) }
-{
-    match (one, other) {
-        (Some(block), Some(mark)) => {
-            if block <= mark {
-                Some(block)
-            } else {
-                Some(mark)
-            }
-        }
-        (Some(block), None) => Some(block),
-        (None, mark) => mark,
     }
 }

@@ -1,37 +1,24 @@
-use Rattle.std.proofs.Common.{◌≡◌, ◌<◌, ◌∙◌, List, None, ap, arith, length, refl, sym, ℕ}
-use Rattle.xt_frames.proofs.BusyLemmas.{length_tied, not_missing, rest_here, value_here}
+use Rattle.std.proofs.Common.{◌≡◌, ◌∙◌, List, ap, arith, length, sym, ℕ}
+use Rattle.xt_frames.proofs.BusyLemmas.{at_placed, frame_placed, key_there, length_tied, less_is, rest_placed, tied_without}
 use Rattle.xt_frames.specs.Kept.{Framed}
 use Rattle.xt_frames.proofs.busy.BusyFrames.remove_at.Goals as goal
 
-pub offset_bounds-entries-index : goal.offset_bounds-entries-index
-offset_bounds-entries-index c =
-    let same : length c.entries.result.now ≡ length c.args.self.now =
-    ap (λ (xs : List (ℕ × ℕ)). length xs) c.entries.ensures.value ∙ sym (length_tied c.self.inside.frames c.self.inside.index c.self.invariant) ∙ ap (λ (xs : List (ℕ × Framed)). length xs) c.self.view_is
-    in omega (arith, c.requires, c.entries.ensures.small, same)
+pub remove_at-block-requires : goal.remove_at-block-requires
+remove_at-block-requires c =
+    let same : length c.self.inside.index ≡ length c.args.self.now = sym (length_tied c.self.inside.frames c.self.inside.index c.self.invariant) ∙ ap (λ (xs : List (ℕ × Framed)). length xs) c.self.view_is in
+    omega (arith, c.requires, same)
 
-pub bounds-entries-index : goal.bounds-entries-index
-bounds-entries-index c =
-    let same : length c.entries.result.now ≡ length c.args.self.now =
-    ap (λ (xs : List (ℕ × ℕ)). length xs) c.entries.ensures.value ∙ sym (length_tied c.self.inside.frames c.self.inside.index c.self.invariant) ∙ ap (λ (xs : List (ℕ × Framed)). length xs) c.self.view_is
-    in omega (arith, c.requires, same)
+pub remove-frame-requires : goal.remove-frame-requires
+remove-frame-requires c =
+    key_there c.self.inside.frames c.self.inside.index c.remove_at-block.result.0 c.remove_at-block.result.1 c.self.invariant (at_placed 0 c.args.index c.self.inside.index c.remove_at-block.result c.self.invariant.rising c.remove_at-block.ensures.value)
 
-pub unreachable-requires : goal.unreachable-requires
-unreachable-requires c =
-    let same : length c.entries.result.now ≡ length c.args.self.now =
-    ap (λ (xs : List (ℕ × ℕ)). length xs) c.entries.ensures.value ∙ sym (length_tied c.self.inside.frames c.self.inside.index c.self.invariant) ∙ ap (λ (xs : List (ℕ × Framed)). length xs) c.self.view_is
-    in let lt : c.args.index < length c.entries.result.now = omega (arith, c.requires, same) in
-    not_missing c.self.inside.frames c.self.inside.index c.entries.result.now c.args.self.now c.args.index c.self.invariant c.entries.ensures.value c.self.view_is lt None refl c.in-None.ensures.value
+pub invariant_of-self : goal.invariant_of-self
+invariant_of-self c =
+    tied_without c.self.inside.frames c.remove-frame.new.self c.self.inside.index c.remove_at-block.result.0 c.remove_at-block.result.1 c.self.invariant (at_placed 0 c.args.index c.self.inside.index c.remove_at-block.result c.self.invariant.rising c.remove_at-block.ensures.value)
+    c.remove-frame.ensures.updates c.remove_at-block.new.self (less_is c.self.inside.frames c.remove-frame.new.self c.self.inside.index c.remove_at-block.new.self c.args.self.now c.args.index c.remove_at-block.result.0 c.remove_at-block.result.1 c.self.invariant c.self.view_is c.remove_at-block.ensures.value c.remove_at-block.ensures.rest) c.remove-frame.ensures.len c.remove-frame.ensures.capacity
 
 pub returns-clause-value : goal.returns-clause-value
-returns-clause-value c =
-    let same : length c.entries.result.now ≡ length c.args.self.now =
-    ap (λ (xs : List (ℕ × ℕ)). length xs) c.entries.ensures.value ∙ sym (length_tied c.self.inside.frames c.self.inside.index c.self.invariant) ∙ ap (λ (xs : List (ℕ × Framed)). length xs) c.self.view_is
-    in let lt : c.args.index < length c.entries.result.now = omega (arith, c.requires, same) in
-    value_here c.self.inside.frames c.self.inside.index c.entries.result.now c.args.self.now c.args.index c.self.invariant c.entries.ensures.value c.self.view_is lt c.in-Some.frame c.in-Some.ensures.value
+returns-clause-value c = frame_placed c.self.inside.frames c.remove-frame.new.self c.self.inside.index c.remove_at-block.new.self c.args.self.now c.args.index c.remove_at-block.result.0 c.remove_at-block.result.1 c.self.invariant c.self.view_is c.remove_at-block.ensures.value c.remove_at-block.ensures.rest c.remove-frame.result c.remove-frame.ensures.value
 
 pub returns-clause-rest : goal.returns-clause-rest
-returns-clause-rest c =
-    let same : length c.entries.result.now ≡ length c.args.self.now =
-    ap (λ (xs : List (ℕ × ℕ)). length xs) c.entries.ensures.value ∙ sym (length_tied c.self.inside.frames c.self.inside.index c.self.invariant) ∙ ap (λ (xs : List (ℕ × Framed)). length xs) c.self.view_is
-    in let lt : c.args.index < length c.entries.result.now = omega (arith, c.requires, same) in
-    rest_here c.self.inside.frames c.self.inside.index c.entries.result.now c.args.self.now c.args.index c.self.invariant c.entries.ensures.value c.self.view_is lt c.remove.new.self c.remove.ensures.rest
+returns-clause-rest c = rest_placed c.self.inside.frames c.remove-frame.new.self c.self.inside.index c.remove_at-block.new.self c.args.self.now c.args.index c.remove_at-block.result.0 c.remove_at-block.result.1 c.self.invariant c.self.view_is c.remove_at-block.ensures.value c.remove_at-block.ensures.rest c.remove-frame.ensures.updates

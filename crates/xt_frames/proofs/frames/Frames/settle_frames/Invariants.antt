@@ -1,11 +1,11 @@
 use Rattle.std.proofs.Common.{◌≡◌, ◌-◌, Bool, length, ℕ}
 use Rattle.xt_frames.specs.Settling.{frames_from}
-use Rattle.xt_frames.proofs.frames.Frames.first_leaving.Given as goal
+use Rattle.xt_frames.proofs.frames.Frames.settle_frames.Given as goal
 
 abbrev pub invariant-loop-block : goal.invariant-loop-block
 invariant-loop-block g l =
     (busy : ℕ → Bool) → ((near : _) → (b : ℕ) → (r : Bool) → (after : _) → goal.F-post g l.fn.is_busy near b r after → r ≡ busy b)
-    → (is_kept : Bool) → frames_from busy is_kept l.index l.fn.self ≡ frames_from busy is_kept 0 l.fn.self
+    → frames_from busy l.is_kept l.frame l.self ≡ frames_from busy l.is_kept 0 l.fn.self
 
 abbrev pub decreases-loop-block : goal.decreases-loop-block
-decreases-loop-block g l = length l.fn.self.frames - l.index
+decreases-loop-block g l = length l.self.frames - l.frame
