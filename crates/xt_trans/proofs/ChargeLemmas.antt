@@ -11,7 +11,7 @@ use Rattle.xt_base.specs.Sound.{IsRising}
 use Rattle.xt_base.specs.Space.{charge}
 use Rattle.xt_base.specs.State.{Leg}
 use Rattle.xt_trans.specs.LegItems.{AreItems, change_if, leg_of}
-use Rattle.xt_trans.specs.declared.trans.BufItem.{BufItem}
+use Rattle.xt_trans.specs.declared.item.BufItem.{BufItem}
 
 if_not : (ends : ℕ) (b : Bool) → ◌≡◌ {A = ℕ} (if not b then 0 else ends) (if b then ends else 0)
 if_not ends true = refl

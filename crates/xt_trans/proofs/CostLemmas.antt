@@ -13,7 +13,7 @@ use Rattle.xt_base.specs.Sound.{Each, IsRising, RisesFrom}
 use Rattle.xt_base.specs.Space.{cost, item_cost}
 use Rattle.xt_base.specs.State.{Change}
 use Rattle.xt_trans.specs.LegItems.{change_if, change_in, gain_in, is_item_dirty, leg_of, loss_in, standing_cost}
-use Rattle.xt_trans.specs.declared.trans.BufItem.{BufItem}
+use Rattle.xt_trans.specs.declared.item.BufItem.{BufItem}
 
 -- what a change's item costs with its marks, and without them
 abbrev gain_of : List (ℕ × List ℕ) → ℕ × Change → ℕ

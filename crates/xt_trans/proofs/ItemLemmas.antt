@@ -14,7 +14,7 @@ use Rattle.xt_base.specs.Sound.{Each}
 use Rattle.xt_base.specs.State.{Change, Leg}
 use Rattle.xt_base.specs.Views.{key_if, viewed}
 use Rattle.xt_trans.specs.LegItems.{AreItems, IsFit, IsItem, IsKept, blank, change_if, change_in, change_seen, is_item_dirty, is_item_held, item_at, leg_of, no_change}
-use Rattle.xt_trans.specs.declared.trans.BufItem.{BufItem}
+use Rattle.xt_trans.specs.declared.item.BufItem.{BufItem}
 use Rattle.xt_vectors.specs.Edits.{is_in_place, own_edit}
 
 -- a leg of these changes and holds

@@ -7,7 +7,7 @@ use Rattle.xt_base.specs.Sound.{Each, IsRising}
 use Rattle.xt_base.specs.State.{Change, Leg}
 use Rattle.xt_base.specs.Views.{keys_where, view}
 use Rattle.xt_base.specs.declared.sizes.TheConstants.{CHUNK_COST, ITEM_COST}
-use Rattle.xt_trans.specs.declared.trans.BufItem.{BufItem}
+use Rattle.xt_trans.specs.declared.item.BufItem.{BufItem}
 
 -- whether an entry's block has the hold mark
 abbrev pub is_item_held : BufItem → Bool

@@ -1,39 +1,33 @@
 //! What the present leg of a transaction did to its blocks: the bytes written, the chunks marked and charged, and which blocks
 //! are invalidated or stay locked when the leg ends.
 
-ghost use Rattle.std.specs.Prelude.{ℕ, ◌≡◌, ◌+◌, ◌*◌, ◌<◌, ◌≤◌, ◌==◌, ◌∷◌, [], Some, None, false, true, if◌then◌else◌, length, option_copied, option_map, sum_by, unwrap_or, IfOk, OnErr, IfSome, MatchOption, is_none, is_some};
+ghost use Rattle.std.specs.Prelude.{ℕ, ◌≡◌, ◌+◌, ◌*◌, ◌<◌, ◌≤◌, ◌∷◌, [], false, true, if◌then◌else◌, length, option_copied, option_map, unwrap_or, IfOk, OnErr, IfSome, MatchOption, is_none, is_some};
 ghost use Rattle.xt_base.specs.Calls.{edited, held_of, invalidated as invalidated_leg, overwritten, without_hold};
 ghost use Rattle.xt_base.specs.Chunks.{union as either};
-ghost use Rattle.xt_base.specs.Legs.{change_of, clean_leg, is_dirty, is_stale, joined_marks, with_marks};
+ghost use Rattle.xt_base.specs.Legs.{change_of, clean_leg, is_dirty, is_stale, with_marks};
 ghost use Rattle.xt_base.specs.Maps.{at, has, is_in, with_member, without};
-ghost use Rattle.xt_base.specs.Marks.{marks_of, no_marks};
+ghost use Rattle.xt_base.specs.Marks.{marks_of};
 ghost use Rattle.xt_base.specs.Sound.{IsRising};
-ghost use Rattle.xt_base.specs.Space.{charge, cost, item_cost};
-ghost use Rattle.xt_trans.specs.ChangeMarks.{change_marks, marks_in};
-ghost use Rattle.xt_trans.specs.LegItems.{AreItems, blank, change_in, gain_in, item_at, item_gain, item_loss, leg_of, loss_in, no_change};
+ghost use Rattle.xt_base.specs.Space.{charge, cost};
+ghost use Rattle.xt_trans.specs.ChangeMarks.{change_marks};
+ghost use Rattle.xt_trans.specs.LegItems.{AreItems, change_in, leg_of};
 ghost use Rattle.xt_vectors.specs.Edits.{is_in_place, own_edit};
 
+use crate::costs::{gained_and_lost, standing};
+use crate::entries::{changes_of, drop_hold, first_dirty, held_blocks, take_dirty, take_item};
+use crate::item::{
+    BufItem, content_of, has_no_content, held, invalidated, logged, marked_too, written,
+};
 use std::alloc::{AllocError, Global};
 use std::marker::Model;
 use xt_base::chunks::Chunks;
 use xt_base::content::{Content, Data, HeldBlocks};
 use xt_base::form::Form;
 use xt_base::map::NumberMap;
-use xt_base::marks::ItemMarks;
 use xt_base::names::Block;
 use xt_base::newly::Newly;
 use xt_base::sizes::{BUSY_BLOCKS, CHUNK_COST, CHUNKS, ITEM_COST, MOST_ENDS, ROOM};
 use xt_vectors::edit::Edit;
-
-/// What a leg did to one block, after `xfs_buf_log_item`: its marks, the bytes, if it was changed, the chunks marked, and
-/// the chunks charged.
-#[derive(Debug, Drop)]
-struct BufItem {
-    marks: ItemMarks,
-    edit: Option<Edit>,
-    chunks: Chunks,
-    charged: Chunks,
-}
 
 /// What a leg did to a block that it changed or invalidated: its edit (none where it was invalidated), the chunks marked, and
 /// the chunks charged.
@@ -350,283 +344,5 @@ impl TransRec {
         ensures { MatchOption result (self.now.changes ≡ []) (λ block. self.now.changes ≡ (block, change_of block self.now) ∷ without block self.now.changes) }
     {
         first_dirty(self.items.entries())
-    }
-}
-
-/// The leg's own bytes in an edit, if there are some.
-fn content_of(edit: &Option<Edit>) -> Option<&Content>
-    ensures { option_copied result ≡ own_edit edit.now }
-{
-    match edit {
-        Some(edit) => edit.content(),
-        None => None,
-    }
-}
-
-/// Whether there is an edit without bytes of its own.
-fn has_no_content(edit: &Option<Edit>) -> bool
-    ensures { result ≡ is_in_place edit.now }
-{
-    match edit {
-        Some(edit) => edit.content().is_none(),
-        None => false,
-    }
-}
-
-/// What the items of a commit list cost.
-fn standing(list: &[(u64, Chunks)]) -> u64
-    requires { length list.now ≤ ROOM }
-    ensures value { result ≡ sum_by item_cost list.now }
-    ensures range { result ≤ ROOM * (ITEM_COST + CHUNK_COST * CHUNKS) }
-{
-    let mut total = 0;
-    for e in list {
-        total += ITEM_COST + CHUNK_COST * e.1.count() as u64;
-    }
-    total
-}
-
-/// The marks of a commit list's item with those of an entry joined to them; none for an invalidated block.
-fn joined(item: &BufItem, old: Option<&Chunks>) -> Chunks
-    ensures { result ≡ joined_marks (option_copied old.entry) (change_in item.now) }
-{
-    match item.edit {
-        None => Chunks::none(),
-        Some(_) => old.copied().unwrap_or(Chunks::none()).union(item.chunks),
-    }
-}
-
-/// What the commit list's item of an entry's block costs with the entry's marks.
-fn gain(item: &BufItem, old: Option<&Chunks>) -> u64
-    ensures value { result ≡ item_gain item.now (option_copied old.entry) }
-    ensures range { result ≤ ITEM_COST + CHUNK_COST * CHUNKS }
-{
-    if item.marks.is_dirty() {
-        ITEM_COST + CHUNK_COST * joined(item, old).count() as u64
-    } else {
-        0
-    }
-}
-
-/// What the commit list's item of an entry's block costs, if the entry changes it.
-fn loss(item: &BufItem, old: Option<&Chunks>) -> u64
-    ensures value { result ≡ item_loss item.now (option_copied old.entry) }
-    ensures range { result ≤ ITEM_COST + CHUNK_COST * CHUNKS }
-{
-    match old {
-        Some(chunks) if item.marks.is_dirty() => ITEM_COST + CHUNK_COST * chunks.count() as u64,
-        _ => 0,
-    }
-}
-
-/// What the items of changed blocks cost on a commit list, with the marks of these entries and without them.
-fn gained_and_lost(items: &[(u64, BufItem)], list: &NumberMap<Chunks>) -> (u64, u64)
-    requires { length items.now ≤ ROOM }
-    ensures gained { result.0 ≡ sum_by (gain_in list.now) items.now }
-    ensures lost { result.1 ≡ sum_by (loss_in list.now) items.now }
-    ensures most_gained { result.0 ≤ ROOM * (ITEM_COST + CHUNK_COST * CHUNKS) }
-    ensures most_lost { result.1 ≤ ROOM * (ITEM_COST + CHUNK_COST * CHUNKS) }
-{
-    let mut gained = 0;
-    let mut lost = 0;
-    for e in items {
-        let old = list.get(e.0);
-        gained += gain(&e.1, old);
-        lost += loss(&e.1, old);
-    }
-    (gained, lost)
-}
-
-/// The block of a number.
-fn block_of(number: u64) -> Block
-    ensures { result ≡ number }
-{
-    Block(number)
-}
-
-/// The blocks of the entries with the hold mark; where there is none it takes no memory.
-fn held_blocks(alloc: Global, items: &[(u64, BufItem)]) -> Result<Vec<Block>, AllocError>
-    ensures ok { IfOk result (λ blocks. blocks.items ≡ (leg_of items.now).holds) }
-    ensures want { OnErr result (0 < length (leg_of items.now).holds) }
-{
-    let mut blocks = Vec::new(alloc);
-    for e in items {
-        if e.1.marks.is_held() {
-            blocks.push(block_of(e.0))?;
-        }
-    }
-    Ok(blocks)
-}
-
-/// The changes of the dirty entries, without their bytes.
-fn changes_of(
-    alloc: Global,
-    items: &[(u64, BufItem)],
-) -> Result<Vec<(u64, ChangeMarks)>, AllocError>
-    ensures { IfOk result (λ changes. changes.items ≡ change_marks (leg_of items.now).changes) }
-{
-    let mut changes = Vec::new(alloc);
-    for e in items {
-        if e.1.marks.is_dirty() {
-            changes.push((e.0, marks_of_change(&e.1)))?;
-        }
-    }
-    Ok(changes)
-}
-
-/// An entry's change, without its bytes.
-fn marks_of_change(item: &BufItem) -> ChangeMarks
-    ensures { result ≡ marks_in (change_in item.now) }
-{
-    ChangeMarks {
-        is_stale: item.edit.is_none(),
-        marks: item.chunks,
-        charged: item.charged,
-    }
-}
-
-/// The block of the first dirty entry.
-fn first_dirty(items: &[(u64, BufItem)]) -> Option<u64>
-    ensures { MatchOption result ((leg_of items.now).changes ≡ [])
-        (λ block. (leg_of items.now).changes ≡ (block, change_of block (leg_of items.now)) ∷ without block (leg_of items.now).changes) }
-{
-    for e in items {
-        if e.1.marks.is_dirty() {
-            return Some(e.0);
-        }
-    }
-    None
-}
-
-/// Takes the hold mark of a block away. An entry that has nothing else goes.
-fn drop_hold(items: &mut NumberMap<BufItem>, block: u64)
-    requires { AreItems items.old }
-    ensures leg { leg_of items.new ≡ without_hold block (leg_of items.old) }
-    ensures items { AreItems items.new }
-{
-    let item = take_item(items, block);
-    if item.marks.is_dirty() {
-        items.put(block, released(item));
-    }
-}
-
-/// Takes the entry of a block out, and leaves its hold mark, if it has one.
-fn take_dirty(items: &mut NumberMap<BufItem>, block: u64) -> BufItem
-    requires { AreItems items.old }
-    ensures value { result ≡ item_at block items.old }
-    ensures leg { leg_of items.new ≡ record (leg_of items.old) { changes = without block (leg_of items.old).changes } }
-    ensures items { AreItems items.new }
-{
-    let item = take_item(items, block);
-    if item.marks.is_held() {
-        items.put(block, hold_alone());
-    }
-    item
-}
-
-/// Takes the entry of a block out; a blank one, where there is none.
-fn take_item(items: &mut NumberMap<BufItem>, block: u64) -> BufItem
-    ensures value { result ≡ item_at block items.old }
-    ensures rest { items.new ≡ without block items.old }
-    ensures room { (is_in block items.old ≡ false → length items.old < ROOM) → length items.new < ROOM }
-{
-    match items.remove(block) {
-        Some(item) => item,
-        None => blank_item(),
-    }
-}
-
-/// An entry that says nothing.
-fn blank_item() -> BufItem
-    ensures { result ≡ blank }
-{
-    BufItem {
-        marks: ItemMarks::none(),
-        edit: None,
-        chunks: Chunks::none(),
-        charged: Chunks::none(),
-    }
-}
-
-/// An entry of a block that is held and not changed.
-fn hold_alone() -> BufItem
-    ensures marks { marks_of result.marks ≡ record no_marks { hold = true } }
-    ensures change { change_in result ≡ no_change }
-{
-    BufItem {
-        marks: ItemMarks::none().with(ItemMarks::HOLD),
-        edit: None,
-        chunks: Chunks::none(),
-        charged: Chunks::none(),
-    }
-}
-
-/// An entry whose block stays locked when the leg ends.
-fn held(mut item: BufItem) -> BufItem
-    ensures marks { marks_of result.marks ≡ record (marks_of item.marks) { hold = true } }
-    ensures change { change_in result ≡ change_in item }
-{
-    item.marks = item.marks.with(ItemMarks::HOLD);
-    item
-}
-
-/// An entry without its hold mark.
-fn released(mut item: BufItem) -> BufItem
-    ensures marks { marks_of result.marks ≡ record (marks_of item.marks) { hold = false } }
-    ensures change { change_in result ≡ change_in item }
-{
-    item.marks = item.marks.without(ItemMarks::HOLD);
-    item
-}
-
-/// An entry whose block has these bytes, and these chunks are marked and charged too.
-fn logged(item: BufItem, edit: Edit, marked: Chunks) -> BufItem
-    ensures marks { marks_of result.marks ≡ record (marks_of item.marks) { stale = false; dirty = true } }
-    ensures change { change_in result ≡ record { edit = Some edit; marks = either item.chunks marked; charged = either item.charged marked } }
-{
-    BufItem {
-        marks: item.marks.with(ItemMarks::DIRTY).without(ItemMarks::STALE),
-        edit: Some(edit),
-        chunks: item.chunks.union(marked),
-        charged: item.charged.union(marked),
-    }
-}
-
-/// An entry of a block of which these chunks are marked and charged too.
-fn marked_too(mut item: BufItem, marked: Chunks) -> BufItem
-    ensures marks { marks_of result.marks ≡ record (marks_of item.marks) { stale = false; dirty = true } }
-    ensures change { change_in result ≡ record { edit = item.edit; marks = either item.chunks marked; charged = either item.charged marked } }
-{
-    item.marks = item.marks.with(ItemMarks::DIRTY).without(ItemMarks::STALE);
-    item.chunks = item.chunks.union(marked);
-    item.charged = item.charged.union(marked);
-    item
-}
-
-/// An entry over whose own bytes others are written from `first` on.
-fn written(mut item: BufItem, first: usize, bytes: &Data) -> BufItem
-    requires own { is_some (own_edit item.edit) ≡ true }
-    requires within { first + length bytes.now ≤ length (unwrap_or item.edit []) }
-    ensures marks { result.marks ≡ item.marks }
-    ensures change { change_in result ≡ record (change_in item) { edit = Some (overwritten first bytes.now (unwrap_or item.edit [])) } }
-{
-    if let Some(edit) = &mut item.edit {
-        edit.write(first, bytes);
-    }
-    item
-}
-
-/// An entry whose block is invalidated.
-fn invalidated(item: BufItem) -> BufItem
-    ensures marks { marks_of result.marks ≡ record (marks_of item.marks) { hold = false; stale = true; dirty = true } }
-    ensures change { change_in result ≡ record { edit = None; marks = []; charged = item.charged } }
-{
-    let marks = item.marks.without(ItemMarks::HOLD);
-    let charged = item.charged;
-    BufItem {
-        marks: marks.with(ItemMarks::DIRTY).with(ItemMarks::STALE),
-        edit: None,
-        chunks: Chunks::none(),
-        charged,
     }
 }

@@ -4,7 +4,7 @@ use Rattle.xt_base.specs.Marks.{marks_of}
 use Rattle.xt_base.specs.State.{Leg}
 use Rattle.xt_trans.proofs.ItemLemmas.{held_is, items_held, room_held}
 use Rattle.xt_trans.specs.LegItems.{AreItems, change_in, leg_of}
-use Rattle.xt_trans.specs.declared.trans.BufItem.{BufItem}
+use Rattle.xt_trans.specs.declared.item.BufItem.{BufItem}
 use Rattle.xt_trans.proofs.trans.TransRec.hold.Goals as goal
 
 pub put-requires : goal.put-requires

@@ -5,7 +5,7 @@ use Rattle.xt_base.specs.Marks.{marks_of}
 use Rattle.xt_base.specs.State.{Leg}
 use Rattle.xt_trans.proofs.ItemLemmas.{invalidated_is, items_invalidated, room_changed}
 use Rattle.xt_trans.specs.LegItems.{AreItems, leg_of}
-use Rattle.xt_trans.specs.declared.trans.BufItem.{BufItem}
+use Rattle.xt_trans.specs.declared.item.BufItem.{BufItem}
 use Rattle.xt_trans.proofs.trans.TransRec.inval.Goals as goal
 
 pub put-requires : goal.put-requires

@@ -6,7 +6,7 @@ use Rattle.xt_base.specs.Marks.{marks_of}
 use Rattle.xt_base.specs.State.{Leg}
 use Rattle.xt_trans.proofs.ItemLemmas.{items_logged, logged_is, room_changed}
 use Rattle.xt_trans.specs.LegItems.{AreItems, leg_of}
-use Rattle.xt_trans.specs.declared.trans.BufItem.{BufItem}
+use Rattle.xt_trans.specs.declared.item.BufItem.{BufItem}
 use Rattle.xt_trans.proofs.trans.TransRec.log.Goals as goal
 
 pub put-requires : goal.put-requires

@@ -7,7 +7,7 @@ use Rattle.xt_base.specs.Marks.{marks_of}
 use Rattle.xt_base.specs.State.{Change, Leg}
 use Rattle.xt_trans.proofs.ItemLemmas.{change_is, in_place_is, items_logged, logged_is, room_in_place}
 use Rattle.xt_trans.specs.LegItems.{AreItems, change_in, item_at, leg_of}
-use Rattle.xt_trans.specs.declared.trans.BufItem.{BufItem}
+use Rattle.xt_trans.specs.declared.item.BufItem.{BufItem}
 use Rattle.xt_vectors.specs.Edits.{is_in_place}
 use Rattle.xt_trans.proofs.trans.TransRec.mark.Goals as goal
 

@@ -8,7 +8,7 @@ use Rattle.xt_base.specs.Marks.{marks_of}
 use Rattle.xt_base.specs.State.{Change, Leg}
 use Rattle.xt_trans.proofs.ItemLemmas.{change_is, items_logged, logged_is, room_own}
 use Rattle.xt_trans.specs.LegItems.{AreItems, change_in, item_at, leg_of}
-use Rattle.xt_trans.specs.declared.trans.BufItem.{BufItem}
+use Rattle.xt_trans.specs.declared.item.BufItem.{BufItem}
 use Rattle.xt_vectors.specs.Edits.{own_edit}
 use Rattle.xt_trans.proofs.trans.TransRec.write.Goals as goal
 

@@ -1,7 +1,7 @@
 use Rattle.std.proofs.Common.{◌≡◌, ◌≤◌, ◌+◌, ◌*◌, drop}
 use Rattle.std.specs.Prelude.{sum_by}
 use Rattle.xt_trans.specs.LegItems.{gain_in, loss_in}
-use Rattle.xt_trans.proofs.trans.gained_and_lost.Given as goal
+use Rattle.xt_trans.proofs.costs.gained_and_lost.Given as goal
 
 abbrev pub invariant-loop-e : goal.invariant-loop-e
 invariant-loop-e l = record {

@@ -2,7 +2,7 @@ use Rattle.std.proofs.Common.{◌∙◌, ap, subst, sym}
 use Rattle.xt_base.specs.Maps.{put}
 use Rattle.xt_trans.proofs.ItemLemmas.{items_left, items_without, taken_held_is, taken_is}
 use Rattle.xt_trans.specs.LegItems.{AreItems, is_item_held, leg_of}
-use Rattle.xt_trans.proofs.trans.take_dirty.Goals as goal
+use Rattle.xt_trans.proofs.entries.take_dirty.Goals as goal
 
 pub returns-then-is_held-clause-leg : goal.returns-then-is_held-clause-leg
 returns-then-is_held-clause-leg c =

@@ -3,8 +3,8 @@ use Rattle.xt_base.specs.Maps.{put}
 use Rattle.xt_base.specs.Marks.{marks_of}
 use Rattle.xt_trans.proofs.ItemLemmas.{dropped_is, items_released, items_without, released_is}
 use Rattle.xt_trans.specs.LegItems.{AreItems, change_in, is_item_dirty, leg_of}
-use Rattle.xt_trans.specs.declared.trans.BufItem.{BufItem}
-use Rattle.xt_trans.proofs.trans.drop_hold.Goals as goal
+use Rattle.xt_trans.specs.declared.item.BufItem.{BufItem}
+use Rattle.xt_trans.proofs.entries.drop_hold.Goals as goal
 
 pub returns-then-is_dirty-clause-leg : goal.returns-then-is_dirty-clause-leg
 returns-then-is_dirty-clause-leg c =

@@ -1,6 +1,6 @@
 use Rattle.std.proofs.Common.{◌<◌, ◌∙◌, ◌≡◌, ap, arith, length}
 use Rattle.std.proofs.lemmas.List.Sums.{sum_by-drop_more}
-use Rattle.xt_trans.proofs.trans.gained_and_lost.Goals as goal
+use Rattle.xt_trans.proofs.costs.gained_and_lost.Goals as goal
 use Rattle.xt_trans.specs.LegItems.{gain_in, item_gain, item_loss, loss_in}
 
 pub loop-e-preserved : goal.loop-e-preserved
