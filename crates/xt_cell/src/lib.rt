@@ -4,6 +4,8 @@
 pub mod account;
 mod asking;
 pub mod book;
+mod booked_calls;
+mod booked_jobs;
 pub mod cell;
 mod event;
 pub mod house;

@@ -1,12 +1,13 @@
 //! What an event says, twice: for the book of its slot and for the receipt of its seat.
 
-ghost use Rattle.std.specs.Prelude.{◌≡◌, IfOk, IfSome};
+ghost use Rattle.std.specs.Prelude.{◌≡◌, IfOk, IfSome, false};
+ghost use Rattle.xt_base.specs.Alone.{carries_content, names_held};
 ghost use Rattle.xt_base.specs.declared.steps.Step.{Step as AStep};
 
 use crate::kept::Kept;
 use std::alloc::{AllocError, Global};
-use xt_base::names::{Life, Slot};
-use xt_base::steps::{Answer, Reply, Request, Step};
+use xt_base::names::{JobName, Life, Slot, Worker};
+use xt_base::steps::{Answer, HomeAnswers, LogAnswers, Reply, Request, Step};
 
 /// One value twice.
 #[derive(Drop)]
@@ -66,6 +67,82 @@ pub(crate) fn call_twin(
     }
 }
 
+/// The step of a mount, twice.
+pub(crate) fn mount_twin(slot: Slot, log_bytes: u32, blocks: u64, size: Option<u32>) -> Twin<Step>
+    ensures { result.booked ≡ AStep.Mount slot log_bytes blocks size }
+{
+    let first = Step::Mount {
+        slot,
+        log_bytes,
+        blocks,
+        size,
+    };
+    Twin::of(
+        first,
+        Step::Mount {
+            slot,
+            log_bytes,
+            blocks,
+            size,
+        },
+    )
+}
+
+/// The step of a begin, twice.
+pub(crate) fn begin_twin(worker: Worker, name: &JobName) -> Twin<Step>
+    ensures { result.booked ≡ AStep.Begin worker name.now }
+{
+    let first = Step::Begin {
+        worker,
+        name: *name,
+    };
+    Twin::of(
+        first,
+        Step::Begin {
+            worker,
+            name: *name,
+        },
+    )
+}
+
+/// The step of an end, twice.
+pub(crate) fn end_twin(worker: Worker, name: &JobName, answers: &LogAnswers) -> Twin<Step>
+    ensures { result.booked ≡ AStep.End worker name.now answers.now }
+{
+    let first = Step::End {
+        worker,
+        name: *name,
+        answers: *answers,
+    };
+    Twin::of(
+        first,
+        Step::End {
+            worker,
+            name: *name,
+            answers: *answers,
+        },
+    )
+}
+
+/// The step of a flush, twice.
+pub(crate) fn flush_twin(worker: Worker, name: &JobName, answers: &HomeAnswers) -> Twin<Step>
+    ensures { result.booked ≡ AStep.Flush worker name.now answers.now }
+{
+    let first = Step::Flush {
+        worker,
+        name: *name,
+        answers: *answers,
+    };
+    Twin::of(
+        first,
+        Step::Flush {
+            worker,
+            name: *name,
+            answers: *answers,
+        },
+    )
+}
+
 /// A copy of a reply that carries no content and names no held blocks. It takes no memory; None where it has some.
 pub(crate) fn plain_reply(reply: &Reply) -> Option<Reply>
     ensures { IfSome result (λ copy. copy ≡ reply.now) }
@@ -90,4 +167,13 @@ pub(crate) fn plain_reply(reply: &Reply) -> Option<Reply>
         Reply::Aborted(_) | Reply::Data(_) => return None,
     };
     Some(copy)
+}
+
+/// A reply that carries neither a content nor held blocks, twice.
+pub(crate) fn plain_twin(reply: &Reply) -> Twin<Reply>
+    requires content { carries_content reply.now ≡ false }
+    requires held { names_held reply.now ≡ false }
+    ensures { result.booked ≡ reply.now }
+{
+    Twin::of(reply.copy_into(None), reply.copy_into(None))
 }

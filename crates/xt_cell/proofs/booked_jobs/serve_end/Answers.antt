@@ -1,6 +1,6 @@
 use Rattle.std.proofs.Common.{refl}
 use Rattle.xt_cell.proofs.ServedLemmas.{plain_if}
-use Rattle.xt_cell.proofs.book.serve_end.Goals as goal
+use Rattle.xt_cell.proofs.booked_jobs.serve_end.Goals as goal
 
 pub plain_twin-told-requires-clause-content : goal.plain_twin-told-requires-clause-content
 plain_twin-told-requires-clause-content c = (plain_if _ _ _ _ refl (c.end-reply.ensures c.args.worker)).0

@@ -1,6 +1,6 @@
 use Rattle.std.proofs.Common.{refl, sym, ◌∙◌}
 use Rattle.xt_cell.proofs.ServedLemmas.{kept_if, plain_if, served_if}
-use Rattle.xt_cell.proofs.book.serve_mount.Goals as goal
+use Rattle.xt_cell.proofs.booked_calls.serve_mount.Goals as goal
 
 pub returns-then-is_no_memory-clause-kept : goal.returns-then-is_no_memory-clause-kept
 returns-then-is_no_memory-clause-kept c = kept_if _ _ _ _ (sym c.is_no_memory.ensures ∙ c.if-is_no_memory.true) (c.mount-reply.ensures)
