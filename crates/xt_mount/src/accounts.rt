@@ -1,24 +1,15 @@
 //! The accounts of a mount: its open transactions with their tickets, its journal, and the log space that both use.
 
-ghost use Rattle.std.specs.Prelude.{◌≡◌, ◌+◌, ◌*◌, ◌≤◌, ◌<◌, ◌&&◌, ◌++◌, [], Some, None, false, true, is_none, is_some, length, nat_le, nat_lt, not, ◌==◌, IfErr, IfOk, IfSome, OnOk, OnErr, option_copied, slice_get, ◌||◌};
-ghost use Rattle.xt_base.specs.Calls.{edited, invalidated, legs_after, logged_leg, new_trans, seen, shut_for, without_hold};
-ghost use Rattle.xt_base.specs.Chunks.{marks};
+ghost use Rattle.std.specs.Prelude.{◌≡◌, ◌+◌, ◌*◌, ◌≤◌, ◌<◌, ◌++◌, [], None, true, is_none, is_some, length, nat_lt, not, ◌==◌, IfErr, IfOk, IfSome, OnOk, OnErr, slice_get};
+ghost use Rattle.xt_base.specs.Calls.{shut_for};
 ghost use Rattle.xt_base.specs.Jobs.{fits_plan, flight_pieces, gone};
-ghost use Rattle.xt_base.specs.Legs.{clean_leg, is_dirty, is_stale, with_marks};
-ghost use Rattle.xt_base.specs.Maps.{at, has, is_in, put, with_member, without, without_member};
+ghost use Rattle.xt_base.specs.Legs.{with_marks};
+ghost use Rattle.xt_base.specs.Maps.{at, is_in};
 ghost use Rattle.xt_base.specs.Sound.{AllBelow, IsRising};
-ghost use Rattle.xt_base.specs.Space.{charge, cost, flight_items, granted, is_listed};
-ghost use Rattle.xt_base.specs.Text.{content_at};
-ghost use Rattle.xt_frames.specs.Busy.{committed_of};
-ghost use Rattle.xt_frames.specs.Contents.{brought_in, contents_of};
-ghost use Rattle.xt_frames.specs.Settling.{AreOthersBusy, settled_by};
+ghost use Rattle.xt_base.specs.Space.{cost, flight_items, granted, is_listed};
 ghost use Rattle.xt_frames.specs.Shares.{no_contents};
-ghost use Rattle.xt_mount.specs.Accounts.{AreAlone, IsAlone, IsUnchanged, cleaned_in, closed_in, flown_in, kept_in, landed_in, legs_in, lists_in, lost_in, no_accounts, opened_in, releg, used_in};
-ghost use Rattle.xt_mount.specs.Settling.{AreChangedBusy, is_busy_in};
-ghost use Rattle.xt_mount.specs.Shown.{has_in_place};
+ghost use Rattle.xt_mount.specs.Accounts.{cleaned_in, flown_in, landed_in, lists_in, no_accounts, used_in};
 ghost use Rattle.xt_items.specs.Lists.{flight_number};
-ghost use Rattle.xt_journal.specs.Keeping.{HaveChunks};
-ghost use Rattle.xt_journal.specs.Over.{frame_bytes, leg_over};
 ghost use Rattle.xt_items.specs.Plans.{due, planned};
 ghost use Rattle.xt_resv.specs.Ledgers.{is_invalid, is_no_room};
 ghost use Rattle.xt_resv.specs.Mounts.{grant_of, ledger};
@@ -30,11 +21,10 @@ use bytes::Bytes;
 use std::alloc::{AllocError, Global};
 use std::marker::Model;
 use xt_base::chunks::Chunks;
-use xt_base::content::{Content, Data};
 use xt_base::form::Form;
 use xt_base::map::NumberMap;
 use xt_base::names::{Block, CkptNo, Slot};
-use xt_base::sizes::{BLOCK_BYTES, MOST_LOG, ROOM};
+use xt_base::sizes::{MOST_LOG, ROOM};
 use xt_base::steps::{HomeAnswers, Reason};
 use xt_frames::share::FrameShare;
 use xt_items::items::Items;
@@ -49,11 +39,11 @@ use xt_vectors::vector::LogVector;
 /// granted, and what each list costs. Clauses see the transactions, and the lists and contents of the journal.
 #[derive(Debug)]
 pub struct Accounts {
-    transactions: NumberMap<OpenTrans>,
-    journal: Journal,
-    space: LogSpace,
+    pub(crate) transactions: NumberMap<OpenTrans>,
+    pub(crate) journal: Journal,
+    pub(crate) space: LogSpace,
     /// The leg of a transaction that ended, for a later one.
-    spare: Option<TransRec>,
+    pub(crate) spare: Option<TransRec>,
 }
 
 impl Model for Accounts {
@@ -104,19 +94,6 @@ fn give_all_back(transactions: &mut NumberMap<OpenTrans>, space: &mut LogSpace)
     }
 }
 
-/// A leg that did nothing: the spare one, or a new one. The one error is want of memory.
-fn clean_leg_of(spare: &mut Option<TransRec>, alloc: Global) -> Result<TransRec, AllocError>
-    ensures { IfOk result (λ leg. leg ≡ clean_leg) }
-{
-    match spare.take() {
-        Some(mut leg) => {
-            leg.next_leg();
-            Ok(leg)
-        }
-        None => TransRec::new(alloc),
-    }
-}
-
 impl Accounts {
     /// The accounts of a log of so many bytes, at most 16,777,216, of which nothing is in use, in a mount of this form, with the frames
     /// of a share that has no contents. Where memory is refused the share is handed back.
@@ -161,6 +138,13 @@ impl Accounts {
         give_all_back(&mut transactions, &mut space);
         transactions.destroy_empty();
         journal.into_share(slot)
+    }
+
+    /// Shuts the mount, for this reason if it was live.
+    pub fn shut_down(&mut self, reason: Reason)
+        ensures { self.new ≡ record self.old { shut = shut_for reason self.old.shut } }
+    {
+        self.journal.shut_down(reason);
     }
 
     // ---- what it has
@@ -352,279 +336,6 @@ impl Accounts {
         self.space.is_no_room(opened.ticket(), cost)
     }
 
-    // ---- transactions
-    /// Opens a transaction of `count` legs of `unit` log bytes under a number above those that are open. The one error is want
-    /// of memory, and then nothing changes.
-    pub fn begin(
-        &mut self,
-        alloc: Global,
-        trans: u64,
-        unit: u32,
-        count: u32,
-        perm: bool,
-    ) -> Result<(), AllocError>
-        requires valid { is_invalid unit count perm self.old.log_bytes ≡ false }
-        requires space { nat_lt self.old.log_bytes (used_in self.old + unit * count) ≡ false }
-        requires rising { IsRising self.old.transactions }
-        requires free { is_in trans self.old.transactions ≡ false }
-        requires few { length self.old.transactions < ROOM }
-        ensures ok { OnOk result (self.new ≡ opened_in trans (new_trans unit count perm) self.old) }
-        ensures err { OnErr result (self.new ≡ self.old) }
-    {
-        let leg = clean_leg_of(&mut self.spare, alloc)?;
-        match self.space.grant(unit, count, perm) {
-            Ok(ticket) => self
-                .transactions
-                .put_new(trans, OpenTrans::new(ticket, leg)),
-            Err(_) => unreachable!(),
-        }
-        Ok(())
-    }
-
-    /// Writes bytes in the leg of a transaction, from `first` on, and marks and charges their chunks. The room for the log vector that
-    /// a commit makes of them is taken here, so that a commit takes none. The one error is want of memory, and then nothing changes.
-    pub fn log(
-        &mut self,
-        alloc: Global,
-        trans: u64,
-        block: u64,
-        first: u32,
-        bytes: &Data,
-    ) -> Result<(), AllocError>
-        requires there { is_in trans self.old.transactions ≡ true }
-        requires rising { IsRising self.old.transactions }
-        requires alone { IsAlone trans block self.old.transactions }
-        requires some { 0 < length bytes.now }
-        requires within { first + length bytes.now ≤ BLOCK_BYTES }
-        requires seen { IfSome (at trans self.old.transactions) (λ t. first + length bytes.now ≤ length (seen self.old.form.size block t.leg self.old.frames)) }
-        requires few { IfSome (at trans self.old.transactions) (λ t. is_in block t.leg.changes ≡ false → length t.leg.changes + length t.leg.holds < ROOM) }
-        requires fits { IfSome (at trans self.old.transactions) (λ t. charge self.old.form.ends (edited block [] (marks first (length bytes.now)) t.leg).changes ≤ t.unit) }
-        ensures ok { OnOk result (IfSome (at trans self.old.transactions) (λ t. self.new ≡ releg trans t (logged_leg self.old.form.size block first bytes.now self.old.frames t.leg) self.old)) }
-        ensures err { OnErr result (self.new ≡ self.old) }
-    {
-        let opened = self.transactions.value_mut(trans);
-        opened.log(&mut self.journal, alloc, block, first, bytes)?;
-        Ok(())
-    }
-
-    /// The leg of a transaction invalidates a block. It takes no memory.
-    pub fn inval(&mut self, trans: u64, block: u64)
-        requires there { is_in trans self.old.transactions ≡ true }
-        requires rising { IsRising self.old.transactions }
-        requires few { IfSome (at trans self.old.transactions) (λ t. is_in block t.leg.changes ≡ false → length t.leg.changes + length t.leg.holds < ROOM) }
-        requires alone { IsAlone trans block self.old.transactions }
-        requires fits { IfSome (at trans self.old.transactions) (λ t. charge self.old.form.ends (invalidated block t.leg).changes ≤ t.unit) }
-        ensures { IfSome (at trans self.old.transactions) (λ t. self.new ≡ releg trans t (invalidated block t.leg) self.old) }
-    {
-        let opened = self.transactions.value_mut(trans);
-        opened.inval(&mut self.journal, block);
-    }
-
-    /// A block has the hold mark in the leg of a transaction. It takes no memory.
-    pub fn hold(&mut self, trans: u64, block: u64)
-        requires there { is_in trans self.old.transactions ≡ true }
-        requires rising { IsRising self.old.transactions }
-        requires few { IfSome (at trans self.old.transactions) (λ t. has t.leg.holds block ≡ false → length t.leg.changes + length t.leg.holds < ROOM) }
-        ensures { IfSome (at trans self.old.transactions) (λ t. self.new ≡ releg trans t (record t.leg { holds = with_member block t.leg.holds }) self.old) }
-    {
-        let opened = self.transactions.value_mut(trans);
-        opened.hold(block);
-    }
-
-    /// A block has no hold mark in the leg of a transaction. It takes no memory.
-    pub fn unhold(&mut self, trans: u64, block: u64)
-        requires there { is_in trans self.old.transactions ≡ true }
-        requires rising { IsRising self.old.transactions }
-        ensures { IfSome (at trans self.old.transactions) (λ t. self.new ≡ releg trans t (without_hold block t.leg) self.old) }
-    {
-        let opened = self.transactions.value_mut(trans);
-        opened.unhold(block);
-    }
-
-    // ---- contents
-    /// Whether a block is fresh: it shows zeros until it is written whole.
-    pub fn is_fresh(&self, block: u64) -> bool
-        ensures { result ≡ has self.now.frames.fresh block }
-    {
-        self.journal.frames().is_fresh(block)
-    }
-
-    /// Whether a block is idle.
-    pub fn is_idle(&self, block: u64) -> bool
-        ensures { result ≡ is_in block self.now.frames.idle }
-    {
-        self.journal.frames().is_idle(block)
-    }
-
-    /// The committed content of a block that no open transaction has changed.
-    pub fn committed(&self, block: u64) -> Option<&Content>
-        requires { IsUnchanged block self.now.transactions }
-        ensures { option_copied result ≡ at block self.now.frames.committed }
-    {
-        match self.journal.frames().frame(block) {
-            Some(frame) => Some(frame.content()),
-            None => None,
-        }
-    }
-
-    /// The committed contents in a list of their own, by rising block. The one error is want of memory.
-    pub fn committed_copies(&self, alloc: Global) -> Result<Vec<(u64, Content)>, AllocError>
-        ensures { IfOk result (λ contents. contents.items ≡ self.now.frames.committed) }
-    {
-        self.journal.frames().committed(alloc)
-    }
-
-    /// The fresh blocks, ascending, in a list of their own. The one error is want of memory.
-    pub fn fresh_copies(&self, alloc: Global) -> Result<Vec<u64>, AllocError>
-        ensures { IfOk result (λ blocks. blocks.items ≡ self.now.frames.fresh) }
-    {
-        self.journal.frames().fresh(alloc)
-    }
-
-    /// The idle contents in a list of their own, the most recent first. The one error is want of memory.
-    pub fn idle_copies(&self, alloc: Global) -> Result<Vec<(u64, Content)>, AllocError>
-        ensures { IfOk result (λ contents. contents.items ≡ self.now.frames.idle) }
-    {
-        self.journal.frames().idle(alloc)
-    }
-
-    /// A copy of what an open transaction sees of a block that it has. The one error is want of memory.
-    pub fn seen(&self, alloc: Global, trans: u64, block: u64) -> Result<Content, AllocError>
-        requires there { is_in trans self.now.transactions ≡ true }
-        ensures { IfOk result (λ content. IfSome (at trans self.now.transactions) (λ t. content ≡ seen self.now.form.size block t.leg self.now.frames)) }
-    {
-        match self.transactions.get(trans) {
-            Some(opened) => copy_seen(alloc, opened.leg(), &self.journal, block),
-            None => unreachable!(),
-        }
-    }
-
-    /// A block becomes busy, on a live mount one that is not listed: with its idle content, or fresh. It takes no memory.
-    pub fn bring(&mut self, block: u64)
-        requires unlisted { is_none self.old.shut ≡ true → is_in block self.old.items.cil ≡ false }
-        requires unchanged { IsUnchanged block self.old.transactions }
-        requires committed { length self.old.frames.committed < ROOM }
-        requires fresh { length self.old.frames.fresh < ROOM }
-        ensures { self.new ≡ record self.old { frames = brought_in block (at block self.old.frames.idle) self.old.frames } }
-    {
-        self.journal.bring(block);
-    }
-
-    /// A block becomes busy, on a live mount one that is not listed, with this content, which has the mount's size. It takes no memory.
-    pub fn bring_content(&mut self, block: u64, content: Content)
-        requires unlisted { is_none self.old.shut ≡ true → is_in block self.old.items.cil ≡ false }
-        requires unchanged { IsUnchanged block self.old.transactions }
-        requires room { length self.old.frames.committed < ROOM }
-        requires size { length content ≡ self.old.form.size }
-        ensures { self.new ≡ record self.old { frames = record self.old.frames { committed = put block content self.old.frames.committed; idle = without block self.old.frames.idle } } }
-    {
-        self.journal.bring_content(block, content);
-    }
-
-    /// A block is fresh no more.
-    pub fn leave_fresh(&mut self, block: u64)
-        ensures { self.new ≡ record self.old { frames = record self.old.frames { fresh = without_member block self.old.frames.fresh } } }
-    {
-        self.journal.leave_fresh(block);
-    }
-
-    /// Contents of blocks that are no longer locked, held or on a list go, on a live mount to the front of the idle list,
-    /// ascending by block; their fresh marks go. It takes no memory.
-    pub fn settle(&mut self, locks: &Locks)
-        requires { AreChangedBusy (is_busy_in locks.now self.old.items) self.old.transactions }
-        ensures { self.new ≡ record self.old { frames = settled_by (is_busy_in locks.now self.old.items) (is_none self.old.shut) self.old.frames } }
-    {
-        self.journal.settle(locks);
-    }
-
-    /// The same where only one block may not be busy any more: nothing is asked of the others.
-    pub fn settle_block(&mut self, locks: &Locks, block: u64)
-        requires rising { IsRising self.old.frames.committed }
-        requires others { AreOthersBusy (is_busy_in locks.now self.old.items) block self.old.frames }
-        requires changed { AreChangedBusy (is_busy_in locks.now self.old.items) self.old.transactions }
-        ensures { self.new ≡ record self.old { frames = settled_by (is_busy_in locks.now self.old.items) (is_none self.old.shut) self.old.frames } }
-    {
-        self.journal.settle_block(locks, block);
-    }
-
-    /// Shuts the mount, for this reason if it was live.
-    pub fn shut_down(&mut self, reason: Reason)
-        ensures { self.new ≡ record self.old { shut = shut_for reason self.old.shut } }
-    {
-        self.journal.shut_down(reason);
-    }
-
-    // ---- ends of legs
-    /// A transaction ends, and its leg is committed: its edits are the committed contents, and its marks are joined to the
-    /// commit list; these are of chunks that its contents have. It takes no memory.
-    pub fn commit(&mut self, trans: u64)
-        requires there { is_in trans self.old.transactions ≡ true }
-        requires alone { IfSome (at trans self.old.transactions) (λ t. AreAlone trans t.leg.changes self.old.transactions) }
-        requires contents { IfSome (at trans self.old.transactions) (λ t. length self.old.frames.committed + length t.leg.changes ≤ ROOM) }
-        requires list { IfSome (at trans self.old.transactions) (λ t. length self.old.items.cil + length t.leg.changes ≤ ROOM) }
-        requires chunks { IfSome (at trans self.old.transactions) (λ t. HaveChunks self.old.items.cil t.leg.changes) }
-        requires paid { IfSome (at trans self.old.transactions) (λ t. cost self.old.form.ends (with_marks t.leg.changes self.old.items.cil) ≤ cost self.old.form.ends self.old.items.cil + t.unit * t.legs) }
-        ensures { IfSome (at trans self.old.transactions) (λ t. self.new ≡ closed_in trans (kept_in t self.old)) }
-    {
-        let _rise = self.transactions.entries();
-        let Some(opened) = self.transactions.remove(trans) else {
-            unreachable!();
-        };
-        let (ticket, mut leg) = opened.into_parts();
-        leg.changes_rise();
-        self.journal.keep_changes(&mut leg);
-        self.spare = Some(leg);
-        self.space.commit(ticket, self.journal.cil_cost());
-    }
-
-    /// A leg is committed, and the next one of its transaction begins. It takes no memory.
-    pub fn roll(&mut self, trans: u64)
-        requires there { is_in trans self.old.transactions ≡ true }
-        requires alone { IfSome (at trans self.old.transactions) (λ t. AreAlone trans t.leg.changes self.old.transactions) }
-        requires rising { IsRising self.old.transactions }
-        requires contents { IfSome (at trans self.old.transactions) (λ t. length self.old.frames.committed + length t.leg.changes ≤ ROOM) }
-        requires list { IfSome (at trans self.old.transactions) (λ t. length self.old.items.cil + length t.leg.changes ≤ ROOM) }
-        requires chunks { IfSome (at trans self.old.transactions) (λ t. HaveChunks self.old.items.cil t.leg.changes) }
-        requires legs { IfSome (at trans self.old.transactions) (λ t. 1 ≤ t.legs) }
-        requires paid { IfSome (at trans self.old.transactions) (λ t. cost self.old.form.ends (with_marks t.leg.changes self.old.items.cil) ≤ cost self.old.form.ends self.old.items.cil + t.unit) }
-        requires room { IfSome (at trans self.old.transactions) (λ t. is_no_room (grant_of t) (cost self.old.form.ends (with_marks t.leg.changes self.old.items.cil)) (ledger self.old.form.ends self.old.log_bytes self.old.transactions self.old.items) ≡ false) }
-        ensures { IfSome (at trans self.old.transactions) (λ t. self.new ≡ legs_in trans (legs_after t.legs) t (kept_in t self.old)) }
-    {
-        let opened = self.transactions.value_mut(trans);
-        opened.roll(&mut self.journal, &mut self.space);
-    }
-
-    /// A transaction ends, and its leg is given up, on a live mount only a clean one. It takes no memory.
-    pub fn cancel(&mut self, trans: u64)
-        requires there { is_in trans self.old.transactions ≡ true }
-        requires alone { IfSome (at trans self.old.transactions) (λ t. AreAlone trans t.leg.changes self.old.transactions) }
-        requires kept { IfSome (at trans self.old.transactions) (λ t. (is_dirty t.leg && is_none self.old.shut) ≡ false) }
-        requires fresh { IfSome (at trans self.old.transactions) (λ t. length self.old.frames.fresh + length t.leg.changes ≤ ROOM) }
-        ensures { IfSome (at trans self.old.transactions) (λ t. self.new ≡ closed_in trans (lost_in t self.old)) }
-    {
-        let _rise = self.transactions.entries();
-        let Some(opened) = self.transactions.remove(trans) else {
-            unreachable!();
-        };
-        let (ticket, mut leg) = opened.into_parts();
-        self.journal.lose_leg(&mut leg);
-        self.spare = Some(leg);
-        self.space.give_back(ticket);
-    }
-
-    /// A leg is given up, on a live mount only a clean one, and its transaction stays with no leg left. It takes no memory.
-    pub fn give_up(&mut self, trans: u64)
-        requires there { is_in trans self.old.transactions ≡ true }
-        requires alone { IfSome (at trans self.old.transactions) (λ t. AreAlone trans t.leg.changes self.old.transactions) }
-        requires kept { IfSome (at trans self.old.transactions) (λ t. (is_dirty t.leg && is_none self.old.shut) ≡ false) }
-        requires rising { IsRising self.old.transactions }
-        requires fresh { IfSome (at trans self.old.transactions) (λ t. length self.old.frames.fresh + length t.leg.changes ≤ ROOM) }
-        ensures { IfSome (at trans self.old.transactions) (λ t. self.new ≡ legs_in trans 0 t (lost_in t self.old)) }
-    {
-        let opened = self.transactions.value_mut(trans);
-        opened.give_up(&mut self.journal, &mut self.space);
-    }
-
     // ---- checkpoints
     /// The committed items become the flight, with these pieces, and the next number opens. The one error is want of memory,
     /// and then nothing changes. Room for the landing is made here.
@@ -686,56 +397,6 @@ impl Accounts {
         let count = self.journal.flush_done(plan, answers);
         self.space.tail(self.journal.items().least());
         count
-    }
-}
-
-/// A copy of what a leg sees of a block. The one error is want of memory.
-fn copy_seen(
-    alloc: Global,
-    leg: &TransRec,
-    journal: &Journal,
-    block: u64,
-) -> Result<Content, AllocError>
-    requires { has_in_place block leg.now ≡ true → is_in block journal.now.frames.frames ≡ true }
-    ensures { IfOk result (λ content. content ≡ seen journal.now.form.size block (leg_over journal.now.frames.frames leg.now) (contents_of journal.now.frames)) }
-{
-    if let Some(content) = leg.edit(block) {
-        return content.copy(alloc);
-    }
-    if leg.is_in_place(block) {
-        return copy_in_place(alloc, journal, block);
-    }
-    if is_hidden(leg, journal, block) {
-        return Content::zeros(alloc, journal.form());
-    }
-    copy_committed(alloc, journal, block)
-}
-
-/// Whether a leg that did not change a block sees zeros of it.
-fn is_hidden(leg: &TransRec, journal: &Journal, block: u64) -> bool
-    ensures { result ≡ (has journal.now.frames.fresh block || is_stale block leg.now) }
-{
-    journal.frames().is_fresh(block) || leg.is_stale(block)
-}
-
-/// A copy of the bytes of a block's frame. The one error is want of memory.
-fn copy_in_place(alloc: Global, journal: &Journal, block: u64) -> Result<Content, AllocError>
-    requires { is_in block journal.now.frames.frames ≡ true }
-    ensures { IfOk result (λ content. content ≡ frame_bytes (at block journal.now.frames.frames)) }
-{
-    match journal.frames().frame(block) {
-        Some(frame) => frame.content().copy(alloc),
-        None => unreachable!(),
-    }
-}
-
-/// A copy of the committed content of a block, zeros where there is none. The one error is want of memory.
-fn copy_committed(alloc: Global, journal: &Journal, block: u64) -> Result<Content, AllocError>
-    ensures { IfOk result (λ content. content ≡ content_at journal.now.form.size block (committed_of journal.now.frames.frames)) }
-{
-    match journal.frames().frame(block) {
-        Some(frame) => frame.committed_copy(alloc),
-        None => Content::zeros(alloc, journal.form()),
     }
 }
 

@@ -2,6 +2,8 @@
 #![tactic(auto)]
 
 mod accounts;
+mod accounts_contents;
+mod accounts_legs;
 mod alloc;
 mod busy;
 mod cancel;

@@ -8,7 +8,7 @@ use Rattle.xt_frames.specs.Busy.{committed_of}
 use Rattle.xt_frames.specs.Contents.{Bufs}
 use Rattle.xt_frames.specs.Kept.{Framed}
 use Rattle.xt_mount.proofs.AccountsLemmas.{ok_then}
-use Rattle.xt_mount.proofs.accounts.copy_committed.Goals as goal
+use Rattle.xt_mount.proofs.accounts_contents.copy_committed.Goals as goal
 
 pub returns-in-Some : goal.returns-in-Some
 returns-in-Some c =

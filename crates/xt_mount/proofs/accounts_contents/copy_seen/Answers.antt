@@ -8,7 +8,7 @@ use Rattle.xt_frames.specs.Contents.{contents_of}
 use Rattle.xt_journal.specs.Over.{frame_bytes, leg_over}
 use Rattle.xt_mount.proofs.AccountsLemmas.{ok_then}
 use Rattle.xt_mount.proofs.StepLemmas.{base_shown, own_shown, place_shown, zeros_shown}
-use Rattle.xt_mount.proofs.accounts.copy_seen.Goals as goal
+use Rattle.xt_mount.proofs.accounts_contents.copy_seen.Goals as goal
 
 pub returns-in-Some : goal.returns-in-Some
 returns-in-Some c =
