@@ -1,6 +1,5 @@
 -- Data read from their one spelling.
-use Rattle.std.proofs.Common.{Err, List, None, Ok, Option, Result, Some, [], ap, arith, cond, drop, get_or, leb, le-leb, length, refl, replicate, sym, take, ℕ, ◌&&◌, ◌*◌, ◌+◌, ◌-◌, ◌/◌, ◌<◌, ◌%◌, ◌++◌, ◌∙◌, ◌≡◌, ◌≤◌, ◌∷◌, bytes_eq}
-use Rattle.std.specs.Fmt.{decimal}
+use Rattle.std.proofs.Common.{Err, List, None, Ok, Option, Result, Some, [], ap, arith, cond, drop, get_or, leb, le-leb, length, refl, replicate, sym, take, ℕ, ◌&&◌, ◌*◌, ◌+◌, ◌-◌, ◌/◌, ◌<◌, ◌%◌, ◌++◌, ◌∙◌, ◌≡◌, ◌≤◌, ◌∷◌}
 use Rattle.std.specs.Result.{result_ok}
 use Rattle.std.proofs.lemmas.Bool.{and_parts, le-ltb, leb-true, lt-ltb, ne_eqb}
 use Rattle.std.proofs.lemmas.List.Elements.{All-replicate}

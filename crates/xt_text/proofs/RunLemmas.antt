@@ -1,12 +1,13 @@
 -- Runs of equal bytes.
-use Rattle.std.proofs.Common.{ap, ap₂, append-nil, cond, nat_eq, take, take-append-drop, ◌∙◌, Bool, List, [], arith, drop, eqb, false, get_or, length, one-add, refl, suc, sym, subst, replicate, zero, ◌++◌, add-one, true, ℕ, ◌+◌, ◌<◌, ◌≡◌, ◌∷◌}
+use Rattle.std.proofs.Common.{ap, ap₂, append-nil, append_assoc, cond, nat_eq, take, take-append-drop, ◌∙◌, Bool, List, [], arith, drop, eqb, false, get_or, length, one-add, refl, suc, sym, subst, replicate, zero, ◌++◌, add-one, true, ℕ, ◌+◌, ◌-◌, ◌<◌, ◌≡◌, ◌≤◌, ◌∷◌}
 use Rattle.std.proofs.lemmas.Bool.{eq-eqb, eqb-true, false≢true}
+use Rattle.std.proofs.lemmas.Grind.{common_steps}
 use Rattle.std.proofs.lemmas.List.Concat.{flat_map-append}
-use Rattle.std.proofs.lemmas.List.{replicate_more}
+use Rattle.std.proofs.lemmas.List.{length-take-le, replicate_more}
 use Rattle.std.proofs.lemmas.List.Folds.{prefix_len-append, prefix_len-replicate}
 use Rattle.std.specs.Cmp.Lexicographic.{pointwise, same_text}
 use Rattle.std.specs.List.{flat_map, prefix_len}
-use Rattle.xt_text.specs.DataText.{hex, run_text, runs, runs_text, spelling}
+use Rattle.xt_text.specs.DataText.{grown, hex, onto_runs, run_text, runs, runs_text, spelling}
 use Rattle.xt_text.specs.declared.data_text.Run.{Run}
 
 -- the run of x at the front of some bytes
@@ -69,3 +70,41 @@ one_run x (suc n) = rw (one_run x n, eq-eqb x x refl, add-one, add-one, add-one)
 pub spelling_of_run : (x n : ℕ) → nat_eq n 0 ≡ false → spelling (replicate n x) ≡ run_text (record { byte = x; count = n })
 spelling_of_run x zero none = absurd (false≢true (sym none))
 spelling_of_run x (suc n) some = ap runs_text (one_run x n) ∙ append-nil (run_text (record { byte = x; count = n + 1 })) ∙ ap (λ k. run_text (record { byte = x; count = k })) (add-one n)
+
+-- ---- runs that grow
+-- runs that grow by nothing
+pub grown_none : (place : ℕ) (rs : List Run) → grown place 0 rs ≡ rs
+grown_none place [] = refl
+grown_none place (r ∷ rs) = grind (arith, common_steps, grown_none (place - r.count) rs)
+
+-- one more byte before them
+pub onto_grown : (x place more : ℕ) (rs : List Run) → onto_runs x (grown place more rs) ≡ grown (1 + place) more (onto_runs x rs)
+onto_grown x place more [] = grind (arith, common_steps)
+onto_grown x place more (r ∷ rs) = grind (arith, common_steps)
+
+-- one more of the same byte at the front
+pub front_grown : (x more : ℕ) (rs : List Run) → onto_runs x (grown 0 more (onto_runs x rs)) ≡ grown 0 (more + 1) (onto_runs x rs)
+front_grown x more [] = grind (arith, common_steps)
+front_grown x more (r ∷ rs) = grind (arith, common_steps)
+
+-- the runs of bytes of which the first stands more often
+pub front_runs : (b more : ℕ) (c : List ℕ) → runs (replicate (suc more) b ++ c) ≡ grown 0 more (runs (b ∷ c))
+front_runs b zero c = sym (grown_none 0 (runs (b ∷ c)))
+front_runs b (suc more) c = ap (λ rs. onto_runs b rs) (front_runs b more c) ∙ front_grown b more (runs c) ∙ ap (λ n. grown 0 n (runs (b ∷ c))) (add-one more)
+
+-- the runs of bytes of which one stands more often
+pub grown_runs : (a : List ℕ) (b more : ℕ) (c : List ℕ) → runs (a ++ replicate (more + 1) b ++ c) ≡ grown (length a) more (runs (a ++ b ∷ c))
+grown_runs [] b more c = ap (λ n. runs (replicate n b ++ c)) (add-one more) ∙ front_runs b more c
+grown_runs (x ∷ a) b more c = ap (λ rs. onto_runs x rs) (grown_runs a b more c) ∙ onto_grown x (length a) more (runs (a ++ b ∷ c)) ∙ ap (λ n. grown n more (onto_runs x (runs (a ++ b ∷ c)))) (one-add (length a))
+
+-- the spelling of bytes of which one stands more often
+pub grown_spelling : (first count byte : ℕ) (bytes : List ℕ) → first ≤ length bytes → 0 < count →
+    runs_text (grown first (count - 1) (runs (take first bytes ++ replicate 1 byte ++ drop first bytes))) ≡ spelling (take first bytes ++ replicate count byte ++ drop first bytes)
+grown_spelling first count byte bytes within some =
+    let front : length (take first bytes) ≡ first = length-take-le first bytes within in
+    let all : count - 1 + 1 ≡ count = omega (arith, some) in
+    sym (ap runs_text (
+    ap (λ n. runs (take first bytes ++ replicate n byte ++ drop first bytes)) (sym all)
+    ∙ grown_runs (take first bytes) byte (count - 1) (drop first bytes)
+    ∙ ap (λ n. grown n (count - 1) (runs (take first bytes ++ byte ∷ drop first bytes))) front
+    ∙ ap (λ all. grown first (count - 1) (runs all)) (sym (append_assoc (take first bytes) (byte ∷ []) (drop first bytes)))))

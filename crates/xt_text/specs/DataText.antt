@@ -1,7 +1,7 @@
 -- Data as text: a list of bytes has one spelling.
 use Rattle.std.specs.Fmt.{decimal}
 use Rattle.std.specs.List.{All, flat_map}
-use Rattle.std.specs.Prelude.{Bool, List, [], if◌then◌else◌, length, nat_lt, replicate, ℕ, ◌<◌, ◌≤◌, ◌%◌, ◌&&◌, ◌++◌, ◌+◌, ◌/◌, ◌==◌, ◌∷◌}
+use Rattle.std.specs.Prelude.{Bool, List, [], if◌then◌else◌, length, nat_lt, replicate, ℕ, ◌<◌, ◌≤◌, ◌%◌, ◌&&◌, ◌++◌, ◌+◌, ◌-◌, ◌/◌, ◌==◌, ◌∷◌}
 use Rattle.xt_base.specs.declared.sizes.TheConstants.{DATA_BYTES}
 use Rattle.xt_text.specs.declared.data_text.TheConstants.{DIGITS}
 use Rattle.xt_text.specs.declared.data_text.Run.{Run}
@@ -45,6 +45,11 @@ after_run r (s ∷ rs) = between r s ++ run_text s ++ after_run s rs
 abbrev pub runs_text : List Run → List ℕ
 runs_text [] = 45 ∷ []
 runs_text (r ∷ rs) = run_text r ++ after_run r rs
+
+-- some runs, of which the one with a place has so many bytes more
+abbrev pub grown : ℕ → ℕ → List Run → List Run
+grown place more [] = []
+grown place more (r ∷ rs) = if nat_lt place r.count then record { byte = r.byte; count = r.count + more } ∷ rs else r ∷ grown (place - r.count) more rs
 
 -- the one spelling of a list of bytes
 abbrev pub spelling : List ℕ → List ℕ

@@ -1,7 +1,7 @@
 //! Data as text, both ways. A list of bytes is cut into maximal runs of equal bytes. A run of four or more is
 //! `XX*N`, shorter ones are plain digits, and a dot stands between neighbours unless both are short; no bytes are `-`.
 
-ghost use Rattle.std.specs.Prelude.{◌≡◌, ◌==◌, ◌<◌, ◌≤◌, ◌↔◌, ◌++◌, ◌∷◌, IsTrue, List, [], ℕ, length, drop, replicate, None, Some, IfErr, IsErrOf, IfSome, IfOk};
+ghost use Rattle.std.specs.Prelude.{◌≡◌, ◌==◌, ◌<◌, ◌≤◌, ◌↔◌, ◌++◌, ◌∷◌, IsTrue, List, [], ℕ, length, drop, replicate, take, ◌+◌, ◌*◌, None, Some, IfErr, IsErrOf, IfSome, IfOk};
 ghost use Rattle.std.specs.List.{All, prefix_len};
 ghost use Rattle.xt_text.specs.Buffer.{put};
 ghost use Rattle.xt_text.specs.DataReading.{at_end, byte_value, front_at, hex_value, is_count, next, read_content, read_data, reads, spelled_data, with_run};
@@ -9,13 +9,15 @@ ghost use Rattle.xt_text.specs.Reading.{Gives, GivesAs};
 ghost use Rattle.xt_text.specs.Lines.{IsContent};
 ghost use Rattle.xt_text.specs.declared.bad_line.BadLine.TheVariants.{Memory, Spelling};
 ghost use Rattle.xt_text.specs.declared.data_text.Place.TheVariants.{Front};
-ghost use Rattle.xt_text.specs.DataText.{IsData, hex, hex_digit, is_short, run_text, runs, spelling};
+ghost use Rattle.xt_base.specs.Kept.{kept_bytes};
+ghost use Rattle.xt_text.specs.DataText.{IsData, between, grown, hex, hex_digit, is_short, run_text, runs, runs_text, spelling};
+ghost use Rattle.xt_text.specs.declared.data_text.Run.{Run as ARun};
 
 use crate::bad_line::BadLine;
 use crate::buffer::Text;
 use crate::numbers::{number_of, number_on, put_number};
 use std::alloc::Global;
-use xt_base::content::{Content, Data};
+use xt_base::content::{Content, Data, Kept};
 use xt_base::sizes::DATA_BYTES;
 
 /// The shortest run that is spelled with a count.
@@ -35,6 +37,13 @@ const SMALL_ROOM: usize = 256;
 struct Run {
     byte: u8,
     count: usize,
+}
+
+/// A place among some bytes, and how many bytes more the run has that holds it.
+#[derive(Clone, Copy, Debug)]
+struct Growth {
+    place: usize,
+    more: usize,
 }
 
 /// How far a part of the text has been read.
@@ -444,23 +453,97 @@ pub(crate) fn put_data(out: &mut Text, bytes: &Data)
         );
     } else if kept.count == 0 {
         put_bytes(out, &kept.bytes);
-    } else if bytes.len() <= SMALL_ROOM {
-        put_laid_out::<SMALL_ROOM>(out, bytes);
+    } else if kept.bytes.len() < SMALL_ROOM {
+        put_laid_out::<SMALL_ROOM>(out, kept);
     } else {
-        put_laid_out::<DATA_BYTES>(out, bytes);
+        put_laid_out::<DATA_BYTES>(out, kept);
     }
 }
 
-/// The same, where one byte stands many times among the others: all are laid out first, in a room of so many bytes.
-fn put_laid_out<const ROOM: usize>(out: &mut Text, bytes: &Data)
-    requires fits { length bytes.now ≤ ROOM }
+/// Lays out what data are kept as, with its byte once.
+fn lay_out(kept: &Kept, room: &mut [u8])
+    requires room { length room.old ≡ length kept.now.bytes.items + 1 }
+    requires first { kept.now.first ≤ length kept.now.bytes.items }
+    ensures { room.new ≡ take kept.now.first kept.now.bytes.items ++ replicate 1 kept.now.byte ++ drop kept.now.first kept.now.bytes.items }
+{
+    let (head, tail) = kept.bytes.split_at(kept.first as usize);
+    let (front, rest) = room.split_at_mut(head.len());
+    let (middle, back) = rest.split_at_mut(1);
+    front.copy_from_slice(head);
+    middle.fill(kept.byte);
+    back.copy_from_slice(tail);
+}
+
+/// The same, where one byte stands many times among the others: these are laid out with it once, in a room of so many bytes, and its
+/// run grows.
+#[tactic(auto, using(crate::proofs::RunLemmas::grown_spelling))]
+fn put_laid_out<const ROOM: usize>(out: &mut Text, kept: &Kept)
+    requires fits { length kept.now.bytes.items < ROOM }
     requires size { ROOM ≤ DATA_BYTES }
-    ensures { out.new ≡ put out.old (spelling bytes.now) }
+    requires few { length kept.now.bytes.items + kept.now.count ≤ DATA_BYTES }
+    requires some { 0 < kept.now.count }
+    requires first { kept.now.first ≤ length kept.now.bytes.items }
+    ensures { out.new ≡ put out.old (spelling (kept_bytes kept.now)) }
 {
     let mut room = [0; ROOM];
-    let all = &mut room[..bytes.len()];
-    bytes.copy_to(all);
-    put_bytes(out, all);
+    let all = &mut room[..kept.bytes.len() + 1];
+    lay_out(kept, all);
+    let growth = Growth {
+        place: kept.first as usize,
+        more: kept.count as usize - 1,
+    };
+    put_grown(out, all, growth);
+}
+
+/// A run that may hold the place that grows, and how the runs behind it grow.
+#[tactic(auto, using(crate::proofs::RunLemmas::grown_none))]
+fn grow(run: Run, growth: Growth) -> (Run, Growth)
+    requires { run.count + growth.more ≤ 2 * DATA_BYTES }
+    ensures first { (rs : List ARun) → grown growth.place growth.more (run ∷ rs) ≡ result.0 ∷ grown result.1.place result.1.more rs }
+    ensures more { result.1.more ≤ growth.more }
+{
+    if growth.place < run.count {
+        let count = run.count + growth.more;
+        let byte = run.byte;
+        (Run { byte, count }, Growth { place: 0, more: 0 })
+    } else {
+        let place = growth.place - run.count;
+        let more = growth.more;
+        (run, Growth { place, more })
+    }
+}
+
+/// Puts a dot between two runs, unless both are short.
+#[inline(always)]
+#[tactic(auto, using(crate::proofs::BufferLemmas::put_none))]
+fn put_between(out: &mut Text, last: Run, run: Run)
+    ensures { out.new ≡ put out.old (between last run) }
+{
+    if !(is_short(last) && is_short(run)) {
+        out.push(b'.');
+    }
+}
+
+/// Puts the runs of some bytes, of which one grows.
+#[tactic(auto, using(crate::proofs::BufferLemmas::put_put, crate::proofs::BufferLemmas::put_none))]
+fn put_grown(out: &mut Text, bytes: &[u8], growth: Growth)
+    requires some { 0 < length bytes.now }
+    requires few { length bytes.now + growth.more ≤ DATA_BYTES }
+    ensures { out.new ≡ put out.old (runs_text (grown growth.place growth.more (runs bytes.now))) }
+{
+    let own = first_run(bytes);
+    let (mut last, mut left) = grow(own, growth);
+    put_run(out, last);
+    let mut rest = &bytes[own.count..];
+    while !rest.is_empty() {
+        let own = first_run(rest);
+        let (run, after) = grow(own, left);
+        put_between(out, last, run);
+        put_run(out, run);
+        rest = &rest[own.count..];
+        last = run;
+        left = after;
+    }
 }
 
 /// Puts the one spelling of some bytes.
@@ -477,9 +560,7 @@ pub(crate) fn put_bytes(out: &mut Text, bytes: &[u8])
     let mut rest = &bytes[last.count..];
     while !rest.is_empty() {
         let run = first_run(rest);
-        if !(is_short(last) && is_short(run)) {
-            out.push(b'.');
-        }
+        put_between(out, last, run);
         put_run(out, run);
         rest = &rest[run.count..];
         last = run;

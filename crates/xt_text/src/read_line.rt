@@ -39,6 +39,7 @@ fn alloc_of(words: &[u8]) -> Result<Request, BadLine>
 }
 
 /// TRANS BLOCK.
+#[inline(always)]
 #[tactic(auto, unfolding(crate::specs::LineReading::own_of))]
 fn own_of(words: &[u8]) -> Result<(TransNo, Block), BadLine>
     ensures value { Gives result (own_of words.now) }
