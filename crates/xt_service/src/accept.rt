@@ -17,23 +17,44 @@ use xt_cell::house::House;
 use xt_host::desk::Desk;
 use xt_host::host::Host;
 
-/// How long it waits before it asks again for a stream, where a listener does not wait itself, in milliseconds.
-const REST_MILLIS: u64 = 10;
+/// How long it waits at first before it asks again for a stream, where a listener does not wait itself, in milliseconds.
+const FIRST_REST_MILLIS: u64 = 1;
+
+/// How long it waits then at most: twice as long each time while no client comes, so that a service that nobody calls costs next to nothing.
+const LONGEST_REST_MILLIS: u64 = 64;
 
 /// How long it waits where a stream could not be accepted, in milliseconds: others may end meanwhile, and give theirs back.
 const PAUSE_MILLIS: u64 = 100;
 
-/// Waits before a stream is asked for again. The first of some faults in a row is told on standard error: whether one was told.
-fn wait_after<R: Clock + Eprint>(rt: &R, error: &io::Error, is_told: bool) -> bool {
-    if error.kind() == ErrorKind::WouldBlock {
-        thread::sleep(rt, Duration::from_millis(REST_MILLIS));
-        return is_told;
+/// A wait for a stream: how long it rests next, in milliseconds, and whether a fault was told.
+#[derive(Drop)]
+struct Waiting {
+    rest: u64,
+    is_told: bool,
+}
+
+impl Waiting {
+    /// One that begins.
+    fn new() -> Self {
+        Waiting {
+            rest: FIRST_REST_MILLIS,
+            is_told: false,
+        }
     }
-    if !is_told {
-        let _ = eprintln!(rt; "accept: {error}; it is tried again");
+
+    /// Waits before a stream is asked for again. The first of some faults in a row is told on standard error.
+    fn wait_after<R: Clock + Eprint>(&mut self, rt: &R, error: &io::Error) {
+        if error.kind() == ErrorKind::WouldBlock {
+            thread::sleep(rt, Duration::from_millis(self.rest));
+            self.rest = self.rest.saturating_mul(2).min(LONGEST_REST_MILLIS);
+            return;
+        }
+        if !self.is_told {
+            let _ = eprintln!(rt; "accept: {error}; it is tried again");
+        }
+        self.is_told = true;
+        thread::sleep(rt, Duration::from_millis(PAUSE_MILLIS));
     }
-    thread::sleep(rt, Duration::from_millis(PAUSE_MILLIS));
-    true
 }
 
 /// The next stream of a listener; None once the door is shut. A stream that could not be accepted, as where its client went away before, or
@@ -43,14 +64,14 @@ fn next_stream<R: Wait + Clock + Eprint>(
     listener: &TcpListener,
     door: &Door,
 ) -> Option<TcpStream> {
-    let mut is_told = false;
+    let mut waiting = Waiting::new();
     for _ in rt.forever() {
         if door.is_shut() {
             return None;
         }
         match listener.accept() {
             Ok((stream, _client)) => return Some(stream),
-            Err(error) => is_told = wait_after(rt, &error, is_told),
+            Err(error) => waiting.wait_after(rt, &error),
         }
     }
     unreachable!()
