@@ -12,6 +12,14 @@ static double now(void)
     return (double)time.tv_sec + (double)time.tv_nsec * 1e-9;
 }
 
+/* The seconds of the clock. */
+static inline double clock_now(void)
+{
+    struct timespec time;
+    clock_gettime(CLOCK_MONOTONIC, &time);
+    return (double)time.tv_sec + (double)time.tv_nsec * 1e-9;
+}
+
 enum { MOST = 4096, SHIFTS = 251 };
 
 /* Up to 4,096 bytes to be written by a transaction: others for each, and no stretch of one byte, of which a kind of storage may make less. */

@@ -67,8 +67,11 @@ const CROWDS: [Crowd; 7] = [
     },
 ];
 
+/// From how many entries on the books of a service are folded (`xth serve`), and those of what is measured here.
+const SERVICE_ENTRIES: u64 = 4_096;
+
 /// From how many entries on books are folded, where that is measured: at each event, and less and less often.
-const BOOK_LIMITS: [u64; 4] = [1, 64, 4_096, BOOK_ENTRIES];
+const BOOK_LIMITS: [u64; 4] = [1, 64, SERVICE_ENTRIES, BOOK_ENTRIES];
 
 /// How many a second.
 fn rate(count: u32, took: Duration) -> u128 {
@@ -100,7 +103,7 @@ fn plans(alloc: Global, count: u32) -> [(&'static str, Plan); 3] {
                 task: small,
                 count,
                 mounts: 1,
-                book_limit: BOOK_ENTRIES,
+                book_limit: SERVICE_ENTRIES,
             },
         ),
         (
@@ -109,7 +112,7 @@ fn plans(alloc: Global, count: u32) -> [(&'static str, Plan); 3] {
                 task: whole,
                 count: count / 8,
                 mounts: 1,
-                book_limit: BOOK_ENTRIES,
+                book_limit: SERVICE_ENTRIES,
             },
         ),
         (
@@ -118,7 +121,7 @@ fn plans(alloc: Global, count: u32) -> [(&'static str, Plan); 3] {
                 task: small,
                 count: count / 16,
                 mounts: 16,
-                book_limit: BOOK_ENTRIES,
+                book_limit: SERVICE_ENTRIES,
             },
         ),
     ]
@@ -180,7 +183,7 @@ fn print_crew<R: Threads + Wait + Clock + Print + Sync>(rt: &R, report: Report) 
         task: Task::Share(Change::small(report.alloc)),
         count,
         mounts: 16,
-        book_limit: BOOK_ENTRIES,
+        book_limit: SERVICE_ENTRIES,
     };
     let took = time(rt, report.alloc, Blanks::new(), &plan)?;
     if report.has_figures {
@@ -203,7 +206,7 @@ fn call_cost<R: Threads + Wait + Clock + Sync>(
         task: Task::Call(Trial { call, crowd }),
         count: report.count,
         mounts: crowd.mounts,
-        book_limit: BOOK_ENTRIES,
+        book_limit: SERVICE_ENTRIES,
     };
     Ok(cost(report.count, time(rt, report.alloc, Blanks::new(), &plan)?))
 }
