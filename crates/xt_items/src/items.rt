@@ -427,14 +427,6 @@ fn joined(before: &Option<Chunks>, marks: Chunks) -> Chunks
     }
 }
 
-/// The room of a log vector, if there is one.
-fn room_of(vector: Option<LogVector>) -> Option<VectorRoom> {
-    match vector {
-        Some(vector) => vector.into_room(),
-        None => None,
-    }
-}
-
 /// A block has this log vector, which is its first where it `is_new`; the room of the one before it is kept for a later one. It takes no
 /// memory.
 fn keep_vector(
@@ -444,7 +436,7 @@ fn keep_vector(
     is_new: bool,
     vector: LogVector,
 )
-    requires new { is_new ≡ true → is_in block vectors.old ≡ false }
+    requires there { is_in block vectors.old ≡ not is_new }
     requires few { length vectors.old < ROOM }
     ensures { vectors.new ≡ put block vector vectors.old }
 {
@@ -452,8 +444,8 @@ fn keep_vector(
         vectors.put_new(block, vector);
         return;
     }
-    let before = vectors.exchange(block, vector);
-    spare_rooms.give(room_of(before));
+    let before = mem::replace(vectors.value_mut(block), vector);
+    spare_rooms.give(before.into_room());
 }
 
 /// All log vectors go, the last one first, and their rooms are kept for later ones. It takes no memory.

@@ -1,5 +1,5 @@
 use Rattle.std.proofs.Common.{◌∙◌, ap, subst, sym}
-use Rattle.std.specs.Prelude.{is_some, not, sum_by}
+use Rattle.std.specs.Prelude.{is_some, sum_by}
 use Rattle.xt_base.proofs.RisingLemmas.{each_put}
 use Rattle.xt_base.specs.Maps.{is_in, put}
 use Rattle.xt_base.specs.Sound.{Each}
@@ -21,8 +21,8 @@ invariant_of-self c =
       subst (Each HasFewChunks) (sym c.put.ensures) (each_put HasFewChunks block chunks cil c.weight_with-weight.ensures.few c.self.invariant.2),
     )
 
-pub keep_vector-requires-clause-new : goal.keep_vector-requires-clause-new
-keep_vector-requires-clause-new c is_new =
+pub keep_vector-requires-clause-there : goal.keep_vector-requires-clause-there
+keep_vector-requires-clause-there c =
     let block = c.args.block in
     sym (in_chunks block c.self.inside.vectors) ∙ ap (is_in block) c.self.invariant.0 ∙ ap (λ (l : Lists). is_in block l.cil) c.self.view_is
-    ∙ ap is_some (sym c.requires.before) ∙ c.is_none.ensures ∙ ap not is_new
+    ∙ ap is_some (sym c.requires.before) ∙ c.is_none.ensures
