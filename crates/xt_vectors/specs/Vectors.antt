@@ -1,17 +1,13 @@
 -- Log vectors: the chunks of a block that were logged, and their bytes.
-use Rattle.std.specs.Prelude.{List, None, Option, Some, Vec, [], map, ℕ}
+use Rattle.std.specs.Prelude.{Box, List, None, Option, Some, [], map, ℕ}
 use Rattle.std.specs.declared.alloc.Global.{Global}
 use Rattle.xt_base.specs.Text.{chunk_bytes, content_at}
+use Rattle.xt_vectors.specs.declared.vector.Parts.{Parts}
 
 -- chunks, and their bytes, one after another
 pub record Vector : Type 0 where
   pub chunks : List ℕ
   pub bytes : List ℕ
-
--- the bytes that are there
-abbrev pub bytes_in : Option (Vec ℕ Global) → List ℕ
-bytes_in None = []
-bytes_in (Some v) = v.items
 
 -- some chunks of a content
 abbrev pub vector : List ℕ → List ℕ → Vector
@@ -20,6 +16,11 @@ vector content set = record { chunks = set; bytes = chunk_bytes content set }
 -- no chunk
 abbrev pub no_vector : Vector
 no_vector = record { chunks = []; bytes = [] }
+
+-- what stands in a box, or no chunk
+abbrev pub vector_in : Option (Box Parts Global) → Vector
+vector_in None = no_vector
+vector_in (Some b) = record { chunks = b.value.chunks; bytes = b.value.bytes.items }
 
 -- the chunks of each block
 abbrev pub chunks_of : List (ℕ × Vector) → List (ℕ × List ℕ)

@@ -13,23 +13,30 @@ use xt_base::chunks::Chunks;
 use xt_base::content::Content;
 use xt_base::sizes::{BLOCK_BYTES, CHUNK_BYTES, CHUNKS};
 
-/// Chunks of a block and their bytes, by rising chunk, one after another (`xfs_log_vec`). Clauses see both.
+/// Chunks of a block, and room for their bytes or the bytes themselves.
+#[derive(Debug, Drop)]
+struct Parts {
+    chunks: Chunks,
+    bytes: Vec<u8>,
+}
+
+/// Chunks of a block and their bytes, by rising chunk, one after another (`xfs_log_vec`), in a box, so that what has a log vector is
+/// small; no box where there is no chunk. Clauses see both.
 #[derive(Debug, Drop)]
 pub struct LogVector {
-    chunks: Chunks,
-    bytes: Option<Vec<u8>>,
+    parts: Option<Box<Parts>>,
 }
 
 impl Model for LogVector {
     ghost use Rattle.std.specs.Prelude.{◌≡◌, ◌*◌, length};
     ghost use Rattle.xt_base.specs.declared.sizes.TheConstants.{CHUNK_BYTES};
-    ghost use Rattle.xt_vectors.specs.Vectors.{Vector, bytes_in};
+    ghost use Rattle.xt_vectors.specs.Vectors.{Vector, vector_in};
 
     ghost Value = { Vector };
 
-    ghost view = { λ v. record { chunks = v.chunks; bytes = bytes_in v.bytes } };
+    ghost view = { λ v. vector_in v.parts };
 
-    ghost invariant = { λ v. length (bytes_in v.bytes) ≡ CHUNK_BYTES * length v.chunks };
+    ghost invariant = { λ v. length (vector_in v.parts).bytes ≡ CHUNK_BYTES * length (vector_in v.parts).chunks };
 }
 
 impl LogVector {
@@ -37,24 +44,24 @@ impl LogVector {
     pub fn none() -> Self
         ensures { result ≡ no_vector }
     {
-        LogVector {
-            chunks: Chunks::none(),
-            bytes: None,
-        }
+        LogVector { parts: None }
     }
 
     /// Its chunks.
     pub fn chunks(&self) -> Chunks
         ensures { result ≡ self.now.chunks }
     {
-        self.chunks
+        match &self.parts {
+            Some(parts) => parts.chunks,
+            None => Chunks::none(),
+        }
     }
 
     /// The room that it had, if it had some that any block fits in, for a later one. It takes no memory.
     pub fn into_room(self) -> Option<VectorRoom> {
-        let LogVector { bytes, .. } = self;
-        match bytes {
-            Some(bytes) => emptied(bytes),
+        let LogVector { parts } = self;
+        match parts {
+            Some(parts) => emptied(parts),
             None => None,
         }
     }
@@ -64,8 +71,8 @@ impl LogVector {
         ensures value { result.now ≡ self.now.bytes }
         ensures form { length result.now ≡ CHUNK_BYTES * length self.now.chunks }
     {
-        match &self.bytes {
-            Some(bytes) => bytes,
+        match &self.parts {
+            Some(parts) => &parts.bytes,
             None => &[],
         }
     }
@@ -75,7 +82,7 @@ impl LogVector {
 /// smaller block gives the rest back. Clauses see nothing of it but that it is there.
 #[derive(Debug, Drop)]
 pub struct VectorRoom {
-    bytes: Vec<u8>,
+    parts: Box<Parts>,
 }
 
 impl Model for VectorRoom {
@@ -86,14 +93,16 @@ impl Model for VectorRoom {
 
     ghost view = { λ r. tt };
 
-    ghost invariant = { λ r. (r.bytes.items ≡ []) × (BLOCK_BYTES ≤ vec_capacity r.bytes) };
+    ghost invariant = { λ r. (r.parts.value.bytes.items ≡ []) × (BLOCK_BYTES ≤ vec_capacity r.parts.value.bytes) };
 }
 
 impl VectorRoom {
     /// Room for all chunks of a block. The one error is want of memory.
     pub fn new(alloc: Global) -> Result<Self, AllocError> {
+        let chunks = Chunks::none();
         let bytes = Vec::with_capacity(alloc, BLOCK_BYTES)?;
-        Ok(VectorRoom { bytes })
+        let parts = Box::new(alloc, Parts { chunks, bytes })?;
+        Ok(VectorRoom { parts })
     }
 
     /// A room that nobody needs any more, if there is one, else a new one. The one error is want of memory.
@@ -110,13 +119,12 @@ impl VectorRoom {
         requires { IsWithin (length content.now) chunks }
         ensures { result ≡ vector content.now chunks }
     {
-        let VectorRoom { mut bytes } = self;
-        push_chunks(&mut bytes, content, chunks);
-        give_back(&mut bytes, content_len(content));
-        LogVector {
-            chunks,
-            bytes: Some(bytes),
-        }
+        let VectorRoom { mut parts } = self;
+        push_chunks(&mut parts.bytes, content, chunks);
+        give_back(&mut parts.bytes, content_len(content));
+        parts.chunks = chunks;
+        let parts = Some(parts);
+        LogVector { parts }
     }
 }
 
@@ -129,12 +137,12 @@ pub(crate) fn content_len(content: &Content) -> usize
 }
 
 /// Room without bytes, where any block fits in.
-fn emptied(mut bytes: Vec<u8>) -> Option<VectorRoom> {
-    if bytes.capacity() < BLOCK_BYTES {
+fn emptied(mut parts: Box<Parts>) -> Option<VectorRoom> {
+    if parts.bytes.capacity() < BLOCK_BYTES {
         return None;
     }
-    bytes.clear();
-    Some(VectorRoom { bytes })
+    parts.bytes.clear();
+    Some(VectorRoom { parts })
 }
 
 /// What a room has beyond the length of a content that is shorter than others is given back: the log vectors of small blocks are
