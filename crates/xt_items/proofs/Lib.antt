@@ -4,3 +4,4 @@ pub mod MountLemmas
 pub mod WeightLemmas
 pub mod NewLemmas
 pub mod PassedLemmas
+pub mod SieveLemmas

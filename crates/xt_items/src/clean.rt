@@ -4,12 +4,12 @@ ghost use Rattle.std.specs.Prelude.{◌≡◌, ◌≤◌, filter, length, not};
 ghost use Rattle.xt_base.specs.Jobs.{written};
 ghost use Rattle.xt_base.specs.Maps.{has};
 
-use xt_base::map::NumberMap;
+use crate::sieved::SievedMap;
 use xt_base::names::Block;
 use xt_base::sizes::FLUSH_BLOCKS;
 
 /// The blocks whose write was answered Ok leave the active list; how many they are.
-pub(crate) fn remove_written(ail: &mut NumberMap<u64>, blocks: &[Block], answers: &[bool]) -> u32
+pub(crate) fn remove_written(ail: &mut SievedMap<u64>, blocks: &[Block], answers: &[bool]) -> u32
     requires each { length answers.now ≡ length blocks.now }
     requires few { length blocks.now ≤ FLUSH_BLOCKS }
     ensures count { result ≡ length (written blocks.now answers.now) }

@@ -13,6 +13,7 @@ ghost use Rattle.xt_vectors.specs.Vectors.{no_vector};
 
 use crate::clean::remove_written;
 use crate::plan::{Earliest, FlushPlan};
+use crate::sieved::SievedMap;
 use crate::spares::SpareRooms;
 use bytes::Bytes;
 use std::alloc::{AllocError, Global};
@@ -30,7 +31,7 @@ use xt_vectors::vector::{LogVector, VectorRoom};
 #[derive(Debug, Drop)]
 struct Flight {
     number: u64,
-    items: NumberMap<Chunks>,
+    items: SievedMap<Chunks>,
     pieces: Vec<Bytes>,
 }
 
@@ -48,12 +49,12 @@ impl Model for Flight {
 #[derive(Debug, Drop)]
 pub struct Items {
     open_number: u64,
-    cil: NumberMap<Chunks>,
+    cil: SievedMap<Chunks>,
     vectors: NumberMap<LogVector>,
     /// What the items of the commit list cost, without the ends of a text.
     weight: u64,
     flight: Option<Flight>,
-    ail: NumberMap<u64>,
+    ail: SievedMap<u64>,
     /// The list of a flight that has landed, for a later one.
     spare: Option<NumberMap<Chunks>>,
     /// The rooms of log vectors that are gone, for later ones.
@@ -79,9 +80,9 @@ impl Items {
     pub fn new(alloc: Global) -> Result<Self, AllocError>
         ensures { IfOk result (λ items. items ≡ no_items) }
     {
-        let cil = NumberMap::new(alloc)?;
+        let cil = SievedMap::new(alloc)?;
         let vectors = NumberMap::new(alloc)?;
-        let ail = NumberMap::new(alloc)?;
+        let ail = SievedMap::new(alloc)?;
         let spare_rooms = SpareRooms::new(alloc)?;
         Ok(Items {
             open_number: 1,
@@ -129,7 +130,7 @@ impl Items {
     pub fn list(&self) -> &NumberMap<Chunks>
         ensures { result.now ≡ self.now.cil }
     {
-        &self.cil
+        self.cil.map()
     }
 
     /// Whether a block is in flight.
@@ -257,9 +258,11 @@ impl Items {
         ensures { self.new ≡ record self.old { cil = put block vector.chunks self.old.cil; vectors = put block vector self.old.vectors } }
     {
         let chunks = vector.chunks();
-        let weight = self.weight_with(block, before, chunks);
-        self.cil.put(block, chunks);
-        self.weight = weight;
+        if !self.has_item(block, before, chunks) {
+            let weight = self.weight_with(block, before, chunks);
+            self.cil.put(block, chunks);
+            self.weight = weight;
+        }
         keep_vector(
             &mut self.vectors,
             &mut self.spare_rooms,
@@ -267,6 +270,19 @@ impl Items {
             before.is_none(),
             vector,
         );
+    }
+
+    /// Whether the block's item has these chunks already, where it has those before.
+    fn has_item(&self, block: u64, before: &Option<Chunks>, chunks: Chunks) -> bool
+        requires { before.now ≡ at block self.now.cil }
+        ensures { result ≡ true → put block chunks self.now.cil ≡ self.now.cil }
+    {
+        // For the proof, that the blocks rise: at run time nothing.
+        let _items = self.cil.entries();
+        match *before {
+            Some(before) => before.word() == chunks.word(),
+            None => false,
+        }
     }
 
     /// What the items of the commit list cost once the block's item has these chunks in place of those before.
@@ -329,7 +345,7 @@ impl Items {
           flight = Some (record { number = self.old.open_number; items = self.old.cil; pieces = pieces.items });
         } }
     {
-        let items = mem::replace(&mut self.cil, next);
+        let items = mem::replace(&mut self.cil, SievedMap::over(next));
         keep_rooms(&mut self.vectors, &mut self.spare_rooms);
         self.weight = 0;
         self.flight = Some(Flight {
@@ -349,7 +365,7 @@ impl Items {
     {
         if let Some(flight) = self.flight.take() {
             activate(&mut self.ail, flight.number, flight.items.entries());
-            self.spare = Some(flight.items);
+            self.spare = Some(flight.items.into_map());
         }
     }
 
@@ -409,11 +425,13 @@ impl Items {
         if !answers.sync {
             return 0;
         }
-        remove_written(
+        let gone = remove_written(
             &mut self.ail,
             plan.blocks(),
             &answers.writes[..answers.count as usize],
-        )
+        );
+        self.ail.refit();
+        gone
     }
 }
 
@@ -506,7 +524,7 @@ fn lesser(number: u64, other: Option<u64>) -> u64
 }
 
 /// Cancelled blocks leave the active list, and each other block goes there unless it is there.
-fn activate(ail: &mut NumberMap<u64>, number: u64, items: &[(u64, Chunks)])
+fn activate(ail: &mut SievedMap<u64>, number: u64, items: &[(u64, Chunks)])
     requires { length ail.old + length items.now ≤ ROOM }
     ensures { ail.new ≡ activated number items.now ail.old }
 {
@@ -516,7 +534,7 @@ fn activate(ail: &mut NumberMap<u64>, number: u64, items: &[(u64, Chunks)])
 }
 
 /// The same for one item.
-fn activate_one(ail: &mut NumberMap<u64>, number: u64, block: u64, chunks: Chunks)
+fn activate_one(ail: &mut SievedMap<u64>, number: u64, block: u64, chunks: Chunks)
     requires { length ail.old < ROOM }
     ensures list { ail.new ≡ (if length chunks == 0 then without block ail.old else (if is_in block ail.old then ail.old else put block number ail.old)) }
     ensures count { length ail.new ≤ length ail.old + 1 }

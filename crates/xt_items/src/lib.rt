@@ -4,6 +4,7 @@
 mod clean;
 pub mod items;
 pub mod plan;
+mod sieved;
 mod spares;
 
 pub use items::Items;
