@@ -31,7 +31,8 @@ impl Machine {
         self.place_refusal(trans, block)
     }
 
-    /// What refuses a block that may be locked otherwise: somebody else has it, or there is no room for one more that is busy.
+    /// What refuses a block that may be locked otherwise: somebody else has it, or there is no room for one more that is busy. Where there is
+    /// room anyway, it is not looked up whether the block is busy.
     pub fn place_refusal(&self, trans: TransNo, block: Block) -> Option<Errno>
         ensures refusal { result ≡ first_of (place_refusals trans block (state_of self.now)) }
         ensures free { result ≡ None → is_elsewhere (state_of self.now) trans block ≡ false }
@@ -39,7 +40,7 @@ impl Machine {
         if self.is_elsewhere(trans, block) {
             return Some(Errno::Again);
         }
-        if !self.is_busy(block) && self.is_full() {
+        if self.may_be_full() && !self.is_busy(block) && self.is_full() {
             return Some(Errno::NoBufs);
         }
         None

@@ -1,6 +1,6 @@
 //! The parts of a mount, and what several requests ask of them.
 
-ghost use Rattle.std.specs.Prelude.{◌≡◌, ◌≤◌, is_some, nat_le, IfErr, IfOk};
+ghost use Rattle.std.specs.Prelude.{◌≡◌, ◌≤◌, false, is_some, nat_le, IfErr, IfOk};
 ghost use Rattle.xt_base.specs.Calls.{asks_ckpt, asks_flush, is_elsewhere, is_own, shut_down};
 ghost use Rattle.xt_base.specs.Legs.{own_count};
 ghost use Rattle.xt_base.specs.Maps.{at};
@@ -98,11 +98,18 @@ impl Machine {
             + beside_ail(&self.locks, &self.accounts)
     }
 
-    /// Whether there is no room for one more busy block. Where all lists together are short, nothing is counted.
+    /// Whether there may be no room for one more busy block. Where all lists together are short there is, and nothing is counted.
+    pub fn may_be_full(&self) -> bool
+        ensures { result ≡ false → nat_le BUSY_BLOCKS (busy_count (state_of self.now)) ≡ false }
+    {
+        most_busy(&self.locks, &self.accounts) >= BUSY_BLOCKS
+    }
+
+    /// Whether there is no room for one more busy block.
     pub fn is_full(&self) -> bool
         ensures { result ≡ nat_le BUSY_BLOCKS (busy_count (state_of self.now)) }
     {
-        most_busy(&self.locks, &self.accounts) >= BUSY_BLOCKS && self.busy_count() >= BUSY_BLOCKS
+        self.may_be_full() && self.busy_count() >= BUSY_BLOCKS
     }
 
     /// The recursion count of a block that a transaction has.

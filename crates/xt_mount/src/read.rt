@@ -5,7 +5,7 @@ ghost use Rattle.xt_base.specs.Alone.{is_refusal};
 ghost use Rattle.xt_base.specs.Calls.{answered, asks, at_end, busied, first_of, gives, is_absent, is_elsewhere, is_fresh, is_own, is_resident, read as read_step, read_asks, read_refusals, with_owner, with_trans};
 ghost use Rattle.xt_base.specs.Legs.{is_dirty, is_stale, own_count};
 ghost use Rattle.xt_base.specs.Maps.{at, is_in};
-ghost use Rattle.xt_base.specs.Order.{has_size};
+ghost use Rattle.xt_base.specs.Order.{has_size, is_there};
 ghost use Rattle.xt_base.specs.Sound.{IsSound};
 ghost use Rattle.xt_base.specs.declared.steps.Owner.TheVariants.{Trans as OwnedBy};
 ghost use Rattle.xt_mount.specs.Come.{read_block};
@@ -46,11 +46,11 @@ impl Machine {
         self.place_refusal(trans, block)
     }
 
-    /// Whether a block is resident: busy and not fresh, or idle.
+    /// Whether a block is resident: idle, which is looked up in one place, or busy and not fresh.
     fn is_resident(&self, block: Block) -> bool
         ensures { result ≡ is_resident (state_of self.now) block }
     {
-        (self.is_busy(block) && !self.accounts.is_fresh(block.0)) || self.accounts.is_idle(block.0)
+        self.accounts.is_idle(block.0) || (self.is_busy(block) && !self.accounts.is_fresh(block.0))
     }
 
     /// Whether a block is neither the transaction's own nor resident.
@@ -126,8 +126,8 @@ impl Machine {
         Ok(Reply::Refused(Errno::Io))
     }
 
-    /// Locks a block with its content. The home device is asked where the block is neither own nor resident, and its
-    /// answer handed in.
+    /// Locks a block with its content. The home device is asked where nothing refuses the read and the block is neither own nor resident, and
+    /// just then its answer is handed in.
     pub fn read(
         &mut self,
         trans: TransNo,
@@ -135,6 +135,7 @@ impl Machine {
         answer: &Answer,
     ) -> Result<Reply, AllocError>
         requires sound { IsSound (state_of self.old) }
+        requires answered { is_there (read_asks trans block (state_of self.old) (at trans self.old.accounts.transactions)) answer.now ≡ true }
         requires size { has_size answer.now (Some (state_of self.old)) ≡ true }
         ensures ok { IfOk result (λ reply. gives reply (state_of self.new) ≡ with_trans (at trans self.old.accounts.transactions) (state_of self.old) (read_step trans block answer.now (state_of self.old))) }
         ensures err { OnErr result (state_of self.new ≡ state_of self.old) }
@@ -146,11 +147,12 @@ impl Machine {
         if let Some(errno) = self.read_refusal(&opened.leg(), trans, block) {
             return Ok(Reply::Refused(errno));
         }
-        if self.is_absent(trans, block) {
-            let dirty = opened.leg().is_dirty();
-            return self.take_answer(trans, block, dirty, answer);
+        // An answer is there exactly where the block is absent, so that is not looked up again.
+        if matches!(answer, Answer::None) {
+            self.lock(trans, block);
+            return Ok(Reply::Okay);
         }
-        self.lock(trans, block);
-        Ok(Reply::Okay)
+        let dirty = opened.leg().is_dirty();
+        self.take_answer(trans, block, dirty, answer)
     }
 }

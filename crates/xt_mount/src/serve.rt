@@ -2,9 +2,9 @@
 
 ghost use Rattle.std.specs.Prelude.{◌≡◌, ◌/◌, [], Some, true, if◌then◌else◌, IfOk, OnErr};
 ghost use Rattle.xt_base.specs.Alone.{may_want_memory};
-ghost use Rattle.xt_base.specs.Calls.{alone_with, gives};
+ghost use Rattle.xt_base.specs.Calls.{alone_with, asks, gives};
 ghost use Rattle.xt_base.specs.Jobs.{is_owed, is_wanted, is_worth};
-ghost use Rattle.xt_base.specs.Order.{has_size};
+ghost use Rattle.xt_base.specs.Order.{has_size, is_there};
 ghost use Rattle.xt_base.specs.Sized.{IsSized};
 ghost use Rattle.xt_base.specs.Sound.{IsSound};
 ghost use Rattle.xt_base.specs.declared.steps.Answer.{Answer as AnyAnswer};
@@ -24,6 +24,7 @@ impl Machine {
     pub fn serve(&mut self, request: &Request, answer: &Answer) -> Result<Reply, AllocError>
         requires sound { IsSound (state_of self.old) }
         requires sized { IsSized (state_of self.old) }
+        requires answered { is_there (asks request.now (state_of self.old)) answer.now ≡ true }
         requires size { has_size answer.now (Some (state_of self.old)) ≡ true }
         ensures ok { IfOk result (λ reply. gives reply (state_of self.new) ≡ alone_with [] request.now answer.now (state_of self.old)) }
         ensures err { OnErr result (state_of self.new ≡ state_of self.old) }
