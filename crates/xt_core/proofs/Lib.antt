@@ -10,4 +10,5 @@ pub mod HostRunLemmas
 pub mod ToldLemmas
 pub mod CellLemmas
 pub mod PlaceLemmas
+pub mod QuietLemmas
 pub mod OfferLemmas

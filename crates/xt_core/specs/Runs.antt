@@ -8,6 +8,7 @@ use Rattle.xt_base.specs.Steps.{slot_of, strike}
 use Rattle.xt_base.specs.declared.outcomes.RunFault.{RunFault}
 use Rattle.xt_base.specs.declared.outcomes.RunFault.TheVariants.{Disorder, Memory}
 use Rattle.xt_base.specs.declared.sizes.TheConstants.{SLOTS}
+use Rattle.xt_base.specs.declared.steps.Reply.{Reply}
 use Rattle.xt_base.specs.declared.steps.Step.{Step}
 use Rattle.xt_base.specs.declared.steps.Step.TheVariants.{End, Flush}
 use Rattle.xt_core.specs.Host.{Host, IsNew, IsStepped, lone_of, may_come}
@@ -47,6 +48,15 @@ pub record IsSaid (x : Step) (t : Said) (new old : Host) : Type 0 where
   pub place : t.slot ≡ slot_of x
   pub log : t.log ≡ (if is_no_memory t.reply then [] else (alone x (lone_of old (slot_of x))).log)
   pub home : t.home ≡ (if is_no_memory t.reply then [] else (alone x (lone_of old (slot_of x))).home)
+
+-- the turn of a step that is answered so: what its slot alone offers, or nothing where it is answered ENOMEM
+abbrev pub said_as : Step → Reply → Host → Said
+said_as x r host = record {
+  slot = slot_of x;
+  reply = r;
+  log = if is_no_memory r then [] else (alone x (lone_of host (slot_of x))).log;
+  home = if is_no_memory r then [] else (alone x (lone_of host (slot_of x))).home;
+}
 
 -- steps led to a host and told these turns, one after another: at first it was new, and each step was taken or answered ENOMEM
 pub data IsToldBy : List Step → List Said → Host → Type 0 where

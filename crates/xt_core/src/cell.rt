@@ -1,11 +1,13 @@
 //! One slot of the pure host: its mount, if there is one, and what the board shows of it.
 
-ghost use Rattle.std.specs.Prelude.{◌≡◌, ◌&&◌, length, true, IfOk, OnErr};
+ghost use Rattle.std.specs.Prelude.{◌≡◌, ◌&&◌, ◌≤◌, [], All, length, true, IfOk, IfSome, OnErr};
 ghost use Rattle.xt_base.specs.Alone.{alone, reason_of, shown};
 ghost use Rattle.xt_base.specs.Jobs.{fits_pieces, fits_plan, flight_pieces, flush_plan, is_begun, is_owed_as, is_waiting};
 ghost use Rattle.xt_base.specs.Order.{has_size, is_answer, is_there, mount_is, of_life, suits};
 ghost use Rattle.xt_base.specs.State.{empty};
 ghost use Rattle.xt_base.specs.Steps.{slot_of};
+ghost use Rattle.xt_base.specs.Text.{log_offers_of};
+ghost use Rattle.xt_base.specs.declared.sizes.TheConstants.{PIECE_BYTES};
 ghost use Rattle.xt_base.specs.declared.steps.Step.{Step as AStep};
 ghost use Rattle.xt_core.specs.Cells.{IsTurned, with_lone};
 ghost use Rattle.xt_core.specs.Runs.{is_offering};
@@ -13,6 +15,7 @@ ghost use Rattle.xt_frames.specs.Shares.{no_contents};
 ghost use Rattle.xt_mount.specs.Slots.{plan_in};
 
 use crate::offers::{home_offers, log_offers};
+use bytes::Bytes;
 use std::alloc::{AllocError, Global};
 use std::marker::Model;
 use xt_base::names::{JobName, Life, Slot};
@@ -127,6 +130,7 @@ impl SlotCell {
     }
 
     /// Whether the slot's state lets a step of it come.
+    #[inline(always)]
     pub fn suits(&self, step: &Step) -> bool
         requires { slot_of step.now ≡ self.now.slot }
         ensures { result ≡ suits step.now self.now.lone }
@@ -149,6 +153,21 @@ impl SlotCell {
     }
 
     // ---- what steps do
+    /// What the end of a checkpoint will have offered to the log device: the device's answers, and the pieces, which are lent; None of
+    /// another step.
+    pub fn ending(&self, step: &Step) -> Option<(LogAnswers, &[Bytes])>
+        requires suit { suits step.now self.now.lone ≡ true }
+        ensures log { IfSome result (λ p. (alone step.now self.now.lone).log ≡ log_offers_of p.0 p.1.now) }
+        ensures home { IfSome result (λ _. (alone step.now self.now.lone).home ≡ []) }
+        ensures fits { IfSome result (λ p. fits_pieces p.0 (length p.1.now) ≡ true) }
+        ensures short { IfSome result (λ p. All (λ piece. length piece ≤ PIECE_BYTES) p.1.now) }
+    {
+        match step {
+            Step::End { answers, .. } => Some((*answers, self.mount.pieces())),
+            _ => None,
+        }
+    }
+
     /// What a step will have offered: at an end the pieces, which are copied, and the sync; at a flush the contents of its
     /// plan, which are copied, and the sync. Reads are left aside. The one error is want of memory.
     pub fn offers(&self, alloc: Global, step: &Step) -> Result<Offers, AllocError>
@@ -192,6 +211,7 @@ impl SlotCell {
     }
 
     /// Serves a step of the slot that its state lets come: its reply, and what it makes of the slot.
+    #[inline(always)]
     pub fn serve(&mut self, step: &Step) -> Reply
         requires slot { slot_of step.now ≡ self.old.slot }
         requires suit { suits step.now self.old.lone ≡ true }

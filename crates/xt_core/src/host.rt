@@ -1,24 +1,28 @@
 //! The pure host: sixteen slots, one queue of names, and the hands of eight workers.
 
-ghost use Rattle.std.specs.Prelude.{◌≡◌, ◌↔◌, ◌<◌, ◌∷◌, ◌++◌, List, [], None, false, true, IfErr, IfOk, OnErr, OnOk, is_ok};
-ghost use Rattle.xt_base.specs.Alone.{reason_of, Said};
+ghost use Rattle.std.specs.Prelude.{◌≡◌, ◌↔◌, ◌<◌, ◌≤◌, ◌∷◌, ◌++◌, All, List, [], None, false, length, true, IfErr, IfOk, IfSome, OnErr, OnOk, is_ok};
+ghost use Rattle.xt_base.specs.Alone.{alone, reason_of, Said};
 ghost use Rattle.xt_base.specs.Isolation.{is_no_memory, told_then};
+ghost use Rattle.xt_base.specs.Jobs.{fits_pieces};
 ghost use Rattle.xt_base.specs.Order.{fits, post_of, told, Event};
 ghost use Rattle.xt_base.specs.Steps.{slot_of};
+ghost use Rattle.xt_base.specs.Text.{log_offers_of};
+ghost use Rattle.xt_base.specs.declared.sizes.TheConstants.{PIECE_BYTES};
 ghost use Rattle.xt_base.specs.declared.steps.Step.{Step as AStep};
 ghost use Rattle.xt_core.specs.declared.host.TurnFault.{TurnFault as ATurnFault};
 ghost use Rattle.xt_core.specs.Host.{happened, lone_of, may_come, was_refused, IsAfter, IsNew, IsStepped};
 ghost use Rattle.xt_core.specs.InPlace.{AreUnused};
-ghost use Rattle.xt_core.specs.Runs.{is_offering, IsMore, IsSaid, IsToldBy};
+ghost use Rattle.xt_core.specs.Runs.{is_offering, said_as, IsMore, IsSaid, IsToldBy};
 
 use crate::cell::SlotCell;
 use crate::turns::Turns;
+use bytes::Bytes;
 use std::alloc::{AllocError, Global};
 use std::marker::Model;
 use xt_base::names::{JobName, Slot};
 use xt_base::outcomes::{Disorder, Offers, Outcomes, Turn};
 use xt_base::sizes::SLOTS;
-use xt_base::steps::{Errno, Reason, Reply, Step};
+use xt_base::steps::{Errno, LogAnswers, Reason, Reply, Step};
 use xt_frames::table::FrameTable;
 
 /// The host. Clauses see the state of each slot by its number, the names that were posted and not taken, and what each
@@ -98,6 +102,7 @@ impl HostCore {
     }
 
     /// Whether a step may come now: the front of the queue and its worker's hand let it come, and the state of its own slot does.
+    #[inline(always)]
     pub(crate) fn can_take(&self, step: &Step) -> bool
         ensures { result ≡ may_come self.now step.now }
     {
@@ -120,6 +125,7 @@ impl HostCore {
     }
 
     /// Serves a step that is no post, and passes on what it does to the queue and the hands.
+    #[inline(always)]
     fn turn(&mut self, step: &Step) -> Reply
         requires may { may_come self.old step.now ≡ true }
         requires other { post_of step.now ≡ None }
@@ -134,6 +140,7 @@ impl HostCore {
     }
 
     /// Serves a step that may come.
+    #[inline(always)]
     fn serve(&mut self, step: &Step) -> Reply
         requires { may_come self.old step.now ≡ true }
         ensures stepped { IsStepped step.now result self.new self.old }
@@ -160,6 +167,37 @@ impl HostCore {
             return Err(Disorder);
         }
         Ok(self.serve(&step))
+    }
+
+    /// What the end of a checkpoint that may come will have offered to the log device: the device's answers, and the pieces, which are
+    /// lent, so that they can be told with no copy before it is taken. None of another step, and of one that may not come.
+    pub fn ending(&self, step: &Step) -> Option<(LogAnswers, &[Bytes])>
+        ensures log { IfSome result (λ p. (alone step.now (lone_of self.now (slot_of step.now))).log ≡ log_offers_of p.0 p.1.now) }
+        ensures home { IfSome result (λ _. (alone step.now (lone_of self.now (slot_of step.now))).home ≡ []) }
+        ensures fits { IfSome result (λ p. fits_pieces p.0 (length p.1.now) ≡ true) }
+        ensures short { IfSome result (λ p. All (λ piece. length piece ≤ PIECE_BYTES) p.1.now) }
+    {
+        if self.can_take(step) {
+            self.cells[step.slot().index()].ending(step)
+        } else {
+            None
+        }
+    }
+
+    /// Takes one step as `tell` does, and gives its reply alone: what it offers is told by who asked for it before. `Disorder` where it
+    /// may not come now, and then nothing changes. It takes no memory for what is told.
+    #[inline(always)]
+    pub fn answer(&mut self, step: &Step) -> Result<Reply, Disorder>
+        ensures said { IfOk result (λ reply. IsSaid step.now (said_as step.now reply self.old) self.new self.old) }
+        ensures told { (xs : List AStep) (turns : List Said) → IsToldBy xs turns self.old → IfOk result (λ reply. IsToldBy (xs ++ step.now ∷ []) (turns ++ said_as step.now reply self.old ∷ []) self.new) }
+        ensures quiet { IfOk result (λ reply. is_offering step.now ≡ false → said_as step.now reply self.old ≡ record { slot = slot_of step.now; reply = reply; log = []; home = [] }) }
+        ensures disorder { IfErr result (λ _. may_come self.old step.now ≡ false) }
+        ensures kept { OnErr result (self.new ≡ self.old) }
+    {
+        if !self.can_take(step) {
+            return Err(Disorder);
+        }
+        Ok(self.serve(step))
     }
 
     /// Takes a step that may come, and tells its turn: its reply, and what it offered, which is copied. The one error is want of
