@@ -1,6 +1,6 @@
 -- Lines read: the line of each step gives that step. Where answers are spelled, or a verb stands alone, other lines may give it too.
 use Rattle.std.specs.List.{after_first, before_first}
-use Rattle.std.specs.Prelude.{Bool, List, None, Option, Some, [], codes, false, if◌then◌else◌, length, nat_le, true, ℕ, ◌==◌, ◌∷◌}
+use Rattle.std.specs.Prelude.{Bool, List, None, Option, Some, [], codes, false, if◌then◌else◌, length, nat_le, true, ℕ, ◌++◌, ◌==◌, ◌≡◌, ◌∷◌}
 use Rattle.std.specs.Str.{bytes_eq}
 use Rattle.xt_base.specs.declared.names.JobKind.{JobKind}
 use Rattle.xt_base.specs.declared.names.JobKind.TheVariants.{Ckpt}
@@ -15,7 +15,7 @@ use Rattle.xt_text.specs.declared.parse.TheConstants.{LINE_BYTES}
 use Rattle.xt_text.specs.declared.words.TheConstants.{BLANK}
 use Rattle.xt_text.specs.DataReading.{read_content, spelled_data}
 use Rattle.xt_text.specs.HomeReading.{home_of}
-use Rattle.xt_text.specs.Lines.{line_of}
+use Rattle.xt_text.specs.Lines.{IsStep, line_of}
 use Rattle.xt_text.specs.Reading.{below, number_of, ◌>>=◌}
 
 -- what stands before the first separator of a text, all of it where there is none
@@ -267,3 +267,11 @@ is_strict other = true
 -- the step that a line is parsed as: the one that it gives, if this is that step's own line, and not too long
 unfoldable pub parsed : List ℕ → Option Step
 parsed line = if nat_le (length line) LINE_BYTES then (step_of line >>= λ step. if bytes_eq line (line_of step) then Some step else None) else None
+
+-- a line was read, and the step that it is parsed as was put behind others
+pub record IsReadBehind (line : List ℕ) (new old : List Step) : Type 0 where
+  pub step : Step
+  pub read : parsed line ≡ Some step
+  pub valid : IsStep step
+  pub own : line ≡ line_of step
+  pub behind : new ≡ old ++ step ∷ []

@@ -1,12 +1,12 @@
 //! Lines parsed as steps.
 
-ghost use Rattle.std.specs.Prelude.{◌≡◌, ◌≤◌, ◌↔◌, length, IfOk, IsErrOf, IsFalse, IsTrue, None, OnOk, Some};
+ghost use Rattle.std.specs.Prelude.{◌≡◌, ◌≤◌, ◌↔◌, length, IfOk, IsErrOf, IsFalse, IsTrue, None, OnErr, OnOk, Some};
 ghost use Rattle.xt_base.specs.declared.steps.Step.{Step as AnyStep};
-ghost use Rattle.xt_text.specs.LineReading.{is_strict, is_strict_request, parsed, step_of};
+ghost use Rattle.xt_text.specs.LineReading.{is_strict, is_strict_request, parsed, step_of, IsReadBehind};
 ghost use Rattle.xt_text.specs.Lines.{IsStep, line_of};
 ghost use Rattle.xt_text.specs.Reading.{Gives};
 ghost use Rattle.xt_text.specs.SessionLines.{takes_memory};
-ghost use Rattle.xt_text.specs.declared.bad_line.BadLine.TheVariants.{Memory};
+ghost use Rattle.xt_text.specs.declared.bad_line.BadLine.TheVariants.{Memory, Spelling};
 
 use crate::bad_line::BadLine;
 use crate::buffer::Text;
@@ -105,4 +105,32 @@ pub fn parse_line_in(alloc: Global, line: &[u8], text: &mut Text) -> Result<Step
         return Err(BadLine::Spelling);
     }
     read
+}
+
+/// `parse_line_in`, with the step put behind others: a step is large, so it is looked at where it stands, and moved no more. Where the
+/// line is bad, the others stand alone.
+#[tactic(auto, using(crate::proofs::ParseLemmas::other_parsed, crate::proofs::ParseLemmas::same_parsed, crate::proofs::ParseLemmas::long_parsed, crate::proofs::ParseLemmas::none_parsed))]
+pub fn parse_line_behind(
+    alloc: Global,
+    line: &[u8],
+    text: &mut Text,
+    steps: &mut Vec<Step>,
+) -> Result<(), BadLine>
+    ensures put { OnOk result (IsReadBehind line.now steps.new.items steps.old.items) }
+    ensures bad { IsErrOf result Spelling → parsed line.now ≡ None }
+    ensures kept { OnErr result (steps.new.items ≡ steps.old.items) }
+{
+    if line.len() > LINE_BYTES {
+        return Err(BadLine::Spelling);
+    }
+    let step = step_of(alloc, line, text)?;
+    let at = steps.len();
+    let Ok(()) = steps.push(step) else {
+        return Err(BadLine::Memory);
+    };
+    if is_line_of(line, &steps[at], text) {
+        return Ok(());
+    }
+    steps.pop();
+    Err(BadLine::Spelling)
 }

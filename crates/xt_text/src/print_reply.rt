@@ -3,6 +3,8 @@
 ghost use Rattle.std.specs.Fmt.{decimal};
 ghost use Rattle.std.specs.Prelude.{◌≡◌, ◌≤◌, ◌∷◌, ◌++◌, length, true};
 ghost use Rattle.xt_base.specs.Errors.{name_of};
+ghost use Rattle.xt_base.specs.declared.sizes.TheConstants.{DATA_BYTES};
+ghost use Rattle.xt_base.specs.declared.steps.LogOffer.{LogOffer as ALogOffer};
 ghost use Rattle.xt_text.specs.Buffer.{put};
 ghost use Rattle.xt_text.specs.Lines.{ckpt_text, ◌␣◌};
 ghost use Rattle.xt_text.specs.Replies.{held_text, home_offer_text, is_one_line, log_offer_text, reply_text, seen_text, slot_reply_text};
@@ -160,6 +162,29 @@ pub fn print_slot_reply(slot: Slot, reply: &Reply, out: &mut Text)
     put_number(out, slot.index() as u64);
     out.push(BLANK);
     print_reply(reply, out);
+}
+
+/// Puts a piece that was offered to a log device as `print_log_offer` does, from its bytes: it need not be copied to be told.
+#[tactic(auto, using(crate::proofs::BufferLemmas::put_put))]
+pub fn print_log_piece(slot: Slot, bytes: &[u8], ok: bool, out: &mut Text)
+    ensures text { out.new ≡ put out.old (log_offer_text slot (ALogOffer.Piece bytes.now ok)) }
+    ensures short { length bytes.now ≤ DATA_BYTES → length (log_offer_text slot (ALogOffer.Piece bytes.now ok)) ≤ 8400 }
+{
+    put_number(out, slot.index() as u64);
+    then_word(out, b"log");
+    then_bytes(out, bytes);
+    then_ok(out, ok);
+}
+
+/// Puts the sync behind the pieces that a log device took, as `print_log_offer` does.
+#[tactic(auto, using(crate::proofs::BufferLemmas::put_put))]
+pub fn print_log_sync(slot: Slot, ok: bool, out: &mut Text)
+    ensures text { out.new ≡ put out.old (log_offer_text slot (ALogOffer.Sync ok)) }
+    ensures short { length (log_offer_text slot (ALogOffer.Sync ok)) ≤ 8400 }
+{
+    put_number(out, slot.index() as u64);
+    then_word(out, b"logsync");
+    then_ok(out, ok);
 }
 
 /// Puts what was offered to a log device, with the slot in front and no newline in it or behind.

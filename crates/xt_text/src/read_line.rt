@@ -312,8 +312,8 @@ fn asked_of(
     })
 }
 
-/// A call: SLOT.LIFE, and the request. It stands apart, so that the other lines are read with none of what it lays out.
-#[inline(never)]
+/// A call: SLOT.LIFE, and the request. It is laid out with the line that it is read from, so that its step is not copied.
+#[inline(always)]
 #[tactic(auto, unfolding(crate::specs::LineReading::call_of))]
 fn call_of(alloc: Global, mount: &[u8], words: &[u8], text: &mut Text) -> Result<Step, BadLine>
     ensures value { Gives result (call_of mount.now words.now) }
