@@ -1,11 +1,13 @@
 -- Busy frames by their index: one more, one in the place of another, and one that goes.
-use Rattle.std.proofs.Common.{Err, Ok, OnOk, Result, append-nil, append_assoc, true, ◌≡◌, ◌≢◌, ◌∙◌, ◌+◌, ◌<◌, ◌≤◌, ◌++◌, ◌∷◌, List, None, Option, Some, [], add-one, ap, arith, drop, inl, inr, length, refl, subst, suc, sym, take, zero, ℕ}
+use Rattle.std.proofs.Common.{Err, Ok, OnErr, OnOk, Result, append-nil, append_assoc, true, ◌≡◌, ◌≢◌, ◌∙◌, ◌+◌, ◌<◌, ◌≤◌, ◌++◌, ◌∷◌, List, None, Option, Some, [], add-one, ap, arith, cond, drop, get_or, inl, inr, length, refl, set, subst, suc, sym, take, zero, ℕ}
 use Rattle.std.proofs.lemmas.Bool.{cases_eq, false≢true}
 use Rattle.std.proofs.lemmas.Grind.{common_steps}
-use Rattle.std.proofs.lemmas.List.{drop_all}
+use Rattle.std.proofs.lemmas.List.{drop_all, set-get_or}
 use Rattle.std.specs.List.{cons_option}
 use Rattle.std.specs.Prelude.{count_by, false, is_some, option_map, slice_get, slice_index_or}
-use Rattle.slab.specs.Slab.{Slab, Updates, get, slab_len}
+use Rattle.std.proofs.lemmas.List.Sums.{sum_by-cons}
+use Rattle.slab.proofs.SlabLemmas.{ContainsKey-within, Updates-set, Updates-with_value}
+use Rattle.slab.specs.Slab.{ContainsKey, Slab, Updates, get, slab_len, with_value}
 use Rattle.xt_base.proofs.MapLemmas.{at_first, at_later, some_same, without_first, without_later}
 use Rattle.xt_base.proofs.RisingLemmas.{each_at, each_map, each_other, each_put, length_put_new, rises_put, rises_without}
 use Rattle.xt_base.proofs.ViewLemmas.{at_view, put_without, rises_view, view_put, view_put_same, view_without}
@@ -170,10 +172,13 @@ module _ (frames cleared next : Slab Frame) (es : Index) (b key : ℕ) (content 
         | inr other ↦ ap (option_map (λ (x : Frame). x.0)) (kept e other) ∙ named
       ]
 
+  named_exchanged : Each (IsNamed next) es
+  named_exchanged = each_map (IsNamed frames) (IsNamed next) es named_at tied.named
+
   pub tied_exchanged : slab_len cleared + 1 ≡ slab_len frames → slab_len next ≡ slab_len cleared + 1 → cleared.capacity ≡ frames.capacity → next.capacity ≡ cleared.capacity → AreTied next es
   tied_exchanged fewer count less room = record {
     rising = tied.rising;
-    named = each_map (IsNamed frames) (IsNamed next) es named_at tied.named;
+    named = named_exchanged;
     count = count ∙ fewer ∙ tied.count;
     room = subst (λ n. 128 ≤ n) (sym (room ∙ less)) tied.room;
   }
@@ -345,3 +350,56 @@ busy_cleared frames more is = ap (busy_of frames) is
 pub if_ok : {T E P Q : Type 0} → (r : Result T E) → (P → Q) → OnOk r P → OnOk r Q
 if_ok (Ok x) f p = f p
 if_ok (Err e) f p = tt
+
+-- ---- one that is changed in its slot
+-- a value in the place of another leaves their count
+count_replaced : (xs : List (Option Frame)) (key : ℕ) (before after : Frame) → get_or xs key None ≡ Some before → count_by is_some (set xs key (Some after)) ≡ count_by is_some xs
+count_replaced [] key before after was = refl
+count_replaced (x ∷ xs) zero before after was = sym (ap (λ (o : Option Frame). count_by is_some (o ∷ xs)) was)
+count_replaced (x ∷ xs) (suc key) before after was =
+    sum_by-cons (λ (o : Option Frame). cond (is_some o) 1 0) x (set xs key (Some after)) ∙ ap (λ n. cond (is_some x) 1 0 + n) (count_replaced xs key before after was)
+    ∙ sym (sum_by-cons (λ (o : Option Frame). cond (is_some o) 1 0) x xs)
+
+module _ (frames : Slab Frame) (es : Index) (b key : ℕ) (before : Frame) (content : Framed) (tied : AreTied frames es) (there : at b es ≡ Some key) (was : get frames key ≡ Some before) where
+  abbrev cleared : Slab Frame
+  cleared = record frames { slots = set frames.slots key None }
+
+  is_there : ContainsKey frames key
+  is_there = ap is_some was
+
+  named_so : before.0 ≡ b
+  named_so = some_same before.0 b (sym (ap (option_map (λ (x : Frame). x.0)) was) ∙ each_at (IsNamed frames) b key es there tied.named)
+
+  replaced : Updates frames (with_value frames key (before.0, content)) key (Some (before.0, content))
+  replaced = Updates-with_value frames key (before.0, content) is_there
+
+  gone : Updates frames cleared key None
+  gone = Updates-set frames cleared key None (ContainsKey-within frames key is_there) refl
+
+  brought : Updates cleared (with_value frames key (before.0, content)) key (Some (b, content))
+  brought = record { changed = replaced.changed ∙ ap (λ (n : ℕ). Some (n, content)) named_so; others = λ other apart. replaced.others other apart ∙ sym (gone.others other apart) }
+
+  pub tied_in_slot : AreTied (with_value frames key (before.0, content)) es
+  tied_in_slot = record {
+    rising = tied.rising;
+    named = named_exchanged frames cleared (with_value frames key (before.0, content)) es b key content tied there gone brought;
+    count = count_replaced frames.slots key before (before.0, content) was ∙ tied.count;
+    room = tied.room;
+  }
+
+  pub changed_in_slot : (now : List Frame) → busy_of frames es ≡ now → (new : Framed → Framed) → content ≡ new before.1 → busy_of (with_value frames key (before.0, content)) es ≡ changed_in new b now
+  changed_in_slot now seen new is = changed frames cleared (with_value frames key (before.0, content)) es now b key before content tied seen there was gone brought new is
+
+  -- where it stays, all do
+  pub same_in_slot : content ≡ before.1 → busy_of (with_value frames key (before.0, content)) es ≡ busy_of frames es
+  same_in_slot is =
+      ap (λ c. busy_of (with_value frames key (before.0, c)) es) is ∙ ap (λ (o : Option Frame). busy_of (record frames { slots = set frames.slots key o }) es) (sym was)
+      ∙ ap (λ (xs : List (Option Frame)). busy_of (record frames { slots = xs }) es) (set-get_or frames.slots key None)
+
+pub if_err : {T E P Q : Type 0} → (r : Result T E) → (P → Q) → OnErr r P → OnErr r Q
+if_err (Ok x) f h = tt
+if_err (Err e) f h = f h
+
+-- a key of the index has a frame
+pub not_missing : (frames : Slab Frame) (es : Index) (b key : ℕ) → AreTied frames es → at b es ≡ Some key → get frames key ≡ None → ⊥
+not_missing frames es b key tied there none = false≢true (sym (ap is_some none) ∙ key_there frames es b key tied there)

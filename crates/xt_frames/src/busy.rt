@@ -179,10 +179,10 @@ impl BusyFrames {
         let Some(key) = self.index.get(block).copied() else {
             unreachable!();
         };
-        let (_, mut frame) = self.frames.remove(key);
-        let logged = frame.log(&mut self.spares, alloc, first, bytes);
-        let _place = self.frames.insert_reserved((block, frame));
-        logged
+        match self.frames.get_mut(key) {
+            Some(frame) => frame.1.log(&mut self.spares, alloc, first, bytes),
+            None => unreachable!(),
+        }
     }
 
     /// What a leg changed of a block is put back, if it has a frame. It takes no memory.
@@ -192,9 +192,10 @@ impl BusyFrames {
         let Some(key) = self.index.get(block).copied() else {
             return;
         };
-        let (_, mut frame) = self.frames.remove(key);
-        frame.undo(&mut self.spares);
-        let _place = self.frames.insert_reserved((block, frame));
+        match self.frames.get_mut(key) {
+            Some(frame) => frame.1.undo(&mut self.spares),
+            None => unreachable!(),
+        }
     }
 
     /// The bytes of a block that has a frame, as its leg has them, are committed. It takes no memory.
@@ -205,9 +206,10 @@ impl BusyFrames {
         let Some(key) = self.index.get(block).copied() else {
             unreachable!();
         };
-        let (_, mut frame) = self.frames.remove(key);
-        frame.commit(&mut self.spares);
-        let _place = self.frames.insert_reserved((block, frame));
+        match self.frames.get_mut(key) {
+            Some(frame) => frame.1.commit(&mut self.spares),
+            None => unreachable!(),
+        }
     }
 }
 
