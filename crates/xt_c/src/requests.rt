@@ -12,6 +12,15 @@ use xt_base::names::{Block, CkptNo, TransNo};
 use xt_base::sizes::DATA_BYTES;
 use xt_base::steps::{Answer, Errno, Request};
 
+/// A copy of bytes, made in one piece: byte by byte, as `to_vec` makes it, it takes several times as long. The one error is want of memory.
+fn copy_of(alloc: Global, bytes: &[u8]) -> Result<Vec<u8>, AllocError>
+    ensures { IfOk result (λ copy. copy.items ≡ bytes.now) }
+{
+    let mut copy = Vec::with_capacity(alloc, bytes.len())?;
+    copy.extend_from_slice(bytes)?;
+    Ok(copy)
+}
+
 /// These bytes, copied as they stand; None where they are more than 4,096. The one error is want of memory. They go with the call, so it does not pay
 /// to look for a stretch of one byte among them, as `Data::of` does.
 fn copied(alloc: Global, bytes: &[u8]) -> Result<Option<Data>, AllocError>
@@ -21,7 +30,7 @@ fn copied(alloc: Global, bytes: &[u8]) -> Result<Option<Data>, AllocError>
     if bytes.len() > DATA_BYTES {
         return Ok(None);
     }
-    Data::of_vec(alloc, bytes.to_vec(alloc)?)
+    Data::of_vec(alloc, copy_of(alloc, bytes)?)
 }
 
 /// A change of a block by these bytes. `Invalid` where they are too many.
