@@ -66,19 +66,19 @@ impl Machine {
         Reply::Flushed(count)
     }
 
-    /// Ends the outstanding flush by what the home device answered to the writes of its plan, and to the sync that follows. It
-    /// takes no memory.
-    pub fn flush(&mut self, answers: &HomeAnswers) -> Reply
+    /// Ends the outstanding flush of this plan, the one that stands now, by what the home device answered to its writes, and to the sync that
+    /// follows. It takes no memory.
+    pub fn flush(&mut self, plan: &FlushPlan, answers: &HomeAnswers) -> Reply
         requires sound { IsSound (state_of self.old) }
-        requires fits { fits_plan answers.now (flush_plan (state_of self.old)) ≡ true }
+        requires planned { plan.now ≡ flush_plan (state_of self.old) }
+        requires fits { fits_plan answers.now plan.now ≡ true }
         ensures { gives result (state_of self.new) ≡ flush_step [] answers.now (state_of self.old) }
     {
-        let plan = self.flush_plan();
         if plan.count() == 0 {
             self.unflushed();
             return Reply::Nothing;
         }
-        self.flushed(&plan, answers)
+        self.flushed(plan, answers)
     }
 
     /// How many bytes the log has, where the texts on it are of no use any more.

@@ -309,7 +309,20 @@ impl Mount {
         ensures flushed { gives result self.new ≡ flush_step [] answers self.old }
         ensures same { IsSameMount self.new self.old }
     {
+        let plan = self.machine.flush_plan();
+        self.flush_planned(name, &plan, answers)
+    }
+
+    /// The same for a caller that has the plan at hand, so that it is not made again.
+    pub fn flush_planned(&mut self, name: JobName, plan: &FlushPlan, answers: HomeAnswers) -> Reply
+        requires waiting { is_waiting name self.old ≡ true }
+        requires kind { is_ckpt name.kind ≡ false }
+        requires planned { plan.now ≡ flush_plan self.old }
+        requires fits { fits_plan answers plan.now ≡ true }
+        ensures flushed { gives result self.new ≡ flush_step [] answers self.old }
+        ensures same { IsSameMount self.new self.old }
+    {
         let _name = name;
-        self.machine.flush(&answers)
+        self.machine.flush(plan, &answers)
     }
 }

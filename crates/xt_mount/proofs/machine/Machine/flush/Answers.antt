@@ -5,4 +5,4 @@ use Rattle.xt_mount.specs.Machines.{state_of}
 
 pub returns : goal.returns
 returns c =
-    c.flushed.ensures ∙ flush_is (state_of c.args.self.now) c.args.answers.now c.flush_plan-plan.result c.flush_plan-plan.ensures (not_none c.flush_plan-plan.result c.count.result c.count.ensures.value c.if-count-eq0.false)
+    c.flushed.ensures ∙ flush_is (state_of c.args.self.now) c.args.answers.now c.args.plan.now c.requires.planned (not_none c.args.plan.now c.count.result c.count.ensures.value c.if-count-eq0.false)

@@ -1,7 +1,7 @@
 use Rattle.std.proofs.Common.{◌∙◌, [], ap}
 use Rattle.xt_base.specs.Jobs.{flush}
 use Rattle.xt_mount.proofs.MountLemmas.{flushed_whole}
-use Rattle.xt_mount.proofs.mount.Mount.flush.Goals as goal
+use Rattle.xt_mount.proofs.mount.Mount.flush_planned.Goals as goal
 use Rattle.xt_mount.specs.Machines.{state_of}
 
 pub invariant_of-self : goal.invariant_of-self
