@@ -9,10 +9,9 @@ use Rattle.xt_base.specs.Sound.{Each}
 use Rattle.xt_base.specs.declared.steps.Step.{Step}
 use Rattle.xt_offline.specs.Printing.{ended}
 use Rattle.xt_offline.specs.Script.{IsBadAt, IsBadLine, IsBadScript, IsCut, IsParsed, IsScript, is_one_line, script_text}
+use Rattle.xt_text.proofs.ParseLemmas.{parsed_again}
+use Rattle.xt_text.specs.LineReading.{IsReadBehind, parsed}
 use Rattle.xt_text.specs.Lines.{IsStep, line_of}
-use Rattle.xt_text.specs.Reading.{Gives}
-use Rattle.xt_text.specs.declared.bad_line.BadLine.{BadLine}
-use Rattle.xt_text.specs.declared.bad_line.BadLine.TheVariants.{Spelling}
 
 -- a list is cut at an element
 pub cut_at : {X : Type 0} (xs : List X) (i : ℕ) (x : X) → slice_get xs i ≡ Some x → xs ≡ take i xs ++ x ∷ drop (suc i) xs
@@ -109,6 +108,10 @@ parsed_more script steps rest line after x parsed cut left same valid = more par
     more (inl text) (inl c) = parsed_line script steps x after valid (text ∙ ap (λ t. script_text steps ++ t) (c ∙ (ap (λ t. t ++ 10 ∷ after) same ∙ line_before (line_of x) after))) parsed.valid
     more (inl text) (inr c) = subst (λ a. IsParsed script (steps ++ x ∷ []) a) (sym c.1) (parsed_last script steps x valid (text ∙ ap (λ t. script_text steps ++ t) (c.0 ∙ same)) parsed.valid)
 
+-- the same of a step that was put behind those that were read
+pub parsed_behind : (script : List ℕ) (steps longer : List Step) (rest line after : List ℕ) → IsParsed script steps rest → IsCut rest line after → rest ≢ [] → IsReadBehind line longer steps → IsParsed script longer after
+parsed_behind script steps longer rest line after parsed cut left read = subst (λ l. IsParsed script l after) (sym read.behind) (parsed_more script steps rest line after read.step parsed cut left read.own read.valid)
+
 -- what was read up to a limit and did not reach it is all that was left
 pub taken_whole : (xs : List ℕ) (n : ℕ) → length (take n xs) < n → take n xs ≡ xs
 taken_whole [] zero short = refl
@@ -150,8 +153,8 @@ bad_here script steps rest line after parsed cut left one bad = (steps, (line, (
     here (inl text) (inr c) = at (inl (text ∙ ap (λ t. script_text steps ++ t) c.0))
 
 -- a line at which a parser says Spelling is no step's
-pub bad_line : (line : List ℕ) (found : Result Step BadLine) → ((x : Step) → IsStep x → line ≡ line_of x → Gives found (Some x)) → found ≡ Err Spelling → IsBadLine line
-bad_line line found only is x valid same = some_none x _ (subst (λ r. Gives r (Some x)) is (only x valid same))
+pub bad_line : (line : List ℕ) → parsed line ≡ None → IsBadLine line
+bad_line line none x valid same = some_none x _ (sym (parsed_again x valid) ∙ ap parsed (sym same) ∙ none)
 
 -- all that was read
 pub all_parsed : (script : List ℕ) (steps : List Step) (rest : List ℕ) → IsParsed script steps rest → rest ≡ [] → IsScript script steps

@@ -12,7 +12,7 @@ use std::io::{self, Read};
 use xt_base::steps::Step;
 use xt_text::bad_line::BadLine;
 use xt_text::buffer::Text;
-use xt_text::parse::parse_line_in;
+use xt_text::parse::parse_line_behind;
 
 /// The most bytes of a script.
 pub const SCRIPT_BYTES: usize = 16_777_216;
@@ -72,11 +72,10 @@ pub fn parse_script(alloc: Global, script: &[u8]) -> Result<Vec<Step>, ScriptFau
     let mut rest = script;
     while !rest.is_empty() {
         let (line, after) = first_line(rest);
-        match parse_line_in(alloc, line, &mut text) {
-            Ok(step) => steps
-                .push(step)
-                .map_err(|_| ScriptFault::Memory(AllocError))?,
-            Err(BadLine::Spelling) => return Err(ScriptFault::BadLine(steps.len() + 1)),
+        let number = steps.len() + 1;
+        match parse_line_behind(alloc, line, &mut text, &mut steps) {
+            Ok(()) => {}
+            Err(BadLine::Spelling) => return Err(ScriptFault::BadLine(number)),
             Err(BadLine::Memory) => return Err(ScriptFault::Memory(AllocError)),
         }
         rest = after;

@@ -1,16 +1,20 @@
 //! `xth script` and `xth strike`: all lines are parsed, then run, or those of one slot, and each reply is printed as it is given, with
 //! the offers that its step made.
 
-ghost use Rattle.std.specs.Prelude.{◌≡◌, IfErr, IfOk, IfSome, OnErr, OnOk, false};
+ghost use Rattle.std.specs.Prelude.{◌≡◌, [], IfErr, IfOk, IfSome, OnErr, OnOk, false};
+ghost use Rattle.xt_base.specs.Alone.{alone};
 ghost use Rattle.xt_base.specs.Sound.{Each};
-ghost use Rattle.xt_core.specs.Host.{may_come};
+ghost use Rattle.xt_base.specs.Steps.{slot_of};
+ghost use Rattle.xt_core.specs.Host.{lone_of, may_come};
+ghost use Rattle.xt_core.specs.Runs.{is_offering};
 ghost use Rattle.xt_core.specs.declared.host.TurnFault.{TurnFault as ATurnFault};
 ghost use Rattle.xt_text.specs.Lines.{IsStep};
+ghost use Rattle.xt_offline.specs.Printing.{log_lines};
 ghost use Rattle.xt_offline.specs.Script.{is_of_script, picked, IsCutShort, IsFault, IsPlayed, IsPrinted, IsPutBehind, IsReported, IsRun};
 
 use crate::fault::ScriptFault;
 use crate::lines::{parse_script, read_script};
-use crate::printing::{print_broken, put_turn, write_lines};
+use crate::printing::{print_broken, put_ending, put_reply, put_turn, write_lines};
 use crate::writing::{write_bytes, write_numbered};
 use std::alloc::{AllocError, Global};
 use std::io::{self, Read, Write};
@@ -38,18 +42,101 @@ fn pick(alloc: Global, steps: Vec<Step>, only: Option<Slot>) -> Result<Vec<Step>
     }
 }
 
-/// Takes a step, and puts what it said behind the lines that wait to be written.
+/// Takes a step, and puts what it said behind the lines that wait to be written. Offers are put aside in a buffer that serves step
+/// after step.
 fn put_step(
     host: &mut HostCore,
     lines: &mut Vec<u8>,
+    offers: &mut Vec<u8>,
     text: &mut Text,
     step: &Step,
 ) -> Result<(), TurnFault>
     ensures put { OnOk result (IsPutBehind step.now host.new host.old lines.new.items lines.old.items) }
     ensures disorder { IfErr result (λ fault. fault ≡ ATurnFault.Disorder → (may_come host.old step.now ≡ false) × (lines.new.items ≡ lines.old.items)) }
 {
-    let turn = host.tell(step)?;
-    put_turn(lines, text, &turn).map_err(|_| TurnFault::Memory)
+    if is_offering(step) {
+        put_offering(host, lines, offers, text, step)
+    } else {
+        put_quiet(host, lines, text, step)
+    }
+}
+
+/// Whether a step offers something to a device: the end of a checkpoint, and a flush.
+fn is_offering(step: &Step) -> bool
+    ensures { result ≡ is_offering step.now }
+{
+    matches!(step, Step::End { .. } | Step::Flush { .. })
+}
+
+/// The same of a step that offers nothing.
+#[inline(always)]
+#[tactic(auto, using(crate::proofs::PutLemmas::put_quiet))]
+fn put_quiet(
+    host: &mut HostCore,
+    lines: &mut Vec<u8>,
+    text: &mut Text,
+    step: &Step,
+) -> Result<(), TurnFault>
+    requires { is_offering step.now ≡ false }
+    ensures put { OnOk result (IsPutBehind step.now host.new host.old lines.new.items lines.old.items) }
+    ensures disorder { IfErr result (λ fault. fault ≡ ATurnFault.Disorder → (may_come host.old step.now ≡ false) × (lines.new.items ≡ lines.old.items)) }
+{
+    let Ok(reply) = host.answer(step) else {
+        return Err(TurnFault::Disorder);
+    };
+    put_reply(lines, text, step.slot(), &reply).map_err(|_| TurnFault::Memory)
+}
+
+/// The same of a step that offers something. What the end of a checkpoint offers is put aside before the step is taken, so that the
+/// pieces need no copy.
+#[inline(never)]
+fn put_offering(
+    host: &mut HostCore,
+    lines: &mut Vec<u8>,
+    offers: &mut Vec<u8>,
+    text: &mut Text,
+    step: &Step,
+) -> Result<(), TurnFault>
+    ensures put { OnOk result (IsPutBehind step.now host.new host.old lines.new.items lines.old.items) }
+    ensures disorder { IfErr result (λ fault. fault ≡ ATurnFault.Disorder → (may_come host.old step.now ≡ false) × (lines.new.items ≡ lines.old.items)) }
+{
+    let Some((answers, pieces)) = host.ending(step) else {
+        let turn = host.tell(step)?;
+        return put_turn(lines, text, &turn).map_err(|_| TurnFault::Memory);
+    };
+    offers.clear();
+    let Ok(()) = put_ending(offers, text, step.slot(), answers, pieces) else {
+        return Err(TurnFault::Memory);
+    };
+    put_ended(host, lines, offers, text, step)
+}
+
+/// Takes the end of a checkpoint, whose offers are given as lines, and puts its reply and these behind the lines that wait.
+#[tactic(auto, using(crate::proofs::PutLemmas::put_refused, crate::proofs::PutLemmas::put_whole))]
+fn put_ended(
+    host: &mut HostCore,
+    lines: &mut Vec<u8>,
+    offers: &[u8],
+    text: &mut Text,
+    step: &Step,
+) -> Result<(), TurnFault>
+    requires log { offers.now ≡ log_lines (slot_of step.now) (alone step.now (lone_of host.old (slot_of step.now))).log }
+    requires home { (alone step.now (lone_of host.old (slot_of step.now))).home ≡ [] }
+    ensures put { OnOk result (IsPutBehind step.now host.new host.old lines.new.items lines.old.items) }
+    ensures disorder { IfErr result (λ fault. fault ≡ ATurnFault.Disorder → (may_come host.old step.now ≡ false) × (lines.new.items ≡ lines.old.items)) }
+{
+    let Ok(reply) = host.answer(step) else {
+        return Err(TurnFault::Disorder);
+    };
+    let Ok(()) = put_reply(lines, text, step.slot(), &reply) else {
+        return Err(TurnFault::Memory);
+    };
+    if reply.is_no_memory() {
+        return Ok(());
+    }
+    lines
+        .extend_from_slice(offers)
+        .map_err(|_| TurnFault::Memory)
 }
 
 /// Runs steps, and prints what each said, many lines at once: the status is 0, or 3 where one breaks order.
@@ -63,8 +150,9 @@ fn play_steps<W: Write>(alloc: Global, writer: &mut W, steps: &[Step]) -> Result
     let mut host = HostCore::new(alloc).map_err(ScriptFault::Memory)?;
     let mut text = Text::new(alloc).map_err(ScriptFault::Memory)?;
     let mut lines = Vec::new(alloc);
+    let mut offers = Vec::new(alloc);
     for (at, step) in steps.iter().enumerate() {
-        match put_step(&mut host, &mut lines, &mut text, step) {
+        match put_step(&mut host, &mut lines, &mut offers, &mut text, step) {
             Ok(()) => {}
             Err(TurnFault::Disorder) => {
                 print_broken(writer, &lines, at).map_err(ScriptFault::Io)?;
