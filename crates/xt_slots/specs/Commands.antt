@@ -1,10 +1,7 @@
 -- What each command makes of the seat that it is given by.
-use Rattle.std.specs.Prelude.{Bool, IfErr, IfOk, IfSome, List, None, OnErr, OnOk, false, slice_index, true, ℕ, ⊤, ◌<◌, ◌≡◌}
-use Rattle.xt_base.specs.Calls.{is_unmount}
+use Rattle.std.specs.Prelude.{IfErr, IfOk, IfSome, List, None, OnErr, OnOk, false, true, ℕ, ⊤, ◌≡◌}
 use Rattle.xt_base.specs.Isolation.{is_no_memory}
 use Rattle.xt_base.specs.Jobs.{is_ckpt}
-use Rattle.xt_base.specs.Replies.{is_read, may_get}
-use Rattle.xt_base.specs.declared.steps.Answer.{Answer}
 use Rattle.xt_base.specs.declared.steps.Answer.TheVariants as Answered
 use Rattle.xt_base.specs.declared.steps.HomeAnswers.{HomeAnswers}
 use Rattle.xt_base.specs.declared.steps.Reply.TheVariants.{Life, Okay, Refused}
@@ -26,34 +23,20 @@ with_counts counts s = record { caller = s.caller; counts = counts; receipts = s
 module _ {A B : Type 0} {IsA : A → Type 0} {IsB : B → Type 0} where
   -- the slot of a command
   abbrev pub slot_of : Command A B IsA IsB → ℕ
-  slot_of (Do.Call at request waits) = at.slot
   slot_of (Do.Mount slot log_bytes blocks size home log) = slot
   slot_of (Do.Unmount at) = at.slot
   slot_of (Do.Begin worker name) = name.slot
   slot_of (Do.End done) = done.name.slot
   slot_of (Do.Flush worker name) = name.slot
 
-  -- whether a command is a call that waits
-  abbrev pub does_wait : Command A B IsA IsB → Bool
-  does_wait (Do.Call at request waits) = waits
-  does_wait other = false
-
-  -- no call is an unmount, and a job is begun or flushed by its kind
+  -- a job is begun or flushed by its kind
   abbrev pub MayBe : Command A B IsA IsB → Type 0
-  MayBe (Do.Call at request waits) = is_unmount request ≡ false
   MayBe (Do.Begin worker name) = is_ckpt name.kind ≡ true
   MayBe (Do.Flush worker name) = is_ckpt name.kind ≡ false
   MayBe other = ⊤
 
   -- what comes of a command, and of the seat
   abbrev pub Did : Command A B IsA IsB → HostSeatView → HostSeatView → Outcome A B IsA IsB → Type 0
-  Did (Do.Call at request waits) old new (Came.Called reply) =
-      (is_no_memory reply ≡ true → IsSameSeat old new)
-      × (is_no_memory reply ≡ false → (answer : Answer) × Receives at.slot (Step.Call at.slot at.life request answer) reply old new)
-      × (is_no_memory reply ≡ false → is_read request ≡ false → Receives at.slot (Step.Call at.slot at.life request Answered.None) reply old new)
-      × (may_get request reply ≡ true)
-      × (request ≡ ARequest.Shutdown → reply ≡ Okay → word_of at.life None < slice_index new.board.seen at.slot)
-      × Rises old.board.seen new.board.seen
   Did (Do.Unmount at) old new (Came.Unmounted result) =
       IfErr result (λ errno. is_no_memory (Refused errno) ≡ true → IsSameSeat old new)
       × OnOk result (Receives at.slot (Step.Call at.slot at.life ARequest.Unmount Answered.None) Okay old new)

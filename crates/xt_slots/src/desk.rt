@@ -160,9 +160,23 @@ impl<H: House, R: Wait> Desk<H, R> for Slots<H> {
         ensures board { seat.new.board.board ≡ seat.old.board.board }
         ensures rises { Rises seat.old.board.seen seat.new.board.seen }
     {
-        let command = Command::Call { at, request, waits };
-        match self.serve(rt, seat, board, command) {
-            Outcome::Called(reply) => reply,
+        match at.slot.index() {
+            0 => self.c0.ask(rt, seat, board, at, request, waits),
+            1 => self.c1.ask(rt, seat, board, at, request, waits),
+            2 => self.c2.ask(rt, seat, board, at, request, waits),
+            3 => self.c3.ask(rt, seat, board, at, request, waits),
+            4 => self.c4.ask(rt, seat, board, at, request, waits),
+            5 => self.c5.ask(rt, seat, board, at, request, waits),
+            6 => self.c6.ask(rt, seat, board, at, request, waits),
+            7 => self.c7.ask(rt, seat, board, at, request, waits),
+            8 => self.c8.ask(rt, seat, board, at, request, waits),
+            9 => self.c9.ask(rt, seat, board, at, request, waits),
+            10 => self.c10.ask(rt, seat, board, at, request, waits),
+            11 => self.c11.ask(rt, seat, board, at, request, waits),
+            12 => self.c12.ask(rt, seat, board, at, request, waits),
+            13 => self.c13.ask(rt, seat, board, at, request, waits),
+            14 => self.c14.ask(rt, seat, board, at, request, waits),
+            15 => self.c15.ask(rt, seat, board, at, request, waits),
             _ => unreachable!(),
         }
     }

@@ -1,14 +1,28 @@
 //! The lock of one slot, with what those sleep on who wait for a change of it.
 
-ghost use Rattle.std.specs.Prelude.{◌≡◌, ◌<◌};
+ghost use Rattle.std.specs.Prelude.{◌≡◌, ◌<◌, None, false, slice_index, true};
+ghost use Rattle.xt_base.specs.Calls.{is_unmount};
+ghost use Rattle.xt_base.specs.Isolation.{is_no_memory};
+ghost use Rattle.xt_base.specs.Replies.{is_read, may_get};
 ghost use Rattle.xt_base.specs.declared.sizes.TheConstants.{SLOTS};
+ghost use Rattle.xt_base.specs.declared.steps.Answer.{Answer as AnAnswer};
+ghost use Rattle.xt_base.specs.declared.steps.Answer.TheVariants as Answered;
+ghost use Rattle.xt_base.specs.declared.steps.Reply.TheVariants.{Okay};
+ghost use Rattle.xt_base.specs.declared.steps.Request.TheVariants as ARequest;
+ghost use Rattle.xt_base.specs.declared.steps.Step.{Step as AStep};
+ghost use Rattle.xt_cell.specs.HostSeats.{IsSameSeat};
+ghost use Rattle.xt_queue.specs.Boards.{Rises};
+ghost use Rattle.xt_queue.specs.Words.{word_of};
+ghost use Rattle.xt_receipts.specs.Calls.{Receives};
 ghost use Rattle.xt_slots.specs.Commands.{Did, MayBe, slot_of, with_counts};
 
 use crate::commands::{Command, Outcome};
 use std::sync::{Condvar, Mutex, Wait};
+use xt_base::steps::{Reply, Request};
 use xt_cell::account::Account;
 use xt_cell::cell::SlotCell;
 use xt_cell::house::House;
+use xt_cell::mount_ref::MountRef;
 use xt_cell::seat::HostSeat;
 use xt_cell::shares::{Counts, Shares};
 use xt_queue::board::Board;
@@ -30,9 +44,44 @@ impl<H: House, const S: u8> SlotLock<H, S> {
         }
     }
 
+    /// Serves a request to a mount of the slot, whose book is folded first where it is at its limit, and then wakes all who wait for a
+    /// change of it. A request that waits, and is told to try again, lets nobody go: it wakes nobody, and sleeps. It does so from the same
+    /// hold on, so that it misses no change after its reply.
+    pub fn ask<R: Wait>(
+        &self,
+        rt: &R,
+        seat: &mut HostSeat<H>,
+        board: &Board,
+        at: MountRef,
+        request: Request,
+        waits: bool,
+    ) -> Reply
+    where
+        Shares<H>: Counts<H, S>,
+        requires slot { at.slot ≡ S }
+        requires kind { is_unmount request ≡ false }
+        requires board { seat.old.board.board ≡ board.now }
+        ensures refused { is_no_memory result ≡ true → IsSameSeat (with_counts (⟦<Shares<H> as Counts<H, S>>⟧.counts seat.old.counts) seat.old) (with_counts (⟦<Shares<H> as Counts<H, S>>⟧.counts seat.new.counts) seat.new) }
+        ensures received { is_no_memory result ≡ false → (answer : AnAnswer) × Receives at.slot (AStep.Call at.slot at.life request answer) result (with_counts (⟦<Shares<H> as Counts<H, S>>⟧.counts seat.old.counts) seat.old) (with_counts (⟦<Shares<H> as Counts<H, S>>⟧.counts seat.new.counts) seat.new) }
+        ensures unasked { is_no_memory result ≡ false → is_read request ≡ false → Receives at.slot (AStep.Call at.slot at.life request Answered.None) result (with_counts (⟦<Shares<H> as Counts<H, S>>⟧.counts seat.old.counts) seat.old) (with_counts (⟦<Shares<H> as Counts<H, S>>⟧.counts seat.new.counts) seat.new) }
+        ensures kind { may_get request result ≡ true }
+        ensures shut { request ≡ ARequest.Shutdown → result ≡ Okay → word_of at.life None < slice_index seat.new.board.seen at.slot }
+        ensures board { seat.new.board.board ≡ seat.old.board.board }
+        ensures rises { Rises seat.old.board.seen seat.new.board.seen }
+    {
+        let mut cell = self.cell.lock(rt);
+        cell.fold();
+        let reply = called(rt, &mut *cell, seat, board, at, request);
+        if waits && asks_again(&reply) {
+            let _cell = self.changed.wait(rt, cell);
+        } else {
+            drop(cell);
+            self.changed.notify_all();
+        }
+        reply
+    }
+
     /// Does a command with the slot, whose book is folded first where it is at its limit, and then wakes all who wait for a change of it.
-    /// A call that waits, and is told to try again, lets nobody go: it wakes nobody, and sleeps. It does so from the same hold on, so that
-    /// it misses no change after its reply.
     pub fn serve<R: Wait>(
         &self,
         rt: &R,
@@ -48,16 +97,11 @@ impl<H: House, const S: u8> SlotLock<H, S> {
         ensures did { Did command (with_counts (⟦<Shares<H> as Counts<H, S>>⟧.counts seat.old.counts) seat.old) (with_counts (⟦<Shares<H> as Counts<H, S>>⟧.counts seat.new.counts) seat.new) result }
         ensures board { seat.new.board.board ≡ seat.old.board.board }
     {
-        let waits = command.waits();
         let mut cell = self.cell.lock(rt);
         cell.fold();
         let outcome = command.run(rt, &mut *cell, seat, board);
-        if waits && is_to_sleep(&outcome) {
-            let _cell = self.changed.wait(rt, cell);
-        } else {
-            drop(cell);
-            self.changed.notify_all();
-        }
+        drop(cell);
+        self.changed.notify_all();
         outcome
     }
 
@@ -70,10 +114,27 @@ impl<H: House, const S: u8> SlotLock<H, S> {
     }
 }
 
-/// Whether what came of a command is a reply that asks to try again.
-fn is_to_sleep(outcome: &Outcome) -> bool {
-    match outcome {
-        Outcome::Called(reply) => asks_again(reply),
-        _ => false,
-    }
+/// Serves a request to a mount of a locked slot.
+fn called<H: House, R: Wait, const S: u8>(
+    rt: &R,
+    cell: &mut SlotCell<H, S>,
+    seat: &mut HostSeat<H>,
+    board: &Board,
+    at: MountRef,
+    request: Request,
+) -> Reply
+where
+    Shares<H>: Counts<H, S>,
+    requires slot { at.slot ≡ S }
+    requires kind { is_unmount request ≡ false }
+    requires board { seat.old.board.board ≡ board.now }
+    ensures refused { is_no_memory result ≡ true → IsSameSeat (with_counts (⟦<Shares<H> as Counts<H, S>>⟧.counts seat.old.counts) seat.old) (with_counts (⟦<Shares<H> as Counts<H, S>>⟧.counts seat.new.counts) seat.new) }
+    ensures received { is_no_memory result ≡ false → (answer : AnAnswer) × Receives at.slot (AStep.Call at.slot at.life request answer) result (with_counts (⟦<Shares<H> as Counts<H, S>>⟧.counts seat.old.counts) seat.old) (with_counts (⟦<Shares<H> as Counts<H, S>>⟧.counts seat.new.counts) seat.new) }
+    ensures unasked { is_no_memory result ≡ false → is_read request ≡ false → Receives at.slot (AStep.Call at.slot at.life request Answered.None) result (with_counts (⟦<Shares<H> as Counts<H, S>>⟧.counts seat.old.counts) seat.old) (with_counts (⟦<Shares<H> as Counts<H, S>>⟧.counts seat.new.counts) seat.new) }
+    ensures kind { may_get request result ≡ true }
+    ensures shut { request ≡ ARequest.Shutdown → result ≡ Okay → word_of at.life None < slice_index seat.new.board.seen at.slot }
+    ensures board { seat.new.board.board ≡ seat.old.board.board }
+    ensures rises { Rises seat.old.board.seen seat.new.board.seen }
+{
+    cell.call(rt, seat, board, at, request)
 }
