@@ -229,11 +229,12 @@ fn flush(
     let Some(name) = waiting(mount, JobKind::Flush, serial) else {
         return refusal(Errno::Invalid);
     };
-    let planned = plan_of(mount).count();
+    let plan = plan_of(mount);
+    let planned = plan.count();
     if count != u32::from(planned) {
         return refusal(Errno::Invalid);
     }
-    let told = mount.flush(name, home_answers(planned, written, synced));
+    let told = mount.flush_planned(name, &plan, home_answers(planned, written, synced));
     put_reply(reply, &told);
     status_of(&told)
 }

@@ -1,6 +1,7 @@
 //! Requests, read from a caller's words.
 
 ghost use Rattle.std.specs.Prelude.{◌≡◌, ◌==◌, ◌≤◌, ◌↔◌, ◌⊎◌, None, Some, IfErr, IfOk, IfSome, IsSome, length, true};
+ghost use Rattle.xt_base.specs.Form.{is_size};
 ghost use Rattle.xt_base.specs.declared.sizes.TheConstants.{DATA_BYTES};
 ghost use Rattle.xt_base.specs.declared.steps.Errno.TheVariants.{Invalid, NoMemory};
 ghost use Rattle.xt_c.specs.Requests.{answer_of, of_block, of_mount, request_of, logged};
@@ -8,6 +9,7 @@ ghost use Rattle.xt_c.specs.Requests.{answer_of, of_block, of_mount, request_of,
 use crate::words::RequestWords;
 use std::alloc::{AllocError, Global};
 use xt_base::content::{Content, Data};
+use xt_base::form::is_block_size;
 use xt_base::names::{Block, CkptNo, TransNo};
 use xt_base::sizes::DATA_BYTES;
 use xt_base::steps::{Answer, Errno, Request};
@@ -116,6 +118,17 @@ pub fn request_of(alloc: Global, from: RequestWords, bytes: &[u8]) -> Result<Req
     }
 }
 
+/// The content of these bytes, which are copied; None where a block may not have so many. The one error is want of memory.
+fn content_of(alloc: Global, bytes: &[u8]) -> Result<Option<Content>, AllocError>
+    ensures whole { IfOk result (λ found. IsSome found ↔ (is_size (Some (length bytes.now)) ≡ true)) }
+    ensures value { IfOk result (λ found. IfSome found (λ content. content ≡ bytes.now)) }
+{
+    if !is_block_size(bytes.len()) {
+        return Ok(None);
+    }
+    Content::of_vec(alloc, copy_of(alloc, bytes)?)
+}
+
 /// What was answered for a block: nothing yet, this content, or a failure. `Invalid` where the word says none of these, or a block may
 /// not have the content's length.
 pub fn answer_of(alloc: Global, word: u32, content: &[u8]) -> Result<Answer, Errno>
@@ -124,7 +137,7 @@ pub fn answer_of(alloc: Global, word: u32, content: &[u8]) -> Result<Answer, Err
 {
     match word {
         0 => Ok(Answer::None),
-        1 => match Content::of(alloc, content) {
+        1 => match content_of(alloc, content) {
             Ok(Some(content)) => Ok(Answer::Content(content)),
             Ok(None) => Err(Errno::Invalid),
             Err(_) => Err(Errno::NoMemory),
