@@ -1,12 +1,15 @@
 -- A call as the event of a locked slot.
-use Rattle.std.proofs.Common.{[], Bool, Option, ap, false, length, subst, true, ℕ, ◌+◌, ◌++◌, ◌∙◌, ◌≡◌, ◌∷◌}
+use Rattle.std.proofs.Common.{[], Bool, Option, ap, false, length, refl, subst, true, ℕ, ◌+◌, ◌++◌, ◌∙◌, ◌≡◌, ◌∷◌}
 use Rattle.std.specs.Prelude.{is_some, ◌&&◌}
 use Rattle.xt_base.specs.Alone.{is_okay}
 use Rattle.xt_base.specs.Calls.{is_unmount}
+use Rattle.xt_base.specs.Order.{has_size, is_there, mount_is, of_life}
 use Rattle.xt_base.specs.State.{State}
+use Rattle.xt_base.specs.declared.steps.Answer.{Answer}
 use Rattle.xt_base.specs.declared.steps.Reply.{Reply}
 use Rattle.xt_base.specs.declared.steps.Request.{Request}
 use Rattle.xt_base.specs.declared.steps.Step.{Step}
+use Rattle.xt_base.specs.declared.steps.Step.TheVariants.{Call}
 use Rattle.xt_cell.proofs.FactLemmas.{call_home, call_idle, call_last, call_log}
 use Rattle.xt_cell.specs.Books.{BaseView, BookView, IsSameBook, entry, next_number}
 use Rattle.xt_cell.specs.Cells.{IsStepOf}
@@ -14,6 +17,10 @@ use Rattle.xt_cell.specs.Events.{IsBooked}
 use Rattle.xt_cell.specs.Facts.{has_log, is_flown_by_job, is_last_post}
 use Rattle.xt_cell.specs.HostSeats.{HostSeatView, IsSameSeat, receipt}
 use Rattle.xt_mount.specs.Slots.{IsServed, SlotState}
+
+-- the step of a request, with its answer
+pub step_from : (slot life : ℕ) (request : Request) (o : Option State) (answer : Answer) → is_there (mount_is (of_life life request) o) answer ≡ true → has_size answer o ≡ true → IsStepOf slot life request o (Call slot life request answer)
+step_from slot life request o answer there size = record { answer = answer; is = refl; there = there; size = size }
 
 -- what is kept of a slot from one state to another
 pub record Keeps (new old : SlotState) : Type 0 where

@@ -1,6 +1,7 @@
 //! Calls and mounts in the book of a slot: each is served, and booked with its receipt.
 
 ghost use Rattle.std.specs.Prelude.{◌≡◌, ◌+◌, ◌≤◌, None, IfErr, IfOk, OnErr, true, false};
+ghost use Rattle.xt_base.specs.Carried.{may_leave_held};
 ghost use Rattle.xt_base.specs.Isolation.{is_no_memory};
 ghost use Rattle.xt_base.specs.Order.{suits};
 ghost use Rattle.xt_base.specs.Steps.{is_call, slot_of};
@@ -17,13 +18,53 @@ use crate::house::House;
 use crate::rooms::Rooms;
 use crate::seat::HostSeat;
 use crate::shares::{Counts, Shares};
-use crate::twin::{Twin, mount_twin, plain_twin};
+use crate::twin::{Twin, mount_twin, plain_step, plain_twin};
 use std::alloc::Global;
-use xt_base::steps::{Errno, Reply, Step};
+use xt_base::names::Life;
+use xt_base::steps::{Answer, Errno, Reply, Request, Step};
 use xt_mount::slot::MountSlot;
 
 impl<H: House, const S: u8> SlotBook<H, S> {
-    /// Serves a request to one life of the slot, and books it with its receipt; or it is refused memory, and nothing changes.
+    /// Serves a request to one life of the slot, with the home device's answer where it was asked, and books it with its receipt; or it is
+    /// refused memory, and nothing changes. A step that carries neither bytes nor a content is copied; another is shared.
+    #[inline(always)]
+    pub(crate) fn ask(
+        &mut self,
+        seat: &mut HostSeat<H>,
+        life: Life,
+        request: Request,
+        answer: Answer,
+        rooms: &mut Rooms,
+    ) -> Reply
+    where
+        Shares<H>: Counts<H, S>,
+        requires suits { suits (AStep.Call S life request answer) (lone_with 0 None self.old.state) ≡ true }
+        requires ready { may_leave_held request ≡ true → AreReady rooms.old }
+        requires room { 1 ≤ self.old.room }
+        requires seat { 1 ≤ seat.old.room }
+        ensures booked { is_no_memory result ≡ false → IsBooked S (AStep.Call S life request answer) result self.old self.new seat.old seat.new }
+        ensures counted { is_no_memory result ≡ false → ⟦<Shares<H> as Counts<H, S>>⟧.counts seat.new.counts ≡ counted S (⟦<Shares<H> as Counts<H, S>>⟧.counts seat.old.counts) }
+        ensures refused { is_no_memory result ≡ true → (self.new ≡ self.old) × (seat.new ≡ seat.old) }
+        ensures room { is_no_memory result ≡ false → self.new.room + 1 ≡ self.old.room }
+    {
+        let slot = self.slot().slot();
+        let copy = plain_step(slot, life, &request, &answer);
+        let step = Step::Call {
+            slot,
+            life,
+            request,
+            answer,
+        };
+        match copy {
+            Some(copy) => self.call(seat, Twin::of(copy, step), rooms),
+            None => match Twin::shared(self.alloc, step) {
+                Ok(step) => self.call(seat, step, rooms),
+                Err(_) => Reply::Refused(Errno::NoMemory),
+            },
+        }
+    }
+
+    /// Serves the step of a call, and books it with its receipt; or it is refused memory, and nothing changes.
     #[tactic(auto, using(crate::proofs::BookLemmas::few_events))]
     pub(crate) fn call(
         &mut self,
@@ -104,6 +145,7 @@ impl<H: House, const S: u8> SlotBook<H, S> {
 
 /// Serves the step of a call: its reply, and the same twice. The one error is want of memory, and then nothing changes.
 #[tactic(auto, using(crate::proofs::ServedLemmas::served_if, crate::proofs::ServedLemmas::kept_if, crate::proofs::ServedLemmas::content_keeps, crate::proofs::ServedLemmas::held_if))]
+#[inline(always)]
 fn serve(
     slot: &mut MountSlot,
     alloc: Global,

@@ -3,6 +3,7 @@
 ghost use Rattle.std.specs.Prelude.{◌≡◌, ◌+◌, ◌++◌, ◌<◌, ◌≤◌, ◌∷◌, ◌⊎◌, [], None, IfOk, IfSome, MatchOption, OnErr, OnOk, is_some, slice_index, false, true, ℕ};
 ghost use Rattle.xt_base.specs.Alone.{reason_of};
 ghost use Rattle.xt_base.specs.Calls.{is_unmount};
+ghost use Rattle.xt_base.specs.Carried.{may_leave_held};
 ghost use Rattle.xt_base.specs.Isolation.{is_no_memory};
 ghost use Rattle.xt_base.specs.Order.{has_size, is_there, mount_is, of_life};
 ghost use Rattle.xt_base.specs.Replies.{is_read, may_get};
@@ -13,7 +14,7 @@ ghost use Rattle.xt_base.specs.declared.steps.Reply.TheVariants.{Okay};
 ghost use Rattle.xt_base.specs.declared.steps.Request.TheVariants as ARequest;
 ghost use Rattle.xt_base.specs.declared.steps.Step.{Step as AStep};
 ghost use Rattle.xt_cell.specs.Asking.{failed_calls, failed_reads, read_calls, step_calls};
-ghost use Rattle.xt_cell.specs.Books.{IsSameBook, Readies, events_of, may_hold, unwritten};
+ghost use Rattle.xt_cell.specs.Books.{IsSameBook, Readies, events_of, unwritten};
 ghost use Rattle.xt_cell.specs.Counting.{counted};
 ghost use Rattle.xt_cell.specs.Cells.{IsEvent, IsShown, IsStepOf, is_shutdown, word_shown};
 ghost use Rattle.xt_cell.specs.Facts.{has_log, is_flown_by_job, is_last_post};
@@ -37,11 +38,10 @@ use crate::posting::post_both;
 use crate::rooms::Rooms;
 use crate::seat::HostSeat;
 use crate::shares::{Counts, Shares};
-use crate::twin::{Twin, call_twin};
 use std::alloc::{AllocError, Global};
 use std::sync::Wait;
 use xt_base::names::{JobName, Life};
-use xt_base::steps::{Answer, Errno, Reply, Request, Step};
+use xt_base::steps::{Answer, Errno, Reply, Request};
 use xt_dev::home::HomeDevice;
 use xt_dev::log::LogDevice;
 use xt_mount::mount::Stage;
@@ -214,36 +214,37 @@ fn asked<H: House, const S: u8>(
     }
 }
 
-/// Makes all that an event of a request needs: room, the home device's answer, and the step. The one error is want of memory.
+/// Makes what an event of a request needs before its step: room, and the home device's answer. The one error is want of memory.
+#[inline(always)]
 fn ready<H: House, const S: u8>(
     alloc: Global,
     book: &mut SlotBook<H, S>,
     seat: &mut HostSeat<H>,
     home: &mut Option<Box<dyn HomeDevice + Send>>,
     life: Life,
-    request: Request,
+    request: &Request,
     rooms: &mut Rooms,
-) -> Result<Twin<Step>, AllocError>
+) -> Result<Answer, AllocError>
     requires home { is_some home.old ≡ is_some book.old.state.mounted }
     ensures book { IsSameBook book.old book.new }
     ensures seat { IsSameSeat seat.old seat.new }
     ensures home { is_some home.new ≡ is_some home.old }
     ensures room { OnOk result (3 ≤ book.new.room) }
     ensures place { OnOk result (1 ≤ seat.new.room) }
-    ensures step { IfOk result (λ made. IsStepOf S life request book.old.state.mounted made.booked) }
-    ensures rooms { IfOk result (λ made. may_hold made.booked ≡ true → AreReady rooms.new) }
-    ensures tried { OnErr result ((home.new ≡ home.old) ⊎ ((answer : AnAnswer) × MatchOption home.old (home.new ≡ None) (λ h. IfSome home.new (λ k. Tells (home_tells h) (home_taken h) (read_calls (read_block request) answer) (home_tells k) (home_taken k))))) }
-    ensures asked { IfOk result (λ made. MatchOption home.old (home.new ≡ None) (λ h. IfSome home.new (λ k. Tells (home_tells h) (home_taken h) (step_calls made.booked) (home_tells k) (home_taken k)))) }
-    ensures failures { IfOk result (λ made. MatchOption home.old (home.new ≡ None) (λ h. IfSome home.new (λ k. home_failures k ≡ home_failures h + failed_calls made.booked))) }
+    ensures there { IfOk result (λ answer. is_there (mount_is (of_life life request.now) book.old.state.mounted) answer ≡ true) }
+    ensures size { IfOk result (λ answer. has_size answer book.old.state.mounted ≡ true) }
+    ensures rooms { OnOk result (may_leave_held request.now ≡ true → AreReady rooms.new) }
+    ensures tried { OnErr result (home.new ≡ home.old) }
+    ensures asked { IfOk result (λ answer. MatchOption home.old (home.new ≡ None) (λ h. IfSome home.new (λ k. Tells (home_tells h) (home_taken h) (read_calls (read_block request.now) answer) (home_tells k) (home_taken k)))) }
+    ensures failures { IfOk result (λ answer. MatchOption home.old (home.new ≡ None) (λ h. IfSome home.new (λ k. home_failures k ≡ home_failures h + failed_reads answer))) }
 {
     make_room(book, seat)?;
-    rooms.prepare(alloc, &request)?;
-    let answer = asked(alloc, book, home, life, &request)?;
-    let slot = book.slot().slot();
-    call_twin(alloc, slot, life, request, answer)
+    rooms.prepare(alloc, request)?;
+    asked(alloc, book, home, life, request)
 }
 
 /// Serves a request and books it with its posts, or is refused memory.
+#[inline(always)]
 fn serve_call<H: House, R: Wait, const S: u8>(
     rt: &R,
     alloc: Global,
@@ -272,10 +273,10 @@ where
     ensures counted { is_no_memory result ≡ false → ⟦<Shares<H> as Counts<H, S>>⟧.counts seat.new.counts ≡ counted S (⟦<Shares<H> as Counts<H, S>>⟧.counts seat.old.counts) }
     ensures failures { is_no_memory result ≡ false → (step : AStep) × (number : ℕ) × (seat.new.receipts ≡ seat.old.receipts ++ receipt S number step result ∷ []) × MatchOption home.old (home.new ≡ None) (λ h. IfSome home.new (λ k. home_failures k ≡ home_failures h + failed_calls step)) }
 {
-    let Ok(step) = ready(alloc, book, seat, home, life, request, rooms) else {
+    let Ok(answer) = ready(alloc, book, seat, home, life, &request, rooms) else {
         return Reply::Refused(Errno::NoMemory);
     };
-    let reply = book.call(seat, step, rooms);
+    let reply = book.ask(seat, life, request, answer, rooms);
     if !reply.is_no_memory() {
         post_both(rt, book, poster, seat.caller());
     }

@@ -14,6 +14,7 @@ use xt_base::steps::Reason;
 use xt_queue::board::Board;
 
 /// Makes room for an event and its posts in the book, and for its receipt at the seat. The one error is want of memory.
+#[inline(always)]
 pub fn make_room<H: House, const S: u8>(
     book: &mut SlotBook<H, S>,
     seat: &mut HostSeat<H>,

@@ -31,6 +31,7 @@ impl<T: Drop> Model for Kept<T> {
 
 impl<T: Drop> Kept<T> {
     /// A small value, made for this place.
+    #[inline(always)]
     pub(crate) fn own(value: T) -> Self
         ensures { result ≡ value }
     {

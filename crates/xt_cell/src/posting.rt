@@ -14,6 +14,7 @@ use xt_base::names::{Caller, JobKind};
 
 /// Posts the job of a kind that is owed, if there is one, and books that; where 32 names wait it stays owed.
 #[tactic(auto, using(crate::proofs::FactLemmas::follows, crate::proofs::FactLemmas::posted_last))]
+#[inline(always)]
 pub fn post_one<H: House, R: Wait, const S: u8>(
     rt: &R,
     book: &mut SlotBook<H, S>,

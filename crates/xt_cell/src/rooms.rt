@@ -31,6 +31,7 @@ impl Rooms {
 
     /// Makes what the reply to a request may need and is not there yet: a commit, a roll and a cancel may leave blocks held. The one
     /// error is want of memory.
+    #[inline(always)]
     pub(crate) fn prepare(&mut self, alloc: Global, request: &Request) -> Result<(), AllocError>
         ensures { OnOk result (may_leave_held request.now ≡ true → AreReady self.new) }
     {
@@ -45,6 +46,7 @@ impl Rooms {
 
     /// A reply twice. A content is copied once, and shared; the one error is want of memory for that. The rooms stay where the reply
     /// names no held block.
+    #[inline(always)]
     pub(crate) fn twin(&mut self, alloc: Global, reply: &Reply) -> Result<Twin<Reply>, AllocError>
         requires { names_held reply.now ≡ true → AreReady self.old }
         ensures ok { IfOk result (λ twin. twin.booked ≡ reply.now) }
@@ -53,6 +55,16 @@ impl Rooms {
         if let (Some(first), Some(second)) = (plain_reply(reply), plain_reply(reply)) {
             return Ok(Twin::of(first, second));
         }
+        self.carried_twin(alloc, reply)
+    }
+
+    /// The same of a reply that carries a content, or names held blocks.
+    #[inline(never)]
+    fn carried_twin(&mut self, alloc: Global, reply: &Reply) -> Result<Twin<Reply>, AllocError>
+        requires { names_held reply.now ≡ true → AreReady self.old }
+        ensures ok { IfOk result (λ twin. twin.booked ≡ reply.now) }
+        ensures err { OnErr result (carries_content reply.now ≡ true) }
+    {
         if let Reply::Data(content) = reply {
             return Twin::shared(alloc, Reply::Data(content.copy(alloc)?));
         }

@@ -27,6 +27,7 @@ impl<T: Drop> Twin<T> {
     }
 
     /// A small value, made twice.
+    #[inline(always)]
     pub fn of(first: T, second: T) -> Self
         requires { first ≡ second }
         ensures { result.booked ≡ first }
@@ -38,33 +39,52 @@ impl<T: Drop> Twin<T> {
     }
 }
 
-/// Whether the step of a call carries neither bytes nor a content, so that a copy of it takes no memory.
-fn is_plain(request: &Request, answer: &Answer) -> bool {
-    !matches!(request, Request::Log { .. }) && !matches!(answer, Answer::Content(_))
+/// A copy of a request that carries no bytes. It takes no memory; None where it carries some.
+fn plain_request(request: &Request) -> Option<Request>
+    ensures { IfSome result (λ copy. copy ≡ request.now) }
+{
+    let copy = match *request {
+        Request::Alloc { unit, count, perm } => Request::Alloc { unit, count, perm },
+        Request::Get { trans, block } => Request::Get { trans, block },
+        Request::Read { trans, block } => Request::Read { trans, block },
+        Request::View { trans, block } => Request::View { trans, block },
+        Request::Log { .. } => return None,
+        Request::Hold { trans, block } => Request::Hold { trans, block },
+        Request::Unhold { trans, block } => Request::Unhold { trans, block },
+        Request::Relse { trans, block } => Request::Relse { trans, block },
+        Request::Join { trans, block } => Request::Join { trans, block },
+        Request::Release { block } => Request::Release { block },
+        Request::Inval { trans, block } => Request::Inval { trans, block },
+        Request::Commit { trans } => Request::Commit { trans },
+        Request::Roll { trans } => Request::Roll { trans },
+        Request::Cancel { trans } => Request::Cancel { trans },
+        Request::Force => Request::Force,
+        Request::ForceTo { number } => Request::ForceTo { number },
+        Request::Push => Request::Push,
+        Request::Shutdown => Request::Shutdown,
+        Request::Freeze => Request::Freeze,
+        Request::Thaw => Request::Thaw,
+        Request::Unmount => Request::Unmount,
+    };
+    Some(copy)
 }
 
-/// The step of a call, twice. One that carries bytes or a content is shared; the one error is want of memory for that.
-pub(crate) fn call_twin(
-    alloc: Global,
-    slot: Slot,
-    life: Life,
-    request: Request,
-    answer: Answer,
-) -> Result<Twin<Step>, AllocError>
-    ensures { IfOk result (λ twin. twin.booked ≡ AStep.Call slot life request answer) }
+/// A copy of the step of a call that carries neither bytes nor a content. It takes no memory; None where it carries some.
+pub(crate) fn plain_step(slot: Slot, life: Life, request: &Request, answer: &Answer) -> Option<Step>
+    ensures { IfSome result (λ copy. copy ≡ AStep.Call slot life request.now answer.now) }
 {
-    let is_plain = is_plain(&request, &answer);
-    let step = Step::Call {
+    let answer = match answer {
+        Answer::None => Answer::None,
+        Answer::Failed => Answer::Failed,
+        Answer::Content(_) => return None,
+    };
+    let request = plain_request(request)?;
+    Some(Step::Call {
         slot,
         life,
         request,
         answer,
-    };
-    if is_plain {
-        Ok(Twin::of(step.copy(alloc)?, step))
-    } else {
-        Twin::shared(alloc, step)
-    }
+    })
 }
 
 /// The step of a mount, twice.
