@@ -394,9 +394,17 @@ fn empty_if(mount: &mut Option<Mount>, share: &mut Option<FrameShare>, is_gone: 
     ensures mount { mount.new ≡ (if is_gone then None else mount.old) }
     ensures share { share.new ≡ (if is_gone then share_left mount.old share.old else share.old) }
 {
-    if !is_gone {
-        return;
+    if is_gone {
+        vacate(mount, share);
     }
+}
+
+/// The slot is emptied, and has its share again. It stands apart, so that a call that ends no mount lays out nothing of an end.
+#[inline(never)]
+fn vacate(mount: &mut Option<Mount>, share: &mut Option<FrameShare>)
+    ensures mount { mount.new ≡ None }
+    ensures share { share.new ≡ share_left mount.old share.old }
+{
     if let Some(mounted) = mount.take() {
         *share = Some(mounted.into_share());
     }
