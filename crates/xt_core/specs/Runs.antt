@@ -78,6 +78,11 @@ is_offering (End worker name answers) = true
 is_offering (Flush worker name answers) = true
 is_offering other = false
 
+-- whether a step is the end of a checkpoint
+abbrev pub is_ending : Step → Bool
+is_ending (End worker name answers) = true
+is_ending other = false
+
 -- its turn was told
 abbrev pub IsMore : Step → Host → Host → Told → Told → Type 0
 IsMore x new old told_new told_old = (t : Said) × (IsSaid x t new old × (told_new ≡ told_then told_old t (reason_of (lone_of new (slot_of x)).mounted)) × (slot_of x < SLOTS))

@@ -1,6 +1,6 @@
 //! One slot of the pure host: its mount, if there is one, and what the board shows of it.
 
-ghost use Rattle.std.specs.Prelude.{◌≡◌, ◌&&◌, ◌≤◌, [], All, length, true, IfOk, IfSome, OnErr};
+ghost use Rattle.std.specs.Prelude.{◌≡◌, ◌&&◌, ◌≤◌, [], All, is_some, length, true, IfOk, IfSome, OnErr};
 ghost use Rattle.xt_base.specs.Alone.{alone, reason_of, shown};
 ghost use Rattle.xt_base.specs.Jobs.{fits_pieces, fits_plan, flight_pieces, flush_plan, is_begun, is_owed_as, is_waiting};
 ghost use Rattle.xt_base.specs.Order.{has_size, is_answer, is_there, mount_is, of_life, suits};
@@ -10,7 +10,7 @@ ghost use Rattle.xt_base.specs.Text.{log_offers_of};
 ghost use Rattle.xt_base.specs.declared.sizes.TheConstants.{PIECE_BYTES};
 ghost use Rattle.xt_base.specs.declared.steps.Step.{Step as AStep};
 ghost use Rattle.xt_core.specs.Cells.{IsTurned, with_lone};
-ghost use Rattle.xt_core.specs.Runs.{is_offering};
+ghost use Rattle.xt_core.specs.Runs.{is_ending, is_offering};
 ghost use Rattle.xt_frames.specs.Shares.{no_contents};
 ghost use Rattle.xt_mount.specs.Slots.{plan_in};
 
@@ -157,6 +157,7 @@ impl SlotCell {
     /// another step.
     pub fn ending(&self, step: &Step) -> Option<(LogAnswers, &[Bytes])>
         requires suit { suits step.now self.now.lone ≡ true }
+        ensures there { is_some result ≡ is_ending step.now }
         ensures log { IfSome result (λ p. (alone step.now self.now.lone).log ≡ log_offers_of p.0 p.1.now) }
         ensures home { IfSome result (λ _. (alone step.now self.now.lone).home ≡ []) }
         ensures fits { IfSome result (λ p. fits_pieces p.0 (length p.1.now) ≡ true) }

@@ -1,6 +1,6 @@
 //! The pure host: sixteen slots, one queue of names, and the hands of eight workers.
 
-ghost use Rattle.std.specs.Prelude.{◌≡◌, ◌↔◌, ◌<◌, ◌≤◌, ◌∷◌, ◌++◌, All, List, [], None, false, length, true, IfErr, IfOk, IfSome, OnErr, OnOk, is_ok};
+ghost use Rattle.std.specs.Prelude.{◌≡◌, ◌↔◌, ◌<◌, ◌≤◌, ◌∷◌, ◌++◌, ◌&&◌, All, List, [], None, false, length, true, IfErr, IfOk, IfSome, OnErr, OnOk, is_ok, is_some};
 ghost use Rattle.xt_base.specs.Alone.{alone, reason_of, Said};
 ghost use Rattle.xt_base.specs.Isolation.{is_no_memory, told_then};
 ghost use Rattle.xt_base.specs.Jobs.{fits_pieces};
@@ -12,7 +12,7 @@ ghost use Rattle.xt_base.specs.declared.steps.Step.{Step as AStep};
 ghost use Rattle.xt_core.specs.declared.host.TurnFault.{TurnFault as ATurnFault};
 ghost use Rattle.xt_core.specs.Host.{happened, lone_of, may_come, was_refused, IsAfter, IsNew, IsStepped};
 ghost use Rattle.xt_core.specs.InPlace.{AreUnused};
-ghost use Rattle.xt_core.specs.Runs.{is_offering, said_as, IsMore, IsSaid, IsToldBy};
+ghost use Rattle.xt_core.specs.Runs.{is_ending, is_offering, said_as, IsMore, IsSaid, IsToldBy};
 
 use crate::cell::SlotCell;
 use crate::turns::Turns;
@@ -172,6 +172,7 @@ impl HostCore {
     /// What the end of a checkpoint that may come will have offered to the log device: the device's answers, and the pieces, which are
     /// lent, so that they can be told with no copy before it is taken. None of another step, and of one that may not come.
     pub fn ending(&self, step: &Step) -> Option<(LogAnswers, &[Bytes])>
+        ensures there { is_some result ≡ (may_come self.now step.now && is_ending step.now) }
         ensures log { IfSome result (λ p. (alone step.now (lone_of self.now (slot_of step.now))).log ≡ log_offers_of p.0 p.1.now) }
         ensures home { IfSome result (λ _. (alone step.now (lone_of self.now (slot_of step.now))).home ≡ []) }
         ensures fits { IfSome result (λ p. fits_pieces p.0 (length p.1.now) ≡ true) }
