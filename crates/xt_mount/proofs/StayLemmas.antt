@@ -1,6 +1,6 @@
 -- Where a leg was committed or a checkpoint has landed and each block stays busy.
 use Rattle.std.proofs.Common.{◌≡◌, ◌≢◌, ◌∙◌, ◌⊎◌, ◌<◌, ◌∷◌, Bool, List, None, Option, Some, [], ap, arith, false, inl, inr, length, refl, subst, sym, true, ℕ}
-use Rattle.std.proofs.lemmas.Bool.{cases_Bool, false≢true, ne_eqb}
+use Rattle.std.proofs.lemmas.Bool.{cases_Bool, eqb-true, false≢true, ne_eqb}
 use Rattle.std.specs.List.{list_any}
 use Rattle.std.specs.Prelude.{IfSome, filter, filter_map, if◌then◌else◌, is_none, is_some, not, ◌&&◌, ◌==◌, ◌||◌}
 use Rattle.xt_base.proofs.KeyLemmas.{at_filter, at_filter_map, is_in_cons_cases, is_in_put_old}
@@ -14,14 +14,14 @@ use Rattle.xt_base.specs.Legs.{ended, is_stale, joined_marks, owned_by, owner_af
 use Rattle.xt_base.specs.Maps.{at, has, is_in, put, without}
 use Rattle.xt_base.specs.Sound.{AllBelow, Each, IsBetween, IsCancelledIn, IsFair, IsRising, IsSound, Owns}
 use Rattle.xt_base.specs.Space.{flight_items, is_busy}
-use Rattle.xt_base.specs.State.{Change, Flight, Frames, Items, State, Transaction}
+use Rattle.xt_base.specs.State.{Change, Flight, Frames, Items, Leg, State, Transaction}
 use Rattle.xt_base.specs.declared.steps.Owner.{Owner}
 use Rattle.xt_base.specs.declared.steps.Owner.TheVariants.{Held, Stale, Trans}
 use Rattle.xt_frames.specs.Settling.{AreOthersBusy}
 use Rattle.xt_items.specs.Lists.{flight_number}
 use Rattle.xt_mount.proofs.EndLemmas.{some_if}
 use Rattle.xt_mount.specs.Accounts.{AccountsState, landed_in}
-use Rattle.xt_mount.specs.Settling.{has_cancel, has_unchanged, is_busy_in}
+use Rattle.xt_mount.specs.Settling.{has_cancel, has_unchanged, has_unchanged_beside, is_busy_in}
 use Rattle.xt_base.proofs.MapLemmas.{some_same}
 
 -- ---- tests that no element passes
@@ -38,11 +38,47 @@ module _ {A : Type 0} (p : A → Bool) where
   each_fails [] h = tt
   each_fails (x ∷ xs) h = (or_first (p x) (list_any p xs) h, each_fails xs (or_second (p x) (list_any p xs) h))
 
--- one of a pair of tests that fails, where the other passes
-second_fails : (a b : Bool) → (a && not b) ≡ false → a ≡ true → b ≡ true
-second_fails true true h is = refl
-second_fails true false h is = absurd (false≢true (sym h))
-second_fails false b h is = absurd (false≢true is)
+-- three tests of which the first passes and some other does not
+second_or_third : (a b c : Bool) → (a && not b && not c) ≡ false → a ≡ true → (b ≡ true) ⊎ (c ≡ true)
+second_or_third true true c h is = inl refl
+second_or_third true false true h is = inr refl
+second_or_third true false false h is = absurd (false≢true (sym h))
+second_or_third false b c h is = absurd (false≢true is)
+
+-- three tests of which the first two don't both pass
+three_fail : (a b c : Bool) → (a && b) ≡ false → (a && b && c) ≡ false
+three_fail true true c h = absurd (false≢true (sym h))
+three_fail true false c h = refl
+three_fail false b c h = refl
+
+or_fails : (a b : Bool) → a ≡ false → b ≡ false → (a || b) ≡ false
+or_fails true b ha hb = absurd (false≢true (sym ha))
+or_fails false b ha hb = hb
+
+or_left : (a b : Bool) → a ≡ true → (a || b) ≡ true
+or_left true b h = refl
+or_left false b h = absurd (false≢true h)
+
+or_right : (a b : Bool) → b ≡ true → (a || b) ≡ true
+or_right true b h = refl
+or_right false b h = h
+
+-- a number is this one, or what was said of it holds
+this_or : (q b : ℕ) (x : Bool) → ((q == b) || x) ≡ true → (q ≡ b) ⊎ (x ≡ true)
+this_or q b x h =
+    elim (cases_Bool (q == b)) [
+      | inl same ↦ inl (eqb-true q b same)
+      | inr other ↦ inr (sym (ap (λ y. y || x) other) ∙ h)
+    ]
+
+-- a transaction whose leg changed each block that it has has none beside this one
+pub none_beside : (b t : ℕ) (leg : Leg) (owners : List (ℕ × Owner)) → has_unchanged t leg owners ≡ false → has_unchanged_beside b t leg owners ≡ false
+none_beside b t leg [] h = refl
+none_beside b t leg (e ∷ es) h =
+    let here : Bool = owned_by t e.1 && not (is_in e.0 leg.changes) in
+    or_fails _ (has_unchanged_beside b t leg es)
+    (three_fail (owned_by t e.1) (not (is_in e.0 leg.changes)) (not (e.0 == b)) (or_first here (has_unchanged t leg es) h))
+    (none_beside b t leg es (or_second here (has_unchanged t leg es) h))
 
 -- the first of two, where the test fails
 first_of_two : (x : Bool) (v w : Option (ℕ × Owner)) → x ≡ false → (if not x then v else w) ≡ v
@@ -162,66 +198,68 @@ all_marked q (e ∷ cs) m (inr old) =
     let marks : List ℕ = joined_marks (at e.0 m) e.1 in
     all_marked q cs (put e.0 marks m) (inr (is_in_put_old q e.0 marks m old))
 
-module _ (s : State) (t : ℕ) (trans : Transaction) (sound : IsSound s) (there : at t s.transactions ≡ Some trans) (changed : has_unchanged t trans.leg s.owners ≡ false) where
-  owned_changed : Each (λ e. (owned_by t e.1 && not (is_in e.0 trans.leg.changes)) ≡ false) s.owners
-  owned_changed = each_fails (λ (e : ℕ × Owner). owned_by t e.1 && not (is_in e.0 trans.leg.changes)) s.owners changed
+module _ (s : State) (t block : ℕ) (trans : Transaction) (sound : IsSound s) (there : at t s.transactions ≡ Some trans) (changed : has_unchanged_beside block t trans.leg s.owners ≡ false) where
+  owned_changed : Each (λ e. (owned_by t e.1 && not (is_in e.0 trans.leg.changes) && not (e.0 == block)) ≡ false) s.owners
+  owned_changed = each_fails (λ (e : ℕ × Owner). owned_by t e.1 && not (is_in e.0 trans.leg.changes) && not (e.0 == block)) s.owners changed
 
-  -- a block that somebody has is busy after the commit
+  -- a block that somebody has is busy after the commit, but perhaps this one
   busy_had : (b : ℕ) (o : Option Owner) → at b s.owners ≡ o → is_some o ≡ true
-      → is_busy_in (filter_map (owner_after t trans.leg s.items.open_number) s.owners) (record s.items { cil = with_marks trans.leg.changes s.items.cil }) b ≡ true
+      → ((b == block) || is_busy_in (filter_map (owner_after t trans.leg s.items.open_number) s.owners) (record s.items { cil = with_marks trans.leg.changes s.items.cil }) b) ≡ true
   busy_had b None is had = absurd (false≢true had)
   busy_had b (Some o) is had =
       let ns : List (ℕ × Owner) = filter_map (owner_after t trans.leg s.items.open_number) s.owners in
       let n : Items = record s.items { cil = with_marks trans.leg.changes s.items.cil } in
       elim (cases_Bool (owned_by t o)) [
         | inl own ↦
-            busy_committed ns n b (all_marked b trans.leg.changes s.items.cil
-            (inl (second_fails (owned_by t o) (is_in b trans.leg.changes) (each_at (λ e. (owned_by t e.1 && not (is_in e.0 trans.leg.changes)) ≡ false) b o s.owners is owned_changed) own)))
+            elim (second_or_third (owned_by t o) (is_in b trans.leg.changes) (b == block) (each_at (λ e. (owned_by t e.1 && not (is_in e.0 trans.leg.changes) && not (e.0 == block)) ≡ false) b o s.owners is owned_changed) own) [
+              | inl marked ↦ or_right (b == block) (is_busy_in ns n b) (busy_committed ns n b (all_marked b trans.leg.changes s.items.cil (inl marked)))
+              | inr same ↦ or_left (b == block) (is_busy_in ns n b) same
+            ]
         | inr other ↦
-            busy_owned ns n b (ap is_some (at_filter_map b o (owner_after t trans.leg s.items.open_number) s.owners (keeps_owner_after t trans.leg s.items.open_number) is (first_of_two (owned_by t o) (Some (b, o)) (if is_stale b trans.leg then Some (b, Stale s.items.open_number) else (if has trans.leg.holds b then Some (b, Held) else None)) other)))
+            or_right (b == block) (is_busy_in ns n b)
+            (busy_owned ns n b (ap is_some (at_filter_map b o (owner_after t trans.leg s.items.open_number) s.owners (keeps_owner_after t trans.leg s.items.open_number) is (first_of_two (owned_by t o) (Some (b, o)) (if is_stale b trans.leg then Some (b, Stale s.items.open_number) else (if has trans.leg.holds b then Some (b, Held) else None)) other))))
       ]
 
-  -- each busy block is busy after the commit
-  busy_ended : (b : ℕ) → is_busy s b ≡ true → is_busy_in (filter_map (owner_after t trans.leg s.items.open_number) s.owners) (record s.items { cil = with_marks trans.leg.changes s.items.cil }) b ≡ true
+  -- each busy block is busy after the commit, but perhaps this one
+  busy_ended : (b : ℕ) → is_busy s b ≡ true
+      → (b ≡ block) ⊎ (is_busy_in (filter_map (owner_after t trans.leg s.items.open_number) s.owners) (record s.items { cil = with_marks trans.leg.changes s.items.cil }) b ≡ true)
   busy_ended b busy =
       let ns : List (ℕ × Owner) = filter_map (owner_after t trans.leg s.items.open_number) s.owners in
       let n : Items = record s.items { cil = with_marks trans.leg.changes s.items.cil } in
-      busy_by s.owners s.items b (is_busy_in ns n b)
+      this_or b block (is_busy_in ns n b)
+      (busy_by s.owners s.items b ((b == block) || is_busy_in ns n b)
       (λ owned. busy_had b (at b s.owners) refl owned)
-      (λ listed. busy_committed ns n b (all_marked b trans.leg.changes s.items.cil (inr listed)))
-      (busy_flying ns n b) (busy_active ns n b) busy
+      (λ listed. or_right (b == block) (is_busy_in ns n b) (busy_committed ns n b (all_marked b trans.leg.changes s.items.cil (inr listed))))
+      (λ flies. or_right (b == block) (is_busy_in ns n b) (busy_flying ns n b flies))
+      (λ active. or_right (b == block) (is_busy_in ns n b) (busy_active ns n b active)) busy)
 
-  -- each block that has a content is busy after the commit
-  pub others_ended : AreOthersBusy (is_busy_in (filter_map (owner_after t trans.leg s.items.open_number) s.owners) (record s.items { cil = with_marks trans.leg.changes s.items.cil })) 0 (record s.frames { committed = with_edits trans.leg.changes s.frames.committed })
+  -- each block that has a content is busy after the commit, but perhaps this one
+  pub others_ended : AreOthersBusy (is_busy_in (filter_map (owner_after t trans.leg s.items.open_number) s.owners) (record s.items { cil = with_marks trans.leg.changes s.items.cil })) block (record s.frames { committed = with_edits trans.leg.changes s.frames.committed })
   others_ended =
       let busy : ℕ → Bool = is_busy_in (filter_map (owner_after t trans.leg s.items.open_number) s.owners) (record s.items { cil = with_marks trans.leg.changes s.items.cil }) in
       let fair : IsFair s.form.ends s.owners (t, trans) = each_at (IsFair s.form.ends s.owners) t trans s.transactions there sound.parts.fair in
       record {
         contents =
-            each_with_edits (λ b. (b ≡ 0) ⊎ (busy b ≡ true)) trans.leg.changes s.frames.committed
-            (each_map (λ (c : ℕ × Change). Owns s.owners t c.0) (λ (c : ℕ × Change). (c.0 ≡ 0) ⊎ (busy c.0 ≡ true)) trans.leg.changes
-            (λ c own. inr (busy_ended c.0 (busy_owned s.owners s.items c.0 (owned_there t c.0 s.owners own)))) fair.owned)
-            (each_map (λ (e : ℕ × List ℕ). is_busy s e.0 ≡ true) (λ (e : ℕ × List ℕ). (e.0 ≡ 0) ⊎ (busy e.0 ≡ true)) s.frames.committed (λ e was. inr (busy_ended e.0 was)) sound.kept.committed_busy);
-        marks = each_map (λ b. is_busy s b ≡ true) (λ b. (b ≡ 0) ⊎ (busy b ≡ true)) s.frames.fresh (λ b was. inr (busy_ended b was)) sound.kept.fresh_busy;
+            each_with_edits (λ b. (b ≡ block) ⊎ (busy b ≡ true)) trans.leg.changes s.frames.committed
+            (each_map (λ (c : ℕ × Change). Owns s.owners t c.0) (λ (c : ℕ × Change). (c.0 ≡ block) ⊎ (busy c.0 ≡ true)) trans.leg.changes
+            (λ c own. busy_ended c.0 (busy_owned s.owners s.items c.0 (owned_there t c.0 s.owners own))) fair.owned)
+            (each_map (λ (e : ℕ × List ℕ). is_busy s e.0 ≡ true) (λ (e : ℕ × List ℕ). (e.0 ≡ block) ⊎ (busy e.0 ≡ true)) s.frames.committed (λ e was. busy_ended e.0 was) sound.kept.committed_busy);
+        marks = each_map (λ b. is_busy s b ≡ true) (λ b. (b ≡ block) ⊎ (busy b ≡ true)) s.frames.fresh (λ b was. busy_ended b was) sound.kept.fresh_busy;
       }
 
-not_true : (r : Bool) → not r ≡ true → r ≡ false
-not_true false h = refl
-not_true true h = absurd (false≢true h)
-
 -- a state whose owners, lists and frames are those after a commit
-module _ (s new : State) (t : ℕ) (trans : Transaction) (rest : Transaction → State → State) (stays : Bool) (sound : IsSound s) (there : Some trans ≡ at t s.transactions)
+module _ (s new : State) (t : ℕ) (trans : Transaction) (rest : Transaction → State → State) (sound : IsSound s) (there : Some trans ≡ at t s.transactions)
     (ends : IfSome (at t s.transactions) (λ u. new ≡ rest u (ended t u.leg s))) where
   new_is : new ≡ rest trans (ended t trans.leg s)
   new_is = some_if (at t s.transactions) (λ u. new ≡ rest u (ended t u.leg s)) trans there ends
 
-  -- each block that has a content is busy
-  pub others_committed : ((u : Transaction) (x : State) → (AreOthersBusy (is_busy x) 0 x.frames → AreOthersBusy (is_busy (rest u x)) 0 (rest u x).frames)) → IfSome (at t s.transactions) (λ u. stays ≡ not (has_unchanged t u.leg s.owners)) → stays ≡ true
-      → AreOthersBusy (is_busy new) 0 new.frames
-  others_committed keeps tells is =
-      let changed : has_unchanged t trans.leg s.owners ≡ false =
-      not_true (has_unchanged t trans.leg s.owners) (sym (some_if (at t s.transactions) (λ u. stays ≡ not (has_unchanged t u.leg s.owners)) trans there tells) ∙ is) in
-      subst (λ (x : State). AreOthersBusy (is_busy x) 0 x.frames) (sym new_is) (keeps trans (ended t trans.leg s) (others_ended s t trans sound (sym there) changed))
+  -- each block that has a content is busy, but perhaps the one that is said
+  pub others_committed : (only : Option ℕ) → ((b : ℕ) (u : Transaction) (x : State) → AreOthersBusy (is_busy x) b x.frames → AreOthersBusy (is_busy (rest u x)) b (rest u x).frames)
+      → IfSome only (λ b. IfSome (at t s.transactions) (λ u. has_unchanged_beside b t u.leg s.owners ≡ false)) → IfSome only (λ b. AreOthersBusy (is_busy new) b new.frames)
+  others_committed None keeps tells = tt
+  others_committed (Some b) keeps tells =
+      let changed : has_unchanged_beside b t trans.leg s.owners ≡ false = some_if (at t s.transactions) (λ u. has_unchanged_beside b t u.leg s.owners ≡ false) trans there tells in
+      subst (λ (x : State). AreOthersBusy (is_busy x) b x.frames) (sym new_is) (keeps b trans (ended t trans.leg s) (others_ended s t b trans sound (sym there) changed))
 
   -- the contents rise
   pub rising_committed : ((u : Transaction) (x : State) → (rest u x).frames ≡ x.frames) → IsRising new.frames.committed

@@ -20,6 +20,10 @@ AreChangedBusy busy ts = Each (λ e. Each (λ c. busy c.0 ≡ true) e.1.leg.chan
 abbrev pub has_unchanged : ℕ → Leg → List (ℕ × Owner) → Bool
 has_unchanged t leg owners = list_any (λ e. owned_by t e.1 && not (is_in e.0 leg.changes)) owners
 
+-- whether a transaction has a block beside this one that its leg did not change
+abbrev pub has_unchanged_beside : ℕ → ℕ → Leg → List (ℕ × Owner) → Bool
+has_unchanged_beside b t leg owners = list_any (λ e. owned_by t e.1 && not (is_in e.0 leg.changes) && not (e.0 == b)) owners
+
 -- whether an item cancels its block
 abbrev pub has_cancel : List (ℕ × List ℕ) → Bool
 has_cancel items = list_any (λ e. length e.1 == 0) items

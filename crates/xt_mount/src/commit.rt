@@ -53,9 +53,9 @@ impl Machine {
             return Ok(io_of(held));
         }
         let number = self.commit_number(is_dirty);
-        let stays = self.changes_all(trans);
+        let only = self.only_unchanged(trans);
         self.close(trans);
-        self.settle_unless(stays);
+        self.settle_but(only);
         Ok(committed_of(number, held))
     }
 }

@@ -42,9 +42,9 @@ impl Machine {
         }
         let held = opened.leg().held(self.alloc)?;
         let number = self.commit_number(opened.leg().is_dirty());
-        let stays = self.changes_all(trans);
+        let only = self.only_unchanged(trans);
         self.next_leg(trans);
-        self.settle_unless(stays);
+        self.settle_but(only);
         Ok(committed_of(number, held))
     }
 

@@ -1,6 +1,6 @@
 //! Blocks that are no longer busy leave the frames.
 
-ghost use Rattle.std.specs.Prelude.{◌≡◌, [], true};
+ghost use Rattle.std.specs.Prelude.{◌≡◌, [], IfSome, true};
 ghost use Rattle.xt_base.specs.Settle.{settled};
 ghost use Rattle.xt_base.specs.Sound.{IsRising};
 ghost use Rattle.xt_base.specs.Space.{is_busy};
@@ -29,6 +29,19 @@ impl Machine {
         ensures { state_of self.new ≡ settled [] (state_of self.old) }
     {
         self.accounts.settle_block(&self.locks, block.0);
+    }
+
+    /// The same where it may be known of which block alone it must be asked whether it stays busy.
+    pub fn settle_but(&mut self, only: Option<Block>)
+        requires rising { IsRising (state_of self.old).frames.committed }
+        requires others { IfSome only (λ block. AreOthersBusy (is_busy (state_of self.old)) block (state_of self.old).frames) }
+        requires changed { AreChangedBusy (is_busy (state_of self.old)) (state_of self.old).transactions }
+        ensures { state_of self.new ≡ settled [] (state_of self.old) }
+    {
+        match only {
+            Some(block) => self.settle_block(block),
+            None => self.settle(),
+        }
     }
 
     /// The same where it may be known that each block stays busy: then nothing is asked of any.

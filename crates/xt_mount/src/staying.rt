@@ -1,16 +1,16 @@
-//! Whether each block stays busy where a leg was committed or a checkpoint has landed, so that nothing settles.
+//! Whether each block stays busy, or each but one, where a leg was committed or a checkpoint has landed, so that little settles.
 
 ghost use Rattle.std.specs.Prelude.{◌≡◌, is_none, false, not, true, IfSome};
 ghost use Rattle.xt_base.specs.Legs.{owned_by};
 ghost use Rattle.xt_base.specs.Maps.{at};
 ghost use Rattle.xt_base.specs.Space.{flight_items};
 ghost use Rattle.xt_mount.specs.Machines.{state_of};
-ghost use Rattle.xt_mount.specs.Settling.{has_cancel, has_unchanged};
+ghost use Rattle.xt_mount.specs.Settling.{has_cancel, has_unchanged, has_unchanged_beside};
 
 use crate::machine::Machine;
 use crate::opened::LegSeen;
 use xt_base::chunks::Chunks;
-use xt_base::names::TransNo;
+use xt_base::names::{Block, TransNo};
 use xt_base::steps::Owner;
 use xt_locks::locks::Locks;
 
@@ -28,6 +28,25 @@ fn has_unchanged(locks: &Locks, trans: TransNo, leg: &LegSeen<'_>) -> bool
     locks.owners().iter().any(|(block, owner)| is_of(owner, trans) && !leg.is_changed(*block))
 }
 
+/// A block that a transaction has and that its leg did not change, if there is one.
+fn some_unchanged(locks: &Locks, trans: TransNo, leg: &LegSeen<'_>) -> Option<u64> {
+    for (block, owner) in locks.owners() {
+        if is_of(owner, trans) && !leg.is_changed(*block) {
+            return Some(*block);
+        }
+    }
+    None
+}
+
+/// Whether a transaction has a block beside this one that its leg did not change.
+fn has_unchanged_beside(locks: &Locks, trans: TransNo, leg: &LegSeen<'_>, block: u64) -> bool
+    ensures { result ≡ has_unchanged_beside block trans leg.now locks.now }
+{
+    locks.owners().iter().any(|(other, owner)| {
+        is_of(owner, trans) && !leg.is_changed(*other) && *other != block
+    })
+}
+
 /// Whether an item cancels its block: it settles where the checkpoint has landed.
 fn has_cancel(items: &[(u64, Chunks)]) -> bool
     ensures { result ≡ has_cancel items.now }
@@ -36,14 +55,23 @@ fn has_cancel(items: &[(u64, Chunks)]) -> bool
 }
 
 impl Machine {
-    /// Whether the leg of a transaction changed each block that the transaction has: all are listed once it is committed.
-    pub fn changes_all(&self, trans: TransNo) -> bool
-        ensures { IfSome (at trans self.now.accounts.transactions) (λ t. result ≡ not (has_unchanged trans t.leg self.now.locks)) }
+    /// The only block of a transaction that may be free once its leg is committed: its leg changed each other one that it has, and those
+    /// are listed then. Any block where it changed all of them, none where it did not change several.
+    pub fn only_unchanged(&self, trans: TransNo) -> Option<Block>
+        ensures { IfSome result (λ block. IfSome (at trans self.now.accounts.transactions) (λ t. has_unchanged_beside block trans t.leg self.now.locks ≡ false)) }
     {
         let Some(opened) = self.accounts.get(trans.0) else {
-            return false;
+            return None;
         };
-        !has_unchanged(&self.locks, trans, &opened.leg())
+        let leg = opened.leg();
+        if !has_unchanged(&self.locks, trans, &leg) {
+            return Some(Block(0));
+        }
+        let block = some_unchanged(&self.locks, trans, &leg)?;
+        if has_unchanged_beside(&self.locks, trans, &leg, block) {
+            return None;
+        }
+        Some(Block(block))
     }
 
     /// Whether the mount is live and has a flight that cancels no block.

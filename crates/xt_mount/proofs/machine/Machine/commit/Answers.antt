@@ -21,20 +21,20 @@ close_aborted-requires-clause-kept c =
     if_some (at c.args.trans s.transactions) (λ t. (is_dirty t.leg && is_none s.shut) ≡ false) c.in-Some.opened (named s.transactions c.in-Some.ensures c.trans.view_is)
     (shut_kept (is_dirty leg) s.shut (and_right _ (is_some s.shut) (sym c.gives_up.ensures ∙ c.if-gives_up.true)))
 
-pub settle_unless-requires-clause-rising : goal.settle_unless-requires-clause-rising
-settle_unless-requires-clause-rising c =
-    rising_committed (state_of c.args.self.now) (state_of c.close.new.self) c.args.trans c.in-Some.opened (λ u x. closed c.args.trans x) c.changes_all-stays.result c.requires.sound
+pub settle_but-requires-clause-rising : goal.settle_but-requires-clause-rising
+settle_but-requires-clause-rising c =
+    rising_committed (state_of c.args.self.now) (state_of c.close.new.self) c.args.trans c.in-Some.opened (λ u x. closed c.args.trans x) c.requires.sound
     (named (state_of c.args.self.now).transactions c.in-Some.ensures c.trans.view_is) c.close.ensures (λ u x. refl)
 
-pub settle_unless-requires-clause-others : goal.settle_unless-requires-clause-others
-settle_unless-requires-clause-others c stays =
-    others_committed (state_of c.args.self.now) (state_of c.close.new.self) c.args.trans c.in-Some.opened (λ u x. closed c.args.trans x) c.changes_all-stays.result c.requires.sound
-    (named (state_of c.args.self.now).transactions c.in-Some.ensures c.trans.view_is) c.close.ensures (λ u x others. others) c.changes_all-stays.ensures stays
+pub settle_but-requires-clause-others : goal.settle_but-requires-clause-others
+settle_but-requires-clause-others c =
+    others_committed (state_of c.args.self.now) (state_of c.close.new.self) c.args.trans c.in-Some.opened (λ u x. closed c.args.trans x) c.requires.sound
+    (named (state_of c.args.self.now).transactions c.in-Some.ensures c.trans.view_is) c.close.ensures c.only_unchanged-only.result (λ b u x others. others) c.only_unchanged-only.ensures
 
 pub settle-requires : goal.settle-requires
 settle-requires c =
     busy_aborted (state_of c.args.self.now) c.requires.sound c.args.trans c.in-Some.opened (named (state_of c.args.self.now).transactions c.in-Some.ensures c.trans.view_is) (state_of c.close_aborted.new.self) c.close_aborted.ensures
 
-pub settle_unless-requires-clause-changed : goal.settle_unless-requires-clause-changed
-settle_unless-requires-clause-changed c =
+pub settle_but-requires-clause-changed : goal.settle_but-requires-clause-changed
+settle_but-requires-clause-changed c =
     busy_ended (state_of c.args.self.now) c.requires.sound c.args.trans c.in-Some.opened (named (state_of c.args.self.now).transactions c.in-Some.ensures c.trans.view_is) (state_of c.close.new.self) c.close.ensures

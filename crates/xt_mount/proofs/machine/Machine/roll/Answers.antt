@@ -34,11 +34,11 @@ next_leg-requires-clause-room c = if_some _ _ c.in-Some.opened (named (state_of 
 
 pub returns-clause-ok : goal.returns-clause-ok
 returns-clause-ok c =
-    ap (λ r. gives r (state_of c.settle_unless.new.self)) c.committed_of.ensures
+    ap (λ r. gives r (state_of c.settle_but.new.self)) c.committed_of.ensures
     ∙ roll_goes_on (state_of c.args.self.now) c.requires.sound c.args.trans c.in-Some.opened (named (state_of c.args.self.now).transactions c.in-Some.ensures c.trans.view_is) (ap not (sym c.perm.ensures ∙ c.if-not-perm.false)) (sym c.is_shut.ensures ∙ c.if-is_shut.false) (room_is (state_of c.args.self.now) c.requires.sound c.args.trans c.in-Some.opened (named (state_of c.args.self.now).transactions c.in-Some.ensures c.trans.view_is) ∙ sym c.finds_no_room.ensures ∙ c.if-finds_no_room.false) c.in_ok-held.held c.commit_number-number.result _ _
     (c.in_ok-held.ensures.ok ∙ ap (λ (l : Leg). held_of l.holds) c.leg.ensures)
     (c.commit_number-number.ensures ∙ ap (λ b. if b then (state_of c.args.self.now).items.open_number else 0) (c.is_dirty.ensures ∙ ap is_dirty c.leg-2.ensures))
-    c.next_leg.ensures c.settle_unless.ensures
+    c.next_leg.ensures c.settle_but.ensures
 
 pub returns-in_err-held-clause-want : goal.returns-in_err-held-clause-want
 returns-in_err-held-clause-want c =
@@ -46,16 +46,16 @@ returns-in_err-held-clause-want c =
     (roll_names (state_of c.args.self.now) c.args.trans c.in-Some.opened _ (named (state_of c.args.self.now).transactions c.in-Some.ensures c.trans.view_is) (subst (λ (l : Leg). 0 < length l.holds) c.leg.ensures c.in_err-held.ensures.want) (ap not (sym c.perm.ensures ∙ c.if-not-perm.false))
     (sym c.is_shut.ensures ∙ c.if-is_shut.false) (room_is (state_of c.args.self.now) c.requires.sound c.args.trans c.in-Some.opened (named (state_of c.args.self.now).transactions c.in-Some.ensures c.trans.view_is) ∙ sym c.finds_no_room.ensures ∙ c.if-finds_no_room.false))
 
-pub settle_unless-requires-clause-rising : goal.settle_unless-requires-clause-rising
-settle_unless-requires-clause-rising c =
-    rising_committed (state_of c.args.self.now) (state_of c.next_leg.new.self) c.args.trans c.in-Some.opened (λ u x. with_legs c.args.trans (legs_after u.legs) u x) c.changes_all-stays.result c.requires.sound
+pub settle_but-requires-clause-rising : goal.settle_but-requires-clause-rising
+settle_but-requires-clause-rising c =
+    rising_committed (state_of c.args.self.now) (state_of c.next_leg.new.self) c.args.trans c.in-Some.opened (λ u x. with_legs c.args.trans (legs_after u.legs) u x) c.requires.sound
     (named (state_of c.args.self.now).transactions c.in-Some.ensures c.trans.view_is) c.next_leg.ensures (λ u x. refl)
 
-pub settle_unless-requires-clause-others : goal.settle_unless-requires-clause-others
-settle_unless-requires-clause-others c stays =
-    others_committed (state_of c.args.self.now) (state_of c.next_leg.new.self) c.args.trans c.in-Some.opened (λ u x. with_legs c.args.trans (legs_after u.legs) u x) c.changes_all-stays.result c.requires.sound
-    (named (state_of c.args.self.now).transactions c.in-Some.ensures c.trans.view_is) c.next_leg.ensures (λ u x others. others) c.changes_all-stays.ensures stays
+pub settle_but-requires-clause-others : goal.settle_but-requires-clause-others
+settle_but-requires-clause-others c =
+    others_committed (state_of c.args.self.now) (state_of c.next_leg.new.self) c.args.trans c.in-Some.opened (λ u x. with_legs c.args.trans (legs_after u.legs) u x) c.requires.sound
+    (named (state_of c.args.self.now).transactions c.in-Some.ensures c.trans.view_is) c.next_leg.ensures c.only_unchanged-only.result (λ b u x others. others) c.only_unchanged-only.ensures
 
-pub settle_unless-requires-clause-changed : goal.settle_unless-requires-clause-changed
-settle_unless-requires-clause-changed c =
+pub settle_but-requires-clause-changed : goal.settle_but-requires-clause-changed
+settle_but-requires-clause-changed c =
     busy_rolled (state_of c.args.self.now) c.requires.sound c.args.trans c.in-Some.opened (named (state_of c.args.self.now).transactions c.in-Some.ensures c.trans.view_is) (state_of c.next_leg.new.self) (λ u. legs_after u.legs) c.next_leg.ensures
