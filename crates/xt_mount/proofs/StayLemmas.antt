@@ -4,13 +4,14 @@ use Rattle.std.proofs.lemmas.Bool.{cases_Bool, eqb-true, false≢true, ne_eqb}
 use Rattle.std.specs.List.{list_any}
 use Rattle.std.specs.Prelude.{IfSome, filter, filter_map, if◌then◌else◌, is_none, is_some, not, ◌&&◌, ◌==◌, ◌||◌}
 use Rattle.xt_base.proofs.KeyLemmas.{at_filter, at_filter_map, is_in_cons_cases, is_in_put_old}
-use Rattle.xt_base.proofs.LegLemmas.{keeps_owner_after, owned_there, rises_with_edits}
+use Rattle.xt_base.proofs.LegLemmas.{keeps_owner_aborted, keeps_owner_after, owned_there, rises_with_edits}
 use Rattle.xt_base.proofs.MapLemmas.{at_put_same}
-use Rattle.xt_base.proofs.RisingLemmas.{each_at, each_map}
+use Rattle.xt_base.proofs.RisingLemmas.{each_at, each_filter, each_map, rises_filter}
 use Rattle.xt_base.proofs.SoundBounds.{each_with_edits}
 use Rattle.xt_base.proofs.SoundParts.{activated_one, busy_active, busy_by, busy_committed, busy_flying, busy_owned}
+use Rattle.xt_base.specs.Calls.{closed}
 use Rattle.xt_base.specs.Jobs.{activated, landed_items, waits_on}
-use Rattle.xt_base.specs.Legs.{ended, is_stale, joined_marks, owned_by, owner_after, with_edits, with_marks}
+use Rattle.xt_base.specs.Legs.{aborted, ended, is_dirty, is_lost, is_stale, joined_marks, owned_by, owner_aborted, owner_after, with_edits, with_lost, with_marks}
 use Rattle.xt_base.specs.Maps.{at, has, is_in, put, without}
 use Rattle.xt_base.specs.Sound.{AllBelow, Each, IsBetween, IsCancelledIn, IsFair, IsRising, IsSound, Owns}
 use Rattle.xt_base.specs.Space.{flight_items, is_busy}
@@ -266,3 +267,74 @@ module _ (s new : State) (t : ℕ) (trans : Transaction) (rest : Transaction →
   rising_committed keeps =
       subst (λ (x : State). IsRising x.frames.committed) (sym new_is)
       (subst (λ (f : Frames). IsRising f.committed) (sym (keeps trans (ended t trans.leg s))) (rises_with_edits trans.leg.changes s.frames.committed sound.kept.committed_rises))
+
+-- ---- a clean leg that is given up
+none_by : (cs : List (ℕ × Change)) → not (length cs == 0) ≡ false → cs ≡ []
+none_by [] h = refl
+none_by (c ∷ cs) h = absurd (false≢true (sym h ∙ ap not (ne_eqb (length (c ∷ cs)) 0 (λ same. omega (arith, same)))))
+
+module _ (s : State) (t block : ℕ) (trans : Transaction) (sound : IsSound s) (there : at t s.transactions ≡ Some trans) (clean : is_dirty trans.leg ≡ false) (lone : has_unchanged_beside block t trans.leg s.owners ≡ false) where
+  no_change : trans.leg.changes ≡ []
+  no_change = none_by trans.leg.changes clean
+
+  owned_alone : Each (λ e. (owned_by t e.1 && not (is_in e.0 trans.leg.changes) && not (e.0 == block)) ≡ false) s.owners
+  owned_alone = each_fails (λ (e : ℕ × Owner). owned_by t e.1 && not (is_in e.0 trans.leg.changes) && not (e.0 == block)) s.owners lone
+
+  -- a block that somebody has stays busy, but perhaps this one
+  had_aborted : (b : ℕ) (o : Option Owner) → at b s.owners ≡ o → is_some o ≡ true → ((b == block) || is_busy_in (filter_map (owner_aborted t trans.leg) s.owners) s.items b) ≡ true
+  had_aborted b None is had = absurd (false≢true had)
+  had_aborted b (Some o) is had =
+      let ns : List (ℕ × Owner) = filter_map (owner_aborted t trans.leg) s.owners in
+      elim (cases_Bool (owned_by t o)) [
+        | inl own ↦
+            elim (second_or_third (owned_by t o) (is_in b trans.leg.changes) (b == block) (each_at (λ e. (owned_by t e.1 && not (is_in e.0 trans.leg.changes) && not (e.0 == block)) ≡ false) b o s.owners is owned_alone) own) [
+              | inl changed ↦ absurd (false≢true (sym (ap (λ cs. is_in b cs) no_change) ∙ changed))
+              | inr same ↦ or_left (b == block) (is_busy_in ns s.items b) same
+            ]
+        | inr other ↦
+            or_right (b == block) (is_busy_in ns s.items b)
+            (busy_owned ns s.items b (ap is_some (at_filter_map b o (owner_aborted t trans.leg) s.owners (keeps_owner_aborted t trans.leg) is (first_of_two (owned_by t o) (Some (b, o)) (if has trans.leg.holds b then Some (b, Held) else None) other))))
+      ]
+
+  -- each busy block stays busy, but perhaps this one
+  busy_aborted : (b : ℕ) → is_busy s b ≡ true → (b ≡ block) ⊎ (is_busy_in (filter_map (owner_aborted t trans.leg) s.owners) s.items b ≡ true)
+  busy_aborted b busy =
+      let ns : List (ℕ × Owner) = filter_map (owner_aborted t trans.leg) s.owners in
+      this_or b block (is_busy_in ns s.items b)
+      (busy_by s.owners s.items b ((b == block) || is_busy_in ns s.items b)
+      (λ owned. had_aborted b (at b s.owners) refl owned)
+      (λ listed. or_right (b == block) (is_busy_in ns s.items b) (busy_committed ns s.items b listed))
+      (λ flies. or_right (b == block) (is_busy_in ns s.items b) (busy_flying ns s.items b flies))
+      (λ active. or_right (b == block) (is_busy_in ns s.items b) (busy_active ns s.items b active)) busy)
+
+  -- each block that has a content stays busy, but perhaps this one
+  others_aborted : AreOthersBusy (is_busy (aborted t trans.leg s)) block (aborted t trans.leg s).frames
+  others_aborted =
+      let busy : ℕ → Bool = is_busy (aborted t trans.leg s) in
+      record {
+        contents =
+            each_filter (λ (e : ℕ × List ℕ). (e.0 ≡ block) ⊎ (busy e.0 ≡ true)) (λ e. not (is_lost trans.leg e.0)) s.frames.committed
+            (each_map (λ (e : ℕ × List ℕ). is_busy s e.0 ≡ true) (λ (e : ℕ × List ℕ). (e.0 ≡ block) ⊎ (busy e.0 ≡ true)) s.frames.committed (λ e was. busy_aborted e.0 was) sound.kept.committed_busy);
+        marks =
+            subst (λ cs. Each (λ b. (b ≡ block) ⊎ (busy b ≡ true)) (with_lost cs trans.leg s.frames.fresh)) (sym no_change)
+            (each_map (λ b. is_busy s b ≡ true) (λ b. (b ≡ block) ⊎ (busy b ≡ true)) s.frames.fresh (λ b was. busy_aborted b was) sound.kept.fresh_busy);
+      }
+
+-- a state after a leg was given up and its transaction closed
+module _ (s new : State) (t : ℕ) (trans : Transaction) (sound : IsSound s) (there : Some trans ≡ at t s.transactions) (ends : IfSome (at t s.transactions) (λ u. new ≡ closed t (aborted t u.leg s))) where
+  given_up : new ≡ closed t (aborted t trans.leg s)
+  given_up = some_if (at t s.transactions) (λ u. new ≡ closed t (aborted t u.leg s)) trans there ends
+
+  -- each block that has a content is busy, but perhaps the one that is said
+  pub others_cancelled : (only : Option ℕ) → IfSome only (λ b. IfSome (at t s.transactions) (λ u. is_dirty u.leg ≡ false)) → IfSome only (λ b. IfSome (at t s.transactions) (λ u. has_unchanged_beside b t u.leg s.owners ≡ false))
+      → IfSome only (λ b. AreOthersBusy (is_busy new) b new.frames)
+  others_cancelled None clean lone = tt
+  others_cancelled (Some b) clean lone =
+      subst (λ (x : State). AreOthersBusy (is_busy x) b x.frames) (sym given_up)
+      (others_aborted s t b trans sound (sym there) (some_if (at t s.transactions) (λ u. is_dirty u.leg ≡ false) trans there clean)
+      (some_if (at t s.transactions) (λ u. has_unchanged_beside b t u.leg s.owners ≡ false) trans there lone))
+
+  -- the contents rise
+  pub rising_cancelled : IsRising new.frames.committed
+  rising_cancelled =
+      subst (λ (x : State). IsRising x.frames.committed) (sym given_up) (rises_filter 0 (λ e. not (is_lost trans.leg e.0)) s.frames.committed sound.kept.committed_rises)

@@ -37,8 +37,9 @@ impl Machine {
         let held = opened.leg().held(self.alloc)?;
         let is_dirty = opened.leg().is_dirty();
         self.shut_if(is_dirty, Reason::CorruptIncore);
+        let only = self.only_clean(trans);
         self.close_aborted(trans);
-        self.settle();
+        self.settle_but(only);
         Ok(okay_of(held))
     }
 }

@@ -1,7 +1,7 @@
 //! Whether each block stays busy, or each but one, where a leg was committed or a checkpoint has landed, so that little settles.
 
 ghost use Rattle.std.specs.Prelude.{◌≡◌, is_none, false, not, true, IfSome};
-ghost use Rattle.xt_base.specs.Legs.{owned_by};
+ghost use Rattle.xt_base.specs.Legs.{is_dirty, owned_by};
 ghost use Rattle.xt_base.specs.Maps.{at};
 ghost use Rattle.xt_base.specs.Space.{flight_items};
 ghost use Rattle.xt_mount.specs.Machines.{state_of};
@@ -72,6 +72,21 @@ impl Machine {
             return None;
         }
         Some(Block(block))
+    }
+
+    /// The only block of a transaction that may be free once its leg is given up, where that is clean: it has no other. Any block where it
+    /// has none, none where it has several or the leg is dirty.
+    pub fn only_clean(&self, trans: TransNo) -> Option<Block>
+        ensures clean { IfSome result (λ _. IfSome (at trans self.now.accounts.transactions) (λ t. is_dirty t.leg ≡ false)) }
+        ensures others { IfSome result (λ block. IfSome (at trans self.now.accounts.transactions) (λ t. has_unchanged_beside block trans t.leg self.now.locks ≡ false)) }
+    {
+        let Some(opened) = self.accounts.get(trans.0) else {
+            return None;
+        };
+        if opened.leg().is_dirty() {
+            return None;
+        }
+        self.only_unchanged(trans)
     }
 
     /// Whether the mount is live and has a flight that cancels no block.

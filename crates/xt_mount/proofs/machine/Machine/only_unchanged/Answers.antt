@@ -1,7 +1,6 @@
 use Rattle.std.proofs.Common.{◌∙◌, ◌≡◌, ap, false, sym}
 use Rattle.xt_base.specs.Maps.{at}
 use Rattle.xt_base.specs.State.{Leg}
-use Rattle.xt_mount.specs.Machines.{state_of}
 use Rattle.xt_mount.specs.Settling.{has_unchanged, has_unchanged_beside}
 use Rattle.xt_mount.proofs.EndLemmas.{if_some, named}
 use Rattle.xt_mount.proofs.StayLemmas.{none_beside}
