@@ -68,7 +68,7 @@ const CROWDS: [Crowd; 7] = [
 ];
 
 /// From how many entries on the books of a service are folded (`xth serve`), and those of what is measured here.
-const SERVICE_ENTRIES: u64 = 4_096;
+const SERVICE_ENTRIES: u64 = 1_024;
 
 /// From how many entries on books are folded, where that is measured: at each event, and less and less often.
 const BOOK_LIMITS: [u64; 4] = [1, 64, SERVICE_ENTRIES, BOOK_ENTRIES];
