@@ -192,6 +192,23 @@ impl Data {
         Ok(Some(Data { kept }))
     }
 
+    /// These bytes in place of its own, copied as they stand and into its room; None where they are more than 4,096. The one error is
+    /// want of memory, where the room is too small.
+    pub fn refilled(self, bytes: &[u8]) -> Result<Option<Self>, AllocError>
+        ensures valid { IfOk result (λ found. IsSome found ↔ (length bytes.now ≤ DATA_BYTES)) }
+        ensures value { IfOk result (λ found. IfSome found (λ carried. carried ≡ bytes.now)) }
+    {
+        if bytes.len() > DATA_BYTES {
+            return Ok(None);
+        }
+        let Data { mut kept } = self;
+        kept.bytes.clear();
+        kept.bytes.extend_from_slice(bytes)?;
+        kept.first = 0;
+        kept.count = 0;
+        Ok(Some(Data { kept }))
+    }
+
     /// One byte so many times; None where that is more than 4,096. The one error is want of memory.
     pub fn of_repeated(alloc: Global, byte: u8, count: usize) -> Result<Option<Self>, AllocError>
         ensures valid { IfOk result (λ found. IsSome found ↔ (count ≤ DATA_BYTES)) }

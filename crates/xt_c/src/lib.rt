@@ -8,6 +8,7 @@ mod calls;
 mod checkpoints;
 mod flushes;
 mod handle;
+mod held_mount;
 mod holding;
 mod jobs;
 mod loose;
