@@ -1,17 +1,17 @@
 -- Sets of chunks, by their tests.
 use Rattle.std.proofs.Common.{◌≡◌, ◌∙◌, ℕ, zero, suc, ◌+◌, ◌*◌, ◌-◌, ◌/◌, ◌%◌, ◌^◌, ◌<◌, ◌≤◌, List, [], ◌∷◌, ◌++◌, Bool, true, false, sym, ap, refl, length, arith, inl, inr, ◌⊎◌, subst, length-append}
-use Rattle.std.specs.Prelude.{filter, ◌==◌, ◌&&◌, ◌||◌, nat_lt, nat_eq, max, bit_or, count_ones}
+use Rattle.std.specs.Prelude.{filter, ◌==◌, ◌&&◌, ◌||◌, nat_lt, nat_eq, max, min, bit_and, bit_or, count_ones}
 use Rattle.std.specs.Set.{is_member}
 use Rattle.std.specs.Int.{bit_at, w32}
 use Rattle.std.specs.Cmp.{nat_eq_equiv}
 use Rattle.std.proofs.lemmas.List.Elements.{filter-append}
 use Rattle.std.proofs.lemmas.Map.Made.{is_member-filter}
 use Rattle.std.proofs.lemmas.Nat.{mod-pow-add, ones_cat, mod_below, pow_pos}
-use Rattle.std.proofs.lemmas.Nat.Bits.{bit_at-lt, bit_at_or, bit_at_set_same, bit_at_set_other, bit_at-zero}
+use Rattle.std.proofs.lemmas.Nat.Bits.{bit_at-lt, bit_at_and, bit_at_mask_below, bit_at_mask_inside, bit_at_ones, bit_at_ones_above, bit_at_or, bit_at_set_other, bit_at_set_same, bit_at-zero, ones_shl, ones_shr}
 use Rattle.std.proofs.lemmas.Bool.Decides.{nat_tests}
-use Rattle.std.proofs.lemmas.Bool.{cases_eq}
+use Rattle.std.proofs.lemmas.Bool.{cases_eq, cases_lt}
 use Rattle.std.proofs.Math.Nat.{mod-eq_of_lt, mod-one}
-use Rattle.xt_base.specs.Chunks.{below, chunks_where, places_of, touches, union}
+use Rattle.xt_base.specs.Chunks.{below, chunks_where, marks, places_of, touches, union}
 use Rattle.xt_base.specs.Maps.{has}
 use lib.Count.{ones}
 
@@ -55,10 +55,10 @@ has-chunks_where p k =
     is_member-filter nat_eq_equiv p k (λ x e. ap p (same_number k x e)) (below 32) ∙ ap (λ b. b && p k) (has-below 32 k)
 
 -- the chunks of bytes first to first + n - 1 are those from first / 128 to (first + n - 1) / 128
-pub untouched_below : (first n k : ℕ) → k < first / 128 → touches first n k ≡ false
+untouched_below : (first n k : ℕ) → k < first / 128 → touches first n k ≡ false
 untouched_below first n k lt = grind (arith, nat_tests)
 
-pub untouched_above : (first n k : ℕ) → 0 < n → (first + n - 1) / 128 + 1 ≤ k → touches first n k ≡ false
+untouched_above : (first n k : ℕ) → 0 < n → (first + n - 1) / 128 + 1 ≤ k → touches first n k ≡ false
 untouched_above first n k some le = grind (arith, nat_tests)
 
 pub touched : (first n k : ℕ) → 0 < n → first / 128 ≤ k → k < (first + n - 1) / 128 + 1 → touches first n k ≡ true
@@ -114,15 +114,13 @@ pub length-places_of : (bits : ℕ) → bits < 2 ^ 32 → length (places_of bits
 unfolding chunks_where
 length-places_of bits h = count_below 32 bits ∙ ap ones (mod-eq_of_lt h)
 
+-- ---- number by number
 -- the tests of all numbers below k, and none from there on
 pub record HasBelow (test : ℕ → Bool) (bits k : ℕ) : Type 0 where
   pub tests : (i : ℕ) → (bit_at bits i == 1) ≡ (nat_lt i k && test i)
 
 is_below : (i k : ℕ) → nat_lt i k ≡ true → i < k
 is_below i k e = grind (arith, nat_tests)
-
-is_above : (i k : ℕ) → nat_lt i k ≡ false → k ≤ i
-is_above i k e = grind (arith, nat_tests)
 
 both_fail : (a b : Bool) → (a ≡ true → b ≡ false) → (a && b) ≡ false
 both_fail true b h = h refl
@@ -152,11 +150,47 @@ has_set test bits k lt holds before =
       ];
     }
 
-second_alone : (a b : Bool) → (a ≡ false → b ≡ false) → (a && b) ≡ b
-second_alone true b h = refl
-second_alone false b h = sym (h refl)
+-- ---- a run of chunks
+-- the ones from low on, and up to high
+abbrev pub run : ℕ → ℕ → ℕ
+run low high = bit_and ((2 ^ 32 - 1) / 2 ^ (31 - high)) ((2 ^ 32 - 1) * 2 ^ low % 2 ^ 32)
 
--- no number from k on
-pub has_all : (test : ℕ → Bool) (bits k : ℕ) → ((i : ℕ) → k ≤ i → test i ≡ false) → HasBelow test bits k → places_of bits ≡ chunks_where test
-has_all test bits k none done =
-    alike (λ i. bit_at bits i == 1) test (λ i h. done.tests i ∙ second_alone (nat_lt i k) (test i) (λ e. none i (is_above i k e)))
+bit_at_run : (low high k : ℕ) → low ≤ 31 → high ≤ 31 → bit_at (run low high) k ≡ min (bit_at (2 ^ (32 - (31 - high)) - 1) k) (bit_at (2 ^ 32 - 2 ^ low) k)
+bit_at_run low high k small top =
+    bit_at_and ((2 ^ 32 - 1) / 2 ^ (31 - high)) ((2 ^ 32 - 1) * 2 ^ low % 2 ^ 32) k
+    ∙ ap (λ a. min (bit_at a k) (bit_at ((2 ^ 32 - 1) * 2 ^ low % 2 ^ 32) k)) (ones_shr 32 (31 - high) (omega arith))
+    ∙ ap (λ b. min (bit_at (2 ^ (32 - (31 - high)) - 1) k) (bit_at b k)) (ones_shl 32 low (omega (arith, small)))
+
+-- a bit from low to high is set, and no other
+run_inside : (low high k : ℕ) → low ≤ k → k ≤ high → high ≤ 31 → (bit_at (run low high) k == 1) ≡ true
+run_inside low high k le ge top =
+    let is = bit_at_run low high k (omega (arith, le, ge, top)) top in
+    let set : bit_at (run low high) k ≡ 1 = omega (arith, is, bit_at_ones (32 - (31 - high)) k (omega (arith, ge, top)), bit_at_mask_inside low 32 k le (omega (arith, ge, top))) in
+    ap (λ b. b == 1) set
+
+run_below : (low high k : ℕ) → k < low → low ≤ 31 → high ≤ 31 → (bit_at (run low high) k == 1) ≡ false
+run_below low high k lt small top =
+    let clear : bit_at (run low high) k ≡ 0 = omega (arith, bit_at_run low high k small top, bit_at_mask_below low 32 k lt) in
+    ap (λ b. b == 1) clear
+
+run_above : (low high k : ℕ) → high < k → low ≤ 31 → high ≤ 31 → (bit_at (run low high) k == 1) ≡ false
+run_above low high k lt small top =
+    let clear : bit_at (run low high) k ≡ 0 = omega (arith, bit_at_run low high k small top, bit_at_ones_above (32 - (31 - high)) k (omega (arith, lt, top))) in
+    ap (λ b. b == 1) clear
+
+-- the bytes first to first + n - 1 mark the run of chunks from that of the first to that of the last
+pub run_marks : (first n : ℕ) → 0 < n → first + n ≤ 4096 → places_of (run (first / 128) ((first + n - 1) / 128)) ≡ marks first n
+run_marks first n some room =
+    let low : ℕ = first / 128 in
+    let high : ℕ = (first + n - 1) / 128 in
+    let small : low ≤ 31 = omega arith in
+    let top : high ≤ 31 = omega arith in
+    alike (λ k. bit_at (run low high) k == 1) (touches first n)
+    (λ k h. elim (cases_lt k low) [
+      | inl lt ↦ run_below low high k lt small top ∙ sym (untouched_below first n k lt)
+      | inr le ↦
+          elim (cases_lt high k) [
+            | inl lt ↦ run_above low high k lt small top ∙ sym (untouched_above first n k some (omega (arith, lt)))
+            | inr ge ↦ run_inside low high k le ge top ∙ sym (touched first n k some le (omega (arith, ge)))
+          ]
+    ])

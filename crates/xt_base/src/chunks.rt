@@ -65,11 +65,11 @@ impl Chunks {
         }
         let low = first / CHUNK_BYTES as u32;
         let high = (first + n - 1) / CHUNK_BYTES as u32;
-        let mut bits = 0u32;
-        for k in low..high + 1 {
-            bits |= 1 << k;
+        let up_to_high = u32::MAX >> (CHUNKS - 1 - high);
+        let from_low = u32::MAX << low;
+        Chunks {
+            bits: up_to_high & from_low,
         }
-        Chunks { bits }
     }
 
     /// The chunks of either set.
