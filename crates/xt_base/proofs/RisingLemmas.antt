@@ -2,7 +2,7 @@
 use Rattle.std.proofs.Common.{◌≡◌, ◌≢◌, ◌∙◌, ◌+◌, ◌<◌, ◌≤◌, ◌∷◌, ◌++◌, Bool, List, None, Option, Some, [], ap, arith, cond, false, inl, inr, length, refl, subst, suc, sym, true, ℕ}
 use Rattle.std.proofs.lemmas.Bool.{cases_Bool, cases_eq, cases_order}
 use Rattle.std.proofs.lemmas.List.Sums.{sum_by-cons}
-use Rattle.std.specs.List.{cons_option}
+use Rattle.std.specs.List.{cons_option, items_where_true}
 use Rattle.std.specs.Prelude.{IfSome, filter, filter_map, is_some, sum_by}
 use Rattle.xt_base.proofs.MapLemmas.{at_first, at_later, put_less, put_more, put_same, set_first, set_later, some_none, some_same, without_first, without_later}
 use Rattle.xt_base.specs.Maps.{at, is_in, put, set_at, without}
@@ -147,6 +147,13 @@ module _ {V : Type 0} where
         | inl passes ↦ subst (RisesFrom n) (sym (filter_pass p e es passes)) (r.0, rises_filter (suc e.0) p es r.1)
         | inr other ↦ subst (RisesFrom n) (sym (filter_drop p e es other)) (rises_weaker n (suc e.0) (filter p es) (omega (arith, r.0)) (rises_filter (suc e.0) p es r.1))
       ]
+
+  -- what stays of a rising map rises
+  pub rises_where_true : (n : ℕ) (stays : List Bool) (es : List (ℕ × V)) → RisesFrom n es → RisesFrom n (items_where_true stays es)
+  rises_where_true n [] es r = tt
+  rises_where_true n (b ∷ bs) [] r = tt
+  rises_where_true n (true ∷ bs) (e ∷ es) r = (r.0, rises_where_true (suc e.0) bs es r.1)
+  rises_where_true n (false ∷ bs) (e ∷ es) r = rises_weaker n (suc e.0) (items_where_true bs es) (omega (arith, r.0)) (rises_where_true (suc e.0) bs es r.1)
 
   rises_cons_option : (n k : ℕ) (o : Option (ℕ × V)) (rest : List (ℕ × V)) → n ≤ k → IfSome o (λ x. x.0 ≡ k) → RisesFrom (suc k) rest → RisesFrom n (cons_option o rest)
   rises_cons_option n k None rest h same r = rises_weaker n (suc k) rest (omega (arith, h)) r

@@ -1,7 +1,8 @@
 //! A finite map from numbers, for a mount's small tables.
 
-ghost use Rattle.std.specs.Prelude.{◌≡◌, ◌+◌, ◌≤◌, ◌<◌, ◌==◌, ◌∷◌, ◌++◌, [], Some, false, true, length, take, drop, slice_get, IfOk, IfSome, IfNone, MatchOption, option_copied};
+ghost use Rattle.std.specs.Prelude.{ℕ, Bool, List, ◌≡◌, ◌+◌, ◌≤◌, ◌<◌, ◌==◌, ◌∷◌, ◌++◌, [], Some, false, filter, true, length, take, drop, slice_get, IfErr, IfOk, IfSome, IfNone, MatchOption, option_copied};
 ghost use Rattle.std.specs.Borrow.{sem};
+ghost use Rattle.std.specs.List.{items_where_true};
 ghost use Rattle.xt_base.specs.Lending.{lends_value};
 ghost use Rattle.xt_base.specs.Maps.{at, is_in, put as with_entry, without};
 ghost use Rattle.xt_base.specs.Places.{place};
@@ -136,10 +137,44 @@ impl<V> NumberMap<V> {
         ensures { self.new ≡ with_entry key value self.old }
     {
         let at = place_of(&self.entries, key);
+        self.insert_at(at, key, value);
+    }
+
+    /// What it has at a key, or else where the key would stand.
+    pub fn find(&self, key: u64) -> Result<&V, usize>
+        ensures there { IfOk result (λ value. at key self.now ≡ Some value.now) }
+        ensures place { IfErr result (λ at. (at ≡ place key self.now) × (is_in key self.now ≡ false)) }
+    {
+        let at = place_of(&self.entries, key);
+        if at < self.entries.len() && self.entries[at].0 == key {
+            Ok(&self.entries[at].1)
+        } else {
+            Err(at)
+        }
+    }
+
+    /// Puts a value at a key that it does not have, where `find` said that it would stand. It takes no memory.
+    pub fn insert_at(&mut self, at: usize, key: u64, value: V)
+        requires place { at ≡ place key self.old }
+        requires absent { is_in key self.old ≡ false }
+        requires room { length self.old < ROOM }
+        ensures { self.new ≡ with_entry key value self.old }
+    {
         match self.entries.insert(at, (key, value)) {
             Ok(()) => {}
             Err(_) => unreachable!(),
         }
+    }
+
+    /// The entries of all keys but those that are kept go, in one pass.
+    pub fn retain<F: Fn(u64) -> bool>(&mut self, is_kept: F)
+    where
+        V: Drop,
+        requires { F.IsAlwaysCallable is_kept }
+        ensures fewer { (stays : List Bool) × (self.new ≡ items_where_true stays self.old) }
+        ensures rest { (kept : ℕ → Bool) → ((key : ℕ) → (r : Bool) → F.post is_kept key r → r ≡ kept key) → self.new ≡ filter (λ e. kept e.0) self.old }
+    {
+        self.entries.retain(|entry| is_kept(entry.0));
     }
 
     /// Its keys rise: for a proof, at run time nothing.

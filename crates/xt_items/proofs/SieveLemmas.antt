@@ -1,7 +1,8 @@
 -- What a word with a bit for each key of a map says.
-use Rattle.std.proofs.Common.{◌≡◌, ◌∙◌, ◌%◌, ◌^◌, ◌*◌, ◌<◌, ◌∷◌, List, None, [], ap, false, get_or, inl, inr, refl, subst, suc, sym, take, true, zero, ℕ}
+use Rattle.std.proofs.Common.{◌≡◌, ◌∙◌, ◌%◌, ◌^◌, ◌*◌, ◌<◌, ◌∷◌, Bool, List, None, [], ap, false, get_or, inl, inr, refl, subst, suc, sym, take, true, zero, ℕ}
 use Rattle.std.specs.Int.{bit_at, w64}
 use Rattle.std.specs.Int.Bits.{bit_or}
+use Rattle.std.specs.List.{items_where_true}
 use Rattle.std.specs.Prelude.{◌==◌}
 use Rattle.std.proofs.lemmas.Bool.{cases_eq, false≢true}
 use Rattle.std.proofs.lemmas.Nat.Bits.{bit_at_set_other, bit_at_set_same}
@@ -42,3 +43,10 @@ module _ {V : Type 0} where
   one_passed bits more i e d [] others here this passed = tt
   one_passed bits more zero e d (x ∷ xs) others here this passed = (subst (λ (o : ℕ × V). passes more o.0 ≡ true) here this, tt)
   one_passed bits more (suc i) e d (x ∷ xs) others here this passed = (others x.0 passed.0, one_passed bits more i e d xs others here this passed.1)
+
+  -- what stays has its bits
+  pub stay_passed : (bits : ℕ) (stays : List Bool) (es : List (ℕ × V)) → ArePassed bits es → ArePassed bits (items_where_true stays es)
+  stay_passed bits [] es passed = tt
+  stay_passed bits (b ∷ bs) [] passed = tt
+  stay_passed bits (true ∷ bs) (e ∷ es) passed = (passed.0, stay_passed bits bs es passed.1)
+  stay_passed bits (false ∷ bs) (e ∷ es) passed = stay_passed bits bs es passed.1

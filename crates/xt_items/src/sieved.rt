@@ -1,6 +1,6 @@
 //! Maps that tell at once of most keys that they lack.
 
-ghost use Rattle.std.specs.Prelude.{ℕ, ◌≡◌, ◌<◌, ◌≤◌, [], IfOk, false, length, option_copied, true};
+ghost use Rattle.std.specs.Prelude.{ℕ, Bool, ◌≡◌, ◌<◌, ◌≤◌, [], IfOk, false, filter, length, option_copied, true};
 ghost use Rattle.xt_base.specs.Maps.{at, is_in, put as with_entry, without};
 ghost use Rattle.xt_base.specs.Sound.{IsRising};
 ghost use Rattle.xt_items.specs.Sieves.{ArePassed, passes};
@@ -113,6 +113,16 @@ impl<V> SievedMap<V> {
         self.map.remove(key)
     }
 
+    /// The entries of all keys but those that are kept go; their bits may stay until `refit`.
+    pub(crate) fn retain<F: Fn(u64) -> bool>(&mut self, is_kept: F)
+    where
+        V: Drop,
+        requires { F.IsAlwaysCallable is_kept }
+        ensures { (kept : ℕ → Bool) → ((key : ℕ) → (r : Bool) → F.post is_kept key r → r ≡ kept key) → self.new ≡ filter (λ e. kept e.0) self.old }
+    {
+        self.map.retain(is_kept);
+    }
+
     /// No bit stays but those of its keys, once some were taken away.
     pub(crate) fn refit(&mut self)
         ensures { self.new ≡ self.old }
@@ -122,14 +132,14 @@ impl<V> SievedMap<V> {
 }
 
 /// Whether the bit of a key is set.
-fn passes(bits: u64, key: u64) -> bool
+pub(crate) fn passes(bits: u64, key: u64) -> bool
     ensures { result ≡ passes bits key }
 {
     bits >> (key % 64) & 1 == 1
 }
 
 /// The bits with that of a key.
-fn with_key(bits: u64, key: u64) -> u64
+pub(crate) fn with_key(bits: u64, key: u64) -> u64
     ensures key { passes result key ≡ true }
     ensures others { (k : ℕ) → passes bits k ≡ true → passes result k ≡ true }
 {
