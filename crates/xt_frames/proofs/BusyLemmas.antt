@@ -92,6 +92,14 @@ in_both : (frames : Slab Frame) (es : Index) (b : ℕ) (o : Option ℕ) → AreT
 in_both frames es b None tied is = refl
 in_both frames es b (Some key) tied is = sym (ap is_some (content_there frames key b (each_at (IsNamed frames) b key es is tied.named)).1)
 
+none_is : (o : Option ℕ) → is_some o ≡ false → None ≡ o
+none_is None absent = refl
+none_is (Some key) absent = absurd (cc)
+
+-- a block that is not in the index has nothing there
+pub none_at : (b : ℕ) (es : Index) → is_in b es ≡ false → None ≡ at b es
+none_at b es absent = none_is (at b es) absent
+
 pub in_busy : (frames : Slab Frame) (es : Index) (b : ℕ) → AreTied frames es → is_in b es ≡ is_in b (busy_of frames es)
 in_busy frames es b tied = in_both frames es b (at b es) tied refl ∙ ap is_some (found_at frames es b (at b es) tied refl)
 

@@ -111,14 +111,15 @@ impl BusyFrames {
         ensures value { result ≡ at block self.old }
         ensures contents { self.new ≡ put block frame self.old }
     {
-        match self.index.get(block).copied() {
-            Some(key) => {
-                let (_, before) = self.frames.remove(key);
+        match self.index.find(block) {
+            Ok(key) => {
+                let (_, before) = self.frames.remove(*key);
                 let _key = self.frames.insert_reserved((block, frame));
                 Some(before)
             }
-            None => {
-                self.put_new(block, frame);
+            Err(place) => {
+                let key = self.frames.insert_reserved((block, frame));
+                self.index.insert_at(place, block, key);
                 None
             }
         }
