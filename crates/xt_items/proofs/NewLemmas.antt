@@ -1,10 +1,11 @@
 -- Whether a block is new to the log vectors, and whether its item stays.
 use Rattle.std.proofs.Common.{◌≡◌, ◌∙◌, ◌∷◌, List, Some, [], ap, arith, inl, inr, refl, suc, sym, true, ℕ}
 use Rattle.std.proofs.lemmas.Bool.{cases_eq, cases_order, false≢true, ne_eqb}
-use Rattle.std.specs.Prelude.{is_some, ◌==◌}
+use Rattle.std.specs.Prelude.{if◌then◌else◌, is_some, nat_lt, ◌==◌}
 use Rattle.xt_base.proofs.MapLemmas.{at_first, at_later, put_more, put_same, some_none, some_same}
 use Rattle.xt_base.proofs.RisingLemmas.{none_below}
 use Rattle.xt_base.specs.Maps.{at, is_in, put}
+use Rattle.xt_base.specs.Places.{place}
 use Rattle.xt_base.specs.Sound.{IsRising, RisesFrom}
 use Rattle.xt_vectors.proofs.VectorLemmas.{chunks_put}
 use Rattle.xt_vectors.specs.Vectors.{Vector, chunks_of}
@@ -17,6 +18,11 @@ in_chunks k (v ∷ vs) =
       | inl same ↦ ap is_some (at_first k (v.0, v.1.chunks) (chunks_of vs) same) ∙ sym (ap is_some (at_first k v vs same))
       | inr other ↦ ap is_some (at_later k (v.0, v.1.chunks) (chunks_of vs) other) ∙ in_chunks k vs ∙ sym (ap is_some (at_later k v vs other))
     ]
+
+-- and it would stand at the same place among both
+pub place_chunks : (k : ℕ) (vs : List (ℕ × Vector)) → place k vs ≡ place k (chunks_of vs)
+place_chunks k [] = refl
+place_chunks k (v ∷ vs) = ap (λ (n : ℕ). if nat_lt v.0 k then suc n else 0) (place_chunks k vs)
 
 -- the chunks of the log vectors stay those of the items, where both have one more
 pub chunks_stand : (k : ℕ) (v : Vector) (vs new : List (ℕ × Vector)) (cil after : List (ℕ × List ℕ)) → chunks_of vs ≡ cil → new ≡ put k v vs → after ≡ put k v.chunks cil → chunks_of new ≡ after

@@ -9,7 +9,7 @@ ghost use Rattle.xt_base.specs.Sized.{IsWithin};
 ghost use Rattle.xt_base.specs.Sound.{IsRising};
 ghost use Rattle.xt_items.specs.Lists.{no_items, flight_number, marked, with_landed};
 ghost use Rattle.xt_items.specs.Plans.{due, is_unpinned, planned};
-ghost use Rattle.xt_vectors.specs.Vectors.{no_vector};
+ghost use Rattle.xt_vectors.specs.Vectors.{chunks_of, no_vector};
 
 use crate::clean::remove_written;
 use crate::plan::{Earliest, FlushPlan};
@@ -257,19 +257,29 @@ impl Items {
         requires before { before.now ≡ at block self.old.cil }
         ensures { self.new ≡ record self.old { cil = put block vector.chunks self.old.cil; vectors = put block vector self.old.vectors } }
     {
+        if before.is_none() {
+            self.put_first(block, vector);
+            return;
+        }
         let chunks = vector.chunks();
         if !self.has_item(block, before, chunks) {
             let weight = self.weight_with(block, before, chunks);
             self.cil.put(block, chunks);
             self.weight = weight;
         }
-        keep_vector(
-            &mut self.vectors,
-            &mut self.spare_rooms,
-            block,
-            before.is_none(),
-            vector,
-        );
+        keep_vector(&mut self.vectors, &mut self.spare_rooms, block, vector);
+    }
+
+    /// The same where the block has no item: its place is searched once for both lists.
+    fn put_first(&mut self, block: u64, vector: LogVector)
+        requires few { length self.old.cil < ROOM }
+        requires absent { at block self.old.cil ≡ None }
+        ensures { self.new ≡ record self.old { cil = put block vector.chunks self.old.cil; vectors = put block vector self.old.vectors } }
+    {
+        let chunks = vector.chunks();
+        let weight = self.weight_with(block, &None, chunks);
+        put_both(&mut self.cil, &mut self.vectors, block, chunks, vector);
+        self.weight = weight;
     }
 
     /// Whether the block's item has these chunks already, where it has those before.
@@ -445,23 +455,40 @@ fn joined(before: &Option<Chunks>, marks: Chunks) -> Chunks
     }
 }
 
-/// A block has this log vector, which is its first where it `is_new`; the room of the one before it is kept for a later one. It takes no
+/// A block gets its first item and its first log vector, which stand at one place. It takes no memory.
+fn put_both(
+    cil: &mut SievedMap<Chunks>,
+    vectors: &mut NumberMap<LogVector>,
+    block: u64,
+    chunks: Chunks,
+    vector: LogVector,
+)
+    requires tied { chunks_of vectors.old ≡ cil.old }
+    requires few { length cil.old < ROOM }
+    requires absent { at block cil.old ≡ None }
+    ensures items { cil.new ≡ put block chunks cil.old }
+    ensures vectors { vectors.new ≡ put block vector vectors.old }
+{
+    match vectors.find(block) {
+        Ok(_) => unreachable!(),
+        Err(place) => {
+            cil.insert_at(place, block, chunks);
+            vectors.insert_at(place, block, vector);
+        }
+    }
+}
+
+/// A block that has a log vector has this one in its place; the room of the one before it is kept for a later one. It takes no
 /// memory.
 fn keep_vector(
     vectors: &mut NumberMap<LogVector>,
     spare_rooms: &mut SpareRooms,
     block: u64,
-    is_new: bool,
     vector: LogVector,
 )
-    requires there { is_in block vectors.old ≡ not is_new }
-    requires few { length vectors.old < ROOM }
+    requires { is_in block vectors.old ≡ true }
     ensures { vectors.new ≡ put block vector vectors.old }
 {
-    if is_new {
-        vectors.put_new(block, vector);
-        return;
-    }
     let before = mem::replace(vectors.value_mut(block), vector);
     spare_rooms.give(before.into_room());
 }

@@ -2,6 +2,7 @@
 
 ghost use Rattle.std.specs.Prelude.{ℕ, Bool, ◌≡◌, ◌<◌, ◌≤◌, [], IfOk, false, filter, length, option_copied, true};
 ghost use Rattle.xt_base.specs.Maps.{at, is_in, put as with_entry, without};
+ghost use Rattle.xt_base.specs.Places.{place};
 ghost use Rattle.xt_base.specs.Sound.{IsRising};
 ghost use Rattle.xt_items.specs.Sieves.{ArePassed, passes};
 
@@ -101,6 +102,17 @@ impl<V> SievedMap<V> {
         ensures { self.new ≡ with_entry key value self.old }
     {
         self.map.put(key, value);
+        self.bits = with_key(self.bits, key);
+    }
+
+    /// Puts a value at a key that it does not have, where it would stand. It takes no memory.
+    pub(crate) fn insert_at(&mut self, at: usize, key: u64, value: V)
+        requires place { at ≡ place key self.old }
+        requires absent { is_in key self.old ≡ false }
+        requires room { length self.old < ROOM }
+        ensures { self.new ≡ with_entry key value self.old }
+    {
+        self.map.insert_at(at, key, value);
         self.bits = with_key(self.bits, key);
     }
 

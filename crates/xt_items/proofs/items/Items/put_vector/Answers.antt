@@ -1,5 +1,5 @@
 use Rattle.std.proofs.Common.{◌≡◌, ◌∙◌, List, ap, subst, sym, ℕ}
-use Rattle.std.specs.Prelude.{is_some, sum_by}
+use Rattle.std.specs.Prelude.{is_some, not, sum_by}
 use Rattle.xt_base.proofs.RisingLemmas.{each_put}
 use Rattle.xt_base.specs.Maps.{is_in, put}
 use Rattle.xt_base.specs.Sound.{Each}
@@ -36,10 +36,10 @@ invariant_of-self c =
           )
     ]
 
-pub keep_vector-requires-clause-there : goal.keep_vector-requires-clause-there
-keep_vector-requires-clause-there c =
+pub keep_vector-requires : goal.keep_vector-requires
+keep_vector-requires c =
     let block = c.args.block in
-    let there = sym (in_chunks block c.self.inside.vectors) ∙ ap (is_in block) c.self.invariant.0 ∙ ap (λ (l : Lists). is_in block l.cil) c.self.view_is ∙ ap is_some (sym c.requires.before) ∙ c.is_none.ensures in
+    let there = sym (in_chunks block c.self.inside.vectors) ∙ ap (is_in block) c.self.invariant.0 ∙ ap (λ (l : Lists). is_in block l.cil) c.self.view_is ∙ ap is_some (sym c.requires.before) ∙ c.is_none.ensures ∙ ap not c.if-is_none.false in
     elim c.if-not-has_item.branch [
       | then-not-has_item w ↦ ap (λ (i : Inside). is_in block i.vectors) w.self-inside-is ∙ there
       | else-not-has_item w ↦ ap (λ (i : Inside). is_in block i.vectors) w.self-inside-is ∙ there
