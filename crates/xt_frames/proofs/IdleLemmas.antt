@@ -3,7 +3,7 @@ use Rattle.std.proofs.Common.{append_assoc, ◌≡◌, ◌≢◌, ◌∙◌, ◌
 use Rattle.std.proofs.Math.Seq.{take-nil}
 use Rattle.std.proofs.lemmas.Bool.{cases_Bool, cases_eq, eq-eqb, ne_eqb}
 use Rattle.std.specs.List.{AllByRecursion, IsDistinct}
-use Rattle.std.specs.Map.{keys_of, lookup, lookup_entry, remove_entry}
+use Rattle.std.specs.Map.{keys_of, lookup, lookup_entry, remove_entry, set_value}
 use Rattle.std.specs.Option.{option_map_or}
 use Rattle.std.specs.Prelude.{Err, IfNone, Ok, OnOk, Result, if◌then◌else◌, is_err, is_some, nat_eq, option_map, slice_get}
 use Rattle.lru.specs.LruCache.{LruCache, demoted, last_entry, lru_cache, put_entries}
@@ -189,6 +189,33 @@ length_last : (n : ℕ) (es : Names) → length (es ++ (n, None) ∷ []) ≡ len
 length_last n [] = refl
 length_last n (x ∷ es) = let more : length (es ++ (n, None) ∷ []) ≡ length es + 1 = length_last n es in omega (arith, more)
 
+-- without the name nothing tells what stood under it
+set_rest : (t : ℕ → Bool) (v : Idle) (es : Names) → remove_entry t (set_value t es v) ≡ remove_entry t es
+set_rest t v [] = refl
+set_rest t v (e ∷ es) =
+    elim (cases_Bool (t e.0)) [
+      | inl here ↦
+          ap (λ c. remove_entry t (cond c ((e.0, v) ∷ es) (e ∷ set_value t es v))) here ∙ ap (λ c. cond c es ((e.0, v) ∷ remove_entry t es)) here
+          ∙ sym (ap (λ c. cond c es (e ∷ remove_entry t es)) here)
+      | inr later ↦
+          ap (λ c. remove_entry t (cond c ((e.0, v) ∷ es) (e ∷ set_value t es v))) later ∙ ap (λ c. cond c (set_value t es v) (e ∷ remove_entry t (set_value t es v))) later
+          ∙ ap (λ (xs : Names). e ∷ xs) (set_rest t v es) ∙ sym (ap (λ c. cond c es (e ∷ remove_entry t es)) later)
+    ]
+
+-- and under the name stands what was set
+set_entry : (t : ℕ → Bool) (n : ℕ) (w v : Idle) (es : Names) → lookup_entry t es ≡ Some (n, w) → lookup_entry t (set_value t es v) ≡ Some (n, v)
+set_entry t n w v [] is = absurd (cc)
+set_entry t n w v (e ∷ es) is =
+    elim (cases_Bool (t e.0)) [
+      | inl here ↦
+          let found : Some e ≡ Some (n, w) = sym (ap (λ c. cond c (Some e) (lookup_entry t es)) here) ∙ is in
+          let same : e ≡ (n, w) = cc in
+          ap (λ c. lookup_entry t (cond c ((e.0, v) ∷ es) (e ∷ set_value t es v))) here ∙ ap (λ c. cond c (Some (e.0, v)) (lookup_entry t es)) here ∙ ap (λ (x : ℕ × Idle). Some (x.0, v)) same
+      | inr later ↦
+          ap (λ c. lookup_entry t (cond c ((e.0, v) ∷ es) (e ∷ set_value t es v))) later ∙ ap (λ c. cond c (Some e) (lookup_entry t (set_value t es v))) later
+          ∙ set_entry t n w v es (sym (ap (λ c. cond c (Some e) (lookup_entry t es)) later) ∙ is)
+    ]
+
 abbrev Cache : Type 0
 Cache = LruCache ℕ Idle
 
@@ -205,14 +232,14 @@ module _ (old : Cache) (b n : ℕ) (full : IsFull old) (distinct : IsDistinct na
   pub some_under : (o : Option (List ℕ)) (P : Type 0) → o ≡ content_under (lookup (nat_eq n) old.entries) → IfNone o P
   some_under o P is = subst (λ x. IfNone x P) (sym (is ∙ value_under ∙ under.at)) tt
 
-  -- the name goes to the front, and then behind all others
-  names_left : demoted (nat_eq n) (put_entries nat_eq old n None) ≡ remove_entry (nat_eq n) old.entries ++ (n, None) ∷ []
+  -- the name has no block any more, and goes behind all others
+  names_left : demoted (nat_eq n) (set_value (nat_eq n) old.entries None) ≡ remove_entry (nat_eq n) old.entries ++ (n, None) ∷ []
   names_left =
-      let rest : Names = remove_entry (nat_eq n) old.entries in
-      ap (demoted (nat_eq n)) (ap (λ o. option_map_or (λ (e : ℕ × Idle). (e.0, None) ∷ rest) o ((n, None) ∷ take (old.cap - 1) old.entries)) under.entry)
-      ∙ ap (λ v. option_map_or (λ (e : ℕ × Idle). cond v rest ((n, None) ∷ remove_entry (nat_eq n) rest) ++ e ∷ []) (cond v (Some (n, None)) (lookup_entry (nat_eq n) rest)) ((n, None) ∷ rest)) (eq-eqb n n refl)
+      let emptied : Names = set_value (nat_eq n) old.entries None in
+      ap (λ o. option_map_or (λ (e : ℕ × Idle). remove_entry (nat_eq n) emptied ++ e ∷ []) o emptied) (set_entry (nat_eq n) n (Some (b, under.content)) None old.entries under.entry)
+      ∙ ap (λ (xs : Names). xs ++ (n, None) ∷ []) (set_rest (nat_eq n) None old.entries)
 
-  pub full_left : (new : Cache) → new ≡ lru_cache (demoted (nat_eq n) (put_entries nat_eq old n None)) old.cap → IsFull new
+  pub full_left : (new : Cache) → new ≡ lru_cache (demoted (nat_eq n) (set_value (nat_eq n) old.entries None)) old.cap → IsFull new
   full_left new is =
       let fewer = length_less (nat_eq n) old.entries (n, Some (b, under.content)) under.entry in
       subst IsFull (sym (is ∙ ap (λ es. lru_cache es old.cap) names_left)) (record {
@@ -221,7 +248,7 @@ module _ (old : Cache) (b n : ℕ) (full : IsFull old) (distinct : IsDistinct na
         packed = packed_last n (remove_entry (nat_eq n) old.entries) (packed_less (nat_eq n) old.entries full.packed);
       })
 
-  pub idle_left : (new : Cache) → new ≡ lru_cache (demoted (nat_eq n) (put_entries nat_eq old n None)) old.cap → idle_of new.entries ≡ without b (idle_of old.entries)
+  pub idle_left : (new : Cache) → new ≡ lru_cache (demoted (nat_eq n) (set_value (nat_eq n) old.entries None)) old.cap → idle_of new.entries ≡ without b (idle_of old.entries)
   idle_left new is = ap (λ (c : Cache). idle_of c.entries) is ∙ ap idle_of names_left ∙ idle_last n (remove_entry (nat_eq n) old.entries) ∙ under.rest
 
 -- ---- one comes

@@ -1,7 +1,7 @@
 //! The contents of idle blocks.
 
 ghost use Rattle.std.specs.List.{IsDistinct};
-ghost use Rattle.std.specs.Map.{keys_of, lookup};
+ghost use Rattle.std.specs.Map.{keys_of, lookup, set_value};
 ghost use Rattle.std.specs.Prelude.{◌≡◌, ◌≤◌, ◌∷◌, List, None, Some, [], is_some, length, nat_eq, option_map, slice_get, take, true, IfNone, IfOk, IfSome, ℕ};
 ghost use Rattle.lru.specs.LruCache.{demoted, last_entry, lru_cache, put_entries};
 ghost use Rattle.xt_base.specs.Maps.{at, is_in, without};
@@ -10,6 +10,7 @@ ghost use Rattle.xt_frames.specs.Idle.{content_under, idle_of, name_of, IsFull, 
 use lru::LruCache;
 use std::alloc::{AllocError, Global};
 use std::marker::Model;
+use std::mem;
 use std::num::NonZeroUsize;
 use xt_base::content::Content;
 use xt_base::sizes::IDLE_BLOCKS;
@@ -166,16 +167,16 @@ fn last_name(names: &Names) -> u32
 fn take_under(names: &mut Names, name: u32) -> Option<Content>
     requires { is_some (lookup (nat_eq name) names.old.entries) ≡ true }
     ensures value { result ≡ content_under (lookup (nat_eq name) names.old.entries) }
-    ensures names { names.new ≡ lru_cache (demoted (nat_eq name) (put_entries nat_eq names.old name None)) names.old.cap }
+    ensures names { names.new ≡ lru_cache (demoted (nat_eq name) (set_value (nat_eq name) names.old.entries None)) names.old.cap }
 {
-    let before = match names.put(name, None) {
-        Ok(before) => before,
-        Err(_) => unreachable!(),
+    let before = match names.peek_mut(&name) {
+        Some(idle) => mem::replace(idle, None),
+        None => unreachable!(),
     };
     let _is_there = names.demote(&name);
     match before {
-        Some(Some((_, content))) => Some(content),
-        _ => None,
+        Some((_, content)) => Some(content),
+        None => None,
     }
 }
 
