@@ -1,7 +1,7 @@
 //! Numbers as text: decimal without leading zeros, both ways.
 
 ghost use Rattle.std.specs.Fmt.{decimal};
-ghost use Rattle.std.specs.Prelude.{◌≡◌, ◌<◌, ◌≤◌, ◌∷◌, ◌+◌, ◌/◌, ◌%◌, [], None, drop, length, IfErr, IfOk, IfSome};
+ghost use Rattle.std.specs.Prelude.{◌≡◌, ◌<◌, ◌≤◌, ◌∷◌, ◌+◌, ◌/◌, ◌%◌, [], None, Some, drop, length, IfErr, IfOk, IfSome};
 ghost use Rattle.xt_text.specs.Buffer.{put};
 ghost use Rattle.xt_text.specs.LineReading.{before, behind};
 ghost use Rattle.xt_text.specs.Reading.{Gives, GivesAs, below, is_plain, number_of, number_on};
@@ -42,8 +42,21 @@ fn is_plain(word: &[u8]) -> bool
     }
 }
 
-/// The number of some digits: at least one, and none behind a zero that leads.
+/// The number of some digits: at least one, and none behind a zero that leads. A digit that stands alone, as in many numbers of a line, is
+/// read at once.
+#[inline(always)]
 pub(crate) fn number_of(word: &[u8]) -> Result<u64, BadLine>
+    ensures value { Gives result (number_of word.now) }
+    ensures spelling { IfErr result (λ e. e ≡ Spelling) }
+{
+    match word {
+        [digit] if digit.is_ascii_digit() => Ok((*digit - b'0') as u64),
+        _ => digits_of(word),
+    }
+}
+
+/// The same digit by digit.
+fn digits_of(word: &[u8]) -> Result<u64, BadLine>
     ensures value { Gives result (number_of word.now) }
     ensures spelling { IfErr result (λ e. e ≡ Spelling) }
 {
@@ -96,8 +109,37 @@ fn behind_first(text: &[u8]) -> &[u8]
     }
 }
 
-/// The number that stands before the first separator of a text, and what stands behind that: a text is read once.
+/// The digit that stands alone before the first separator of a text, if one does, and what stands behind that.
+#[inline(always)]
+fn digit_before(text: &[u8], separator: u8) -> Option<(u64, &[u8])>
+    ensures value { IfSome result (λ p. number_of (before separator text.now) ≡ Some p.0) }
+    ensures rest { IfSome result (λ p. p.1.now ≡ behind separator text.now) }
+{
+    match text {
+        [digit, second, after @ ..]
+            if *second == separator && *digit != separator && digit.is_ascii_digit() => {
+            Some(((*digit - b'0') as u64, after))
+        }
+        _ => None,
+    }
+}
+
+/// The number that stands before the first separator of a text, and what stands behind that: a text is read once, and a digit that
+/// stands alone, as in many numbers of a line, at once.
+#[inline(always)]
 pub(crate) fn number_before(text: &[u8], separator: u8) -> Result<(u64, &[u8]), BadLine>
+    ensures value { GivesAs (λ p. p.0) result (number_of (before separator text.now)) }
+    ensures rest { IfOk result (λ p. p.1.now ≡ behind separator text.now) }
+    ensures spelling { IfErr result (λ e. e ≡ Spelling) }
+{
+    match digit_before(text, separator) {
+        Some(read) => Ok(read),
+        None => digits_before(text, separator),
+    }
+}
+
+/// The same digit by digit.
+fn digits_before(text: &[u8], separator: u8) -> Result<(u64, &[u8]), BadLine>
     ensures value { GivesAs (λ p. p.0) result (number_of (before separator text.now)) }
     ensures rest { IfOk result (λ p. p.1.now ≡ behind separator text.now) }
     ensures spelling { IfErr result (λ e. e ≡ Spelling) }

@@ -1,7 +1,7 @@
 use Rattle.std.proofs.Common.{length, ◌≡◌}
 use Rattle.xt_text.specs.LineReading.{before, behind}
 use Rattle.xt_text.specs.Reading.{number_with}
-use Rattle.xt_text.proofs.numbers.number_before.Given as goal
+use Rattle.xt_text.proofs.numbers.digits_before.Given as goal
 
 abbrev pub invariant-loop-digit : goal.invariant-loop-digit
 invariant-loop-digit l = record {
