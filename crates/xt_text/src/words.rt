@@ -198,6 +198,22 @@ fn kind_of(word: &[u8]) -> Result<JobKind, BadLine>
     }
 }
 
+/// What a job does, before a dot, and what stands behind that. Most jobs are those of checkpoints, which are told at once.
+#[inline(always)]
+#[tactic(auto, unfolding(crate::specs::LineReading::kind_of))]
+fn kind_before(text: &[u8]) -> Result<(JobKind, &[u8]), BadLine>
+    ensures value { GivesAs (λ p. p.0) result (kind_of (before 46 text.now)) }
+    ensures rest { IfOk result (λ p. p.1.now ≡ behind 46 text.now) }
+    ensures spelling { IfErr result (λ e. e ≡ Spelling) }
+{
+    if let [b'c', b'k', b'p', b't', b'.', rest @ ..] = text {
+        return Ok((JobKind::Ckpt, rest));
+    }
+    let (kind, rest) = cut(text, b'.');
+    let kind = kind_of(kind)?;
+    Ok((kind, rest))
+}
+
 /// The name of a job.
 #[tactic(auto, unfolding(crate::specs::LineReading::name_of))]
 pub(crate) fn name_of(word: &[u8]) -> Result<JobName, BadLine>
@@ -211,8 +227,9 @@ pub(crate) fn name_of(word: &[u8]) -> Result<JobName, BadLine>
     let Ok((life, rest)) = u32_before(rest, b'.') else {
         return Err(BadLine::Spelling);
     };
-    let (kind, serial) = cut(rest, b'.');
-    let kind = kind_of(kind)?;
+    let Ok((kind, serial)) = kind_before(rest) else {
+        return Err(BadLine::Spelling);
+    };
     let serial = number_of(serial)?;
     Ok(JobName {
         slot,
