@@ -64,6 +64,10 @@ sync_of word =
     else None
 
 -- ---- requests, by what stands behind their verb
+-- a call by a request that no device answers, if there is one
+abbrev pub asks : ℕ → ℕ → Option Request → Option Step
+asks slot life request = request >>= λ r. Some (Call slot life r Answer.None)
+
 -- UNIT COUNT plain, or perm
 unfoldable pub alloc_of : List ℕ → Option Request
 alloc_of words =
@@ -181,7 +185,7 @@ read_of slot life words =
 unfoldable pub asked_of : ℕ → ℕ → List ℕ → List ℕ → Option Step
 asked_of slot life verb words =
     if bytes_eq verb (codes "read") then read_of slot life words
-    else (request_of verb words >>= λ request. Some (Call slot life request Answer.None))
+    else asks slot life (request_of verb words)
 
 -- a call: SLOT.LIFE, and the request
 unfoldable pub call_of : List ℕ → List ℕ → Option Step

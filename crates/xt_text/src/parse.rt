@@ -1,10 +1,10 @@
 //! Lines parsed as steps.
 
-ghost use Rattle.std.specs.Prelude.{◌≡◌, ◌≤◌, ◌↔◌, length, IfOk, IsErrOf, IsFalse, IsTrue, None, OnErr, OnOk, Some};
+ghost use Rattle.std.specs.Prelude.{◌≡◌, ◌<◌, ◌≤◌, ◌↔◌, length, vec_capacity, vec_len, IfOk, IsErrOf, IsTrue, None, OnErr, OnOk, Some};
 ghost use Rattle.xt_base.specs.declared.steps.Step.{Step as AnyStep};
 ghost use Rattle.xt_text.specs.LineReading.{is_strict, is_strict_request, parsed, step_of, IsReadBehind};
 ghost use Rattle.xt_text.specs.Lines.{IsStep, line_of};
-ghost use Rattle.xt_text.specs.Reading.{Gives};
+ghost use Rattle.xt_text.specs.Reading.{Gives, GivesAs};
 ghost use Rattle.xt_text.specs.SessionLines.{takes_memory};
 ghost use Rattle.xt_text.specs.declared.bad_line.BadLine.TheVariants.{Memory, Spelling};
 
@@ -13,6 +13,7 @@ use crate::buffer::Text;
 use crate::print_step::print_step;
 use crate::read_line::step_of;
 use std::alloc::Global;
+use xt_base::names::Slot;
 use xt_base::steps::{Request, Step};
 
 /// The most bytes of a line, without its newline.
@@ -60,18 +61,30 @@ fn is_line_of(line: &[u8], step: &Step, text: &mut Text) -> bool
     text.holds(line)
 }
 
-/// Whether what a line gives is the step of another line.
-#[tactic(auto, using(crate::proofs::ParseLemmas::error_parsed, crate::proofs::ParseLemmas::other_parsed, crate::proofs::ParseLemmas::same_parsed))]
-fn is_of_other(line: &[u8], read: &Result<Step, BadLine>, text: &mut Text) -> bool
-    requires short { length line.now ≤ 8400 }
-    requires given { Gives read.now (step_of line.now) }
-    ensures other { IsTrue result → parsed line.now ≡ None }
-    ensures parsed { IsFalse result → Gives read.now (parsed line.now) }
-    ensures found { IsFalse result → IfOk read.now (λ step. line.now ≡ line_of step) }
+/// A step that is written over.
+#[inline(always)]
+fn any_step() -> Step {
+    Step::Show(Slot::new(0).unwrap())
+}
+
+/// Reads the step that a line spells where it is to stand: a step is large, so it is put there by what reads it, and looked at there.
+#[inline(always)]
+#[tactic(auto, using(crate::proofs::ParseLemmas::other_parsed, crate::proofs::ParseLemmas::same_parsed, crate::proofs::ParseLemmas::none_parsed, crate::proofs::ParseLemmas::long_parsed))]
+fn read_step(alloc: Global, line: &[u8], text: &mut Text, step: &mut Step) -> Result<(), BadLine>
+    ensures value { GivesAs (λ _. step.new) result (parsed line.now) }
+    ensures valid { OnOk result (IsStep step.new) }
+    ensures found { OnOk result (line.now ≡ line_of step.new) }
+    ensures short { OnOk result (length line.now ≤ 8400) }
+    ensures memory { IsErrOf result Memory → IsTrue (takes_memory line.now) }
 {
-    match read {
-        Ok(step) => !is_line_of(line, step, text),
-        Err(_) => false,
+    if line.len() > LINE_BYTES {
+        return Err(BadLine::Spelling);
+    }
+    step_of(alloc, line, text, step)?;
+    if is_line_of(line, step, text) {
+        Ok(())
+    } else {
+        Err(BadLine::Spelling)
     }
 }
 
@@ -97,19 +110,13 @@ pub fn parse_line_in(alloc: Global, line: &[u8], text: &mut Text) -> Result<Step
     ensures short { OnOk result (length line.now ≤ 8400) }
     ensures memory { IsErrOf result Memory → IsTrue (takes_memory line.now) }
 {
-    if line.len() > LINE_BYTES {
-        return Err(BadLine::Spelling);
-    }
-    let read = step_of(alloc, line, text);
-    if is_of_other(line, &read, text) {
-        return Err(BadLine::Spelling);
-    }
-    read
+    let mut step = any_step();
+    read_step(alloc, line, text, &mut step)?;
+    Ok(step)
 }
 
-/// `parse_line_in`, with the step put behind others: a step is large, so it is looked at where it stands, and moved no more. Where the
-/// line is bad, the others stand alone.
-#[tactic(auto, using(crate::proofs::ParseLemmas::other_parsed, crate::proofs::ParseLemmas::same_parsed, crate::proofs::ParseLemmas::long_parsed, crate::proofs::ParseLemmas::none_parsed))]
+/// `parse_line_in`, with the step put behind others, which stand alone where the line is bad. Where they have room for one more, only a
+/// line whose words say that data or answers follow is answered Memory.
 pub fn parse_line_behind(
     alloc: Global,
     line: &[u8],
@@ -119,18 +126,12 @@ pub fn parse_line_behind(
     ensures put { OnOk result (IsReadBehind line.now steps.new.items steps.old.items) }
     ensures bad { IsErrOf result Spelling → parsed line.now ≡ None }
     ensures kept { OnErr result (steps.new.items ≡ steps.old.items) }
+    ensures memory { IsErrOf result Memory → vec_len steps.old < vec_capacity steps.old → IsTrue (takes_memory line.now) }
 {
-    if line.len() > LINE_BYTES {
-        return Err(BadLine::Spelling);
+    let mut step = any_step();
+    read_step(alloc, line, text, &mut step)?;
+    match steps.push(step) {
+        Ok(()) => Ok(()),
+        Err(_) => Err(BadLine::Memory),
     }
-    let step = step_of(alloc, line, text)?;
-    let at = steps.len();
-    let Ok(()) = steps.push(step) else {
-        return Err(BadLine::Memory);
-    };
-    if is_line_of(line, &steps[at], text) {
-        return Ok(());
-    }
-    steps.pop();
-    Err(BadLine::Spelling)
 }

@@ -1,16 +1,15 @@
-use Rattle.std.proofs.Common.{Err}
-use Rattle.xt_text.proofs.ParseLemmas.{gives_own, line_not_long, long_parsed}
+use Rattle.std.proofs.Common.{Ok, rules}
+use Rattle.xt_text.proofs.ParseLemmas.{gives_own}
 use Rattle.xt_text.proofs.parse.parse_line_in.Goals as goal
-use Rattle.xt_text.specs.declared.bad_line.BadLine.TheVariants.{Spelling}
+use Rattle.xt_text.specs.LineReading.{parsed}
+use Rattle.xt_text.specs.Reading.{Gives}
 
-pub returns-then-line-gt-LINE_BYTES-clause-parsed : goal.returns-then-line-gt-LINE_BYTES-clause-parsed
-returns-then-line-gt-LINE_BYTES-clause-parsed c = long_parsed _ c.if-line-gt-LINE_BYTES.true
-
-pub returns-then-line-gt-LINE_BYTES-clause-only : goal.returns-then-line-gt-LINE_BYTES-clause-only
-returns-then-line-gt-LINE_BYTES-clause-only c = λ step is e. absurd (line_not_long _ step is e c.if-line-gt-LINE_BYTES.true)
-
-pub returns-then-is_of_other-clause-only : goal.returns-then-is_of_other-clause-only
-returns-then-is_of_other-clause-only c = λ step is e. gives_own _ step (Err Spelling) is e (c.is_of_other.ensures.other c.if-is_of_other.true)
+pub returns-in_err-read_step-clause-only : goal.returns-in_err-read_step-clause-only
+returns-in_err-read_step-clause-only c =
+    let gives : Gives c.from_residual.result (parsed c.args.line.now) = search rules in
+    λ step is e. gives_own _ step c.from_residual.result is e gives
 
 pub returns-clause-only : goal.returns-clause-only
-returns-clause-only c = λ step is e. gives_own _ step _ is e (c.is_of_other.ensures.parsed c.if-is_of_other.false)
+returns-clause-only c =
+    let gives : Gives (Ok c.read_step.new.step) (parsed c.args.line.now) = search rules in
+    λ step is e. gives_own _ step (Ok c.read_step.new.step) is e gives
