@@ -2,7 +2,7 @@
 //! `XX*N`, shorter ones are plain digits, and a dot stands between neighbours unless both are short; no bytes are `-`.
 
 ghost use Rattle.std.specs.Prelude.{◌≡◌, ◌==◌, ◌<◌, ◌≤◌, ◌↔◌, ◌++◌, ◌∷◌, IsTrue, List, [], ℕ, length, drop, replicate, take, ◌+◌, ◌*◌, None, Some, IfErr, IsErrOf, IfSome, IfOk};
-ghost use Rattle.std.specs.List.{All, prefix_len};
+ghost use Rattle.std.specs.List.{All, flat_map, prefix_len};
 ghost use Rattle.xt_text.specs.Buffer.{put};
 ghost use Rattle.xt_text.specs.DataReading.{at_end, byte_value, front_at, hex_value, is_count, next, read_content, read_data, reads, spelled_data, with_run};
 ghost use Rattle.xt_text.specs.Reading.{Gives, GivesAs};
@@ -347,10 +347,47 @@ fn put_run(out: &mut Text, run: Run)
     }
 }
 
+/// Puts a run whose count has one digit: all at once.
+#[inline(always)]
+#[tactic(auto, using(std::proofs::lemmas::Fmt::decimal_digit))]
+fn put_counted(out: &mut Text, run: Run)
+    requires least { COUNTED ≤ run.count }
+    requires most { run.count < 10 }
+    ensures { out.new ≡ put out.old (run_text run) }
+{
+    let high = hex_digit(run.byte / DIGITS);
+    let low = hex_digit(run.byte % DIGITS);
+    out.put(&[high, low, b'*', b'0' + run.count as u8]);
+}
+
+/// Puts a byte three times: all at once.
+#[inline(always)]
+fn put_thrice(out: &mut Text, byte: u8)
+    ensures { out.new ≡ put out.old (flat_map hex (replicate 3 byte)) }
+{
+    let high = hex_digit(byte / DIGITS);
+    let low = hex_digit(byte % DIGITS);
+    out.put(&[high, low, high, low, high, low]);
+}
+
+/// The same of a longer run: of three bytes, or of a count of one digit, as most are, at once.
+#[inline(never)]
+fn put_longer(out: &mut Text, run: Run)
+    ensures { out.new ≡ put out.old (run_text run) }
+{
+    if run.count >= COUNTED && run.count < 10 {
+        put_counted(out, run);
+    } else if run.count == 3 {
+        put_thrice(out, run.byte);
+    } else {
+        put_any(out, run);
+    }
+}
+
 /// The same of any run.
 #[inline(never)]
 #[tactic(auto, using(crate::proofs::BufferLemmas::put_put, crate::proofs::BufferLemmas::put_none, crate::proofs::RunLemmas::hex_more))]
-fn put_longer(out: &mut Text, run: Run)
+fn put_any(out: &mut Text, run: Run)
     ensures { out.new ≡ put out.old (run_text run) }
 {
     if is_short(run) {
@@ -390,6 +427,9 @@ fn count_equal(bytes: &[u8], byte: u8) -> usize
     match bytes {
         [first, second, ..] if *first == byte && *second != byte => 1,
         _ if bytes.len() >= BLOCK && bytes[BLOCK - 1] == byte => count_blocks(bytes, byte),
+        [first, second, after @ ..] if *first == byte && *second == byte => {
+            2 + count_front(after, byte)
+        }
         _ => count_front(bytes, byte),
     }
 }
