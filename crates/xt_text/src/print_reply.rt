@@ -1,7 +1,7 @@
 //! Replies and offers printed.
 
 ghost use Rattle.std.specs.Fmt.{decimal};
-ghost use Rattle.std.specs.Prelude.{◌≡◌, ◌≤◌, ◌∷◌, ◌++◌, length, true};
+ghost use Rattle.std.specs.Prelude.{◌≡◌, ◌≤◌, ◌∷◌, ◌++◌, [], length, true};
 ghost use Rattle.xt_base.specs.Errors.{name_of};
 ghost use Rattle.xt_base.specs.declared.sizes.TheConstants.{DATA_BYTES};
 ghost use Rattle.xt_base.specs.declared.steps.LogOffer.{LogOffer as ALogOffer};
@@ -152,6 +152,22 @@ pub fn print_reply(reply: &Reply, out: &mut Text)
     put_reply(reply, out);
 }
 
+/// Puts a slot and a space: a slot of one digit, as most are, at once.
+#[inline(always)]
+#[tactic(auto, using(crate::proofs::BufferLemmas::put_put, std::proofs::lemmas::Fmt::decimal_digit))]
+fn put_slot(out: &mut Text, slot: Slot)
+    ensures text { out.new ≡ put out.old (decimal slot ++ BLANK ∷ []) }
+    ensures short { length (decimal slot) ≤ 20 }
+{
+    let index = slot.index();
+    if index < 10 {
+        out.push_both(b'0' + index as u8, BLANK);
+    } else {
+        put_number(out, index as u64);
+        out.push(BLANK);
+    }
+}
+
 /// Puts a reply with the slot that its step names in front, and no newline in it or behind.
 #[tactic(auto, using(crate::proofs::BufferLemmas::put_put, crate::proofs::OneLine::slot_reply_one_line))]
 pub fn print_slot_reply(slot: Slot, reply: &Reply, out: &mut Text)
@@ -159,8 +175,7 @@ pub fn print_slot_reply(slot: Slot, reply: &Reply, out: &mut Text)
     ensures short { length (slot_reply_text slot reply.now) ≤ 8400 }
     ensures line { is_one_line (slot_reply_text slot reply.now) ≡ true }
 {
-    put_number(out, slot.index() as u64);
-    out.push(BLANK);
+    put_slot(out, slot);
     print_reply(reply, out);
 }
 
