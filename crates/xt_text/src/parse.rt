@@ -128,10 +128,15 @@ pub fn parse_line_behind(
     ensures kept { OnErr result (steps.new.items ≡ steps.old.items) }
     ensures memory { IsErrOf result Memory → vec_len steps.old < vec_capacity steps.old → IsTrue (takes_memory line.now) }
 {
-    let mut step = any_step();
-    read_step(alloc, line, text, &mut step)?;
-    match steps.push(step) {
+    let at = steps.len();
+    let Ok(()) = steps.push(any_step()) else {
+        return Err(BadLine::Memory);
+    };
+    match read_step(alloc, line, text, &mut steps[at]) {
         Ok(()) => Ok(()),
-        Err(_) => Err(BadLine::Memory),
+        Err(bad) => {
+            steps.pop();
+            Err(bad)
+        }
     }
 }
