@@ -7,6 +7,7 @@ pub mod logdump;
 mod printing;
 pub mod progress;
 pub mod script;
+mod waiting;
 mod writing;
 
 pub use fault::ScriptFault;

@@ -14,7 +14,8 @@ ghost use Rattle.xt_offline.specs.Script.{is_of_script, picked, IsCutShort, IsFa
 
 use crate::fault::ScriptFault;
 use crate::lines::{parse_script, read_script};
-use crate::printing::{print_broken, put_ending, put_reply, put_turn, write_lines};
+use crate::printing::{print_broken, put_ending, put_turn};
+use crate::waiting::Waiting;
 use crate::writing::{write_bytes, write_numbered};
 use std::alloc::{AllocError, Global};
 use std::io::{self, Read, Write};
@@ -23,10 +24,6 @@ use xt_base::names::Slot;
 use xt_base::steps::Step;
 use xt_core::HostCore;
 use xt_core::host::TurnFault;
-use xt_text::buffer::Text;
-
-/// How many bytes of lines wait at most for the next step, before they are written.
-const LINES_BYTES: usize = 32_768;
 
 /// The steps that are run: all, or those of one slot.
 fn pick(alloc: Global, steps: Vec<Step>, only: Option<Slot>) -> Result<Vec<Step>, ScriptFault>
@@ -46,18 +43,17 @@ fn pick(alloc: Global, steps: Vec<Step>, only: Option<Slot>) -> Result<Vec<Step>
 /// after step.
 fn put_step(
     host: &mut HostCore,
-    lines: &mut Vec<u8>,
-    offers: &mut Vec<u8>,
-    text: &mut Text,
+    waiting: &mut Waiting,
+    offers: &mut Waiting,
     step: &Step,
 ) -> Result<(), TurnFault>
-    ensures put { OnOk result (IsPutBehind step.now host.new host.old lines.new.items lines.old.items) }
-    ensures disorder { IfErr result (λ fault. fault ≡ ATurnFault.Disorder → (may_come host.old step.now ≡ false) × (lines.new.items ≡ lines.old.items)) }
+    ensures put { OnOk result (IsPutBehind step.now host.new host.old waiting.new waiting.old) }
+    ensures disorder { IfErr result (λ fault. fault ≡ ATurnFault.Disorder → (may_come host.old step.now ≡ false) × (waiting.new ≡ waiting.old)) }
 {
     if is_offering(step) {
-        put_offering(host, lines, offers, text, step)
+        put_offering(host, waiting, offers, step)
     } else {
-        put_quiet(host, lines, text, step)
+        put_quiet(host, waiting, step)
     }
 }
 
@@ -71,20 +67,17 @@ fn is_offering(step: &Step) -> bool
 /// The same of a step that offers nothing.
 #[inline(always)]
 #[tactic(auto, using(crate::proofs::PutLemmas::put_quiet))]
-fn put_quiet(
-    host: &mut HostCore,
-    lines: &mut Vec<u8>,
-    text: &mut Text,
-    step: &Step,
-) -> Result<(), TurnFault>
+fn put_quiet(host: &mut HostCore, waiting: &mut Waiting, step: &Step) -> Result<(), TurnFault>
     requires { is_offering step.now ≡ false }
-    ensures put { OnOk result (IsPutBehind step.now host.new host.old lines.new.items lines.old.items) }
-    ensures disorder { IfErr result (λ fault. fault ≡ ATurnFault.Disorder → (may_come host.old step.now ≡ false) × (lines.new.items ≡ lines.old.items)) }
+    ensures put { OnOk result (IsPutBehind step.now host.new host.old waiting.new waiting.old) }
+    ensures disorder { IfErr result (λ fault. fault ≡ ATurnFault.Disorder → (may_come host.old step.now ≡ false) × (waiting.new ≡ waiting.old)) }
 {
     let Ok(reply) = host.answer(step) else {
         return Err(TurnFault::Disorder);
     };
-    put_reply(lines, text, step.slot(), &reply).map_err(|_| TurnFault::Memory)
+    waiting
+        .put_reply(step.slot(), &reply)
+        .map_err(|_| TurnFault::Memory)
 }
 
 /// The same of a step that offers something. What the end of a checkpoint offers is put aside before the step is taken, so that the
@@ -92,51 +85,47 @@ fn put_quiet(
 #[inline(never)]
 fn put_offering(
     host: &mut HostCore,
-    lines: &mut Vec<u8>,
-    offers: &mut Vec<u8>,
-    text: &mut Text,
+    waiting: &mut Waiting,
+    offers: &mut Waiting,
     step: &Step,
 ) -> Result<(), TurnFault>
-    ensures put { OnOk result (IsPutBehind step.now host.new host.old lines.new.items lines.old.items) }
-    ensures disorder { IfErr result (λ fault. fault ≡ ATurnFault.Disorder → (may_come host.old step.now ≡ false) × (lines.new.items ≡ lines.old.items)) }
+    ensures put { OnOk result (IsPutBehind step.now host.new host.old waiting.new waiting.old) }
+    ensures disorder { IfErr result (λ fault. fault ≡ ATurnFault.Disorder → (may_come host.old step.now ≡ false) × (waiting.new ≡ waiting.old)) }
 {
     let Some((answers, pieces)) = host.ending(step) else {
         let turn = host.tell(step)?;
-        return put_turn(lines, text, &turn).map_err(|_| TurnFault::Memory);
+        return put_turn(waiting, &turn).map_err(|_| TurnFault::Memory);
     };
     offers.clear();
-    let Ok(()) = put_ending(offers, text, step.slot(), answers, pieces) else {
+    let Ok(()) = put_ending(offers, step.slot(), answers, pieces) else {
         return Err(TurnFault::Memory);
     };
-    put_ended(host, lines, offers, text, step)
+    put_ended(host, waiting, offers, step)
 }
 
 /// Takes the end of a checkpoint, whose offers are given as lines, and puts its reply and these behind the lines that wait.
 #[tactic(auto, using(crate::proofs::PutLemmas::put_refused, crate::proofs::PutLemmas::put_whole))]
 fn put_ended(
     host: &mut HostCore,
-    lines: &mut Vec<u8>,
-    offers: &[u8],
-    text: &mut Text,
+    waiting: &mut Waiting,
+    offers: &Waiting,
     step: &Step,
 ) -> Result<(), TurnFault>
     requires log { offers.now ≡ log_lines (slot_of step.now) (alone step.now (lone_of host.old (slot_of step.now))).log }
     requires home { (alone step.now (lone_of host.old (slot_of step.now))).home ≡ [] }
-    ensures put { OnOk result (IsPutBehind step.now host.new host.old lines.new.items lines.old.items) }
-    ensures disorder { IfErr result (λ fault. fault ≡ ATurnFault.Disorder → (may_come host.old step.now ≡ false) × (lines.new.items ≡ lines.old.items)) }
+    ensures put { OnOk result (IsPutBehind step.now host.new host.old waiting.new waiting.old) }
+    ensures disorder { IfErr result (λ fault. fault ≡ ATurnFault.Disorder → (may_come host.old step.now ≡ false) × (waiting.new ≡ waiting.old)) }
 {
     let Ok(reply) = host.answer(step) else {
         return Err(TurnFault::Disorder);
     };
-    let Ok(()) = put_reply(lines, text, step.slot(), &reply) else {
+    let Ok(()) = waiting.put_reply(step.slot(), &reply) else {
         return Err(TurnFault::Memory);
     };
     if reply.is_no_memory() {
         return Ok(());
     }
-    lines
-        .extend_from_slice(offers)
-        .map_err(|_| TurnFault::Memory)
+    waiting.put_all(offers).map_err(|_| TurnFault::Memory)
 }
 
 /// Runs steps, and prints what each said, many lines at once: the status is 0, or 3 where one breaks order.
@@ -148,23 +137,22 @@ fn play_steps<W: Write>(alloc: Global, writer: &mut W, steps: &[Step]) -> Result
     ensures fault { IfErr result (λ fault. is_of_script fault ≡ false) }
 {
     let mut host = HostCore::new(alloc).map_err(ScriptFault::Memory)?;
-    let mut text = Text::new(alloc).map_err(ScriptFault::Memory)?;
-    let mut lines = Vec::new(alloc);
-    let mut offers = Vec::new(alloc);
+    let mut waiting = Waiting::new(alloc).map_err(ScriptFault::Memory)?;
+    let mut offers = Waiting::new(alloc).map_err(ScriptFault::Memory)?;
     for (at, step) in steps.iter().enumerate() {
-        match put_step(&mut host, &mut lines, &mut offers, &mut text, step) {
+        match put_step(&mut host, &mut waiting, &mut offers, step) {
             Ok(()) => {}
             Err(TurnFault::Disorder) => {
-                print_broken(writer, &lines, at).map_err(ScriptFault::Io)?;
+                print_broken(writer, &mut waiting, at).map_err(ScriptFault::Io)?;
                 return Ok(3);
             }
             Err(TurnFault::Memory) => return Err(ScriptFault::Memory(AllocError)),
         }
-        if lines.len() >= LINES_BYTES {
-            write_lines(writer, &mut lines).map_err(ScriptFault::Io)?;
+        if waiting.are_many() {
+            waiting.write(writer).map_err(ScriptFault::Io)?;
         }
     }
-    write_bytes(writer, &lines).map_err(ScriptFault::Io)?;
+    waiting.write(writer).map_err(ScriptFault::Io)?;
     Ok(0)
 }
 

@@ -1,6 +1,6 @@
 //! Bytes written so that it is known of a writer which fails how far it came.
 
-ghost use Rattle.std.specs.Prelude.{MatchResult, OnOk};
+ghost use Rattle.std.specs.Prelude.{◌++◌, MatchResult, OnOk};
 ghost use Rattle.std.specs.Io.KnownBytes.{Appends, Keeps};
 ghost use Rattle.xt_offline.specs.Printing.{numbered, Begins, IsWrittenUpTo};
 
@@ -33,6 +33,15 @@ fn write_some<'a, W: Write>(writer: &mut W, bytes: &'a [u8]) -> io::Result<&'a [
         Err(error) if error.kind() == ErrorKind::Interrupted => Ok(bytes),
         Err(error) => Err(error),
     }
+}
+
+/// Writes two texts, one behind the other.
+pub fn write_both<W: Write>(writer: &mut W, first: &[u8], second: &[u8]) -> io::Result<()>
+    ensures all { OnOk result (Appends (W.contents writer.old) (W.contents writer.new) (first.now ++ second.now)) }
+    ensures part { Begins (W.contents writer.old) (W.contents writer.new) (first.now ++ second.now) }
+{
+    write_bytes(writer, first)?;
+    write_bytes(writer, second)
 }
 
 /// Writes words, a number and a newline.

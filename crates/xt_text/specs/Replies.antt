@@ -1,7 +1,7 @@
 -- The texts of replies and of offers.
 use Rattle.std.specs.Fmt.{decimal}
 use Rattle.std.specs.List.{flat_map, list_all}
-use Rattle.std.specs.Prelude.{Bool, List, None, Option, Some, codes, not, ℕ, ◌++◌, ◌==◌, ◌∷◌}
+use Rattle.std.specs.Prelude.{Bool, List, None, Option, Some, codes, false, not, true, ℕ, ◌++◌, ◌==◌, ◌∷◌}
 use Rattle.xt_base.specs.Errors.{name_of}
 use Rattle.xt_base.specs.declared.steps.HomeOffer.{HomeOffer}
 use Rattle.xt_base.specs.declared.steps.LogOffer.{LogOffer}
@@ -47,6 +47,14 @@ reply_text (Reply.Failed number) = codes "failed" ␣ ckpt_text number
 reply_text (Reply.Flushed count) = codes "flushed" ␣ decimal count
 reply_text (Reply.Seen life reason) = codes "seen" ␣ decimal life ␣ seen_text reason
 reply_text (Reply.Refused errno) = name_of errno
+
+-- a reply without a content, which names no held blocks
+abbrev pub is_short_reply : Reply → Bool
+is_short_reply (Reply.OkayHeld held) = false
+is_short_reply (Reply.CommittedHeld number held) = false
+is_short_reply (Reply.Aborted held) = false
+is_short_reply (Reply.Data content) = false
+is_short_reply other = true
 
 -- a reply with the slot that its step names in front
 abbrev pub slot_reply_text : ℕ → Reply → List ℕ

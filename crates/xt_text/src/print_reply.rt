@@ -7,7 +7,7 @@ ghost use Rattle.xt_base.specs.declared.sizes.TheConstants.{DATA_BYTES};
 ghost use Rattle.xt_base.specs.declared.steps.LogOffer.{LogOffer as ALogOffer};
 ghost use Rattle.xt_text.specs.Buffer.{put};
 ghost use Rattle.xt_text.specs.Lines.{ckpt_text, ◌␣◌};
-ghost use Rattle.xt_text.specs.Replies.{held_text, home_offer_text, is_one_line, log_offer_text, reply_text, seen_text, slot_reply_text};
+ghost use Rattle.xt_text.specs.Replies.{held_text, home_offer_text, is_one_line, is_short_reply, log_offer_text, reply_text, seen_text, slot_reply_text};
 
 use crate::buffer::Text;
 use crate::fields::{then_bytes, then_ckpt, then_data, then_number, then_ok, then_word};
@@ -101,11 +101,23 @@ fn put_committed(out: &mut Text, number: CkptNo, held: &HeldBlocks)
     then_held(out, held);
 }
 
+/// Whether a reply is short: it has no content, and names no held blocks.
+#[inline(always)]
+pub fn is_short_reply(reply: &Reply) -> bool
+    ensures { result ≡ is_short_reply reply.now }
+{
+    !matches!(
+        reply,
+        Reply::OkayHeld(_) | Reply::CommittedHeld { .. } | Reply::Aborted(_) | Reply::Data(_)
+    )
+}
+
 /// Puts a reply.
 #[tactic(auto, using(crate::proofs::BufferLemmas::put_put, crate::proofs::BufferLemmas::put_none))]
 fn put_reply(reply: &Reply, out: &mut Text)
     ensures text { out.new ≡ put out.old (reply_text reply.now) }
     ensures short { length (reply_text reply.now) ≤ 8300 }
+    ensures few { is_short_reply reply.now ≡ true → length (reply_text reply.now) ≤ 60 }
 {
     match reply {
         Reply::Okay => out.put(b"ok"),
@@ -147,6 +159,7 @@ fn put_reply(reply: &Reply, out: &mut Text)
 pub fn print_reply(reply: &Reply, out: &mut Text)
     ensures text { out.new ≡ put out.old (reply_text reply.now) }
     ensures short { length (reply_text reply.now) ≤ 8300 }
+    ensures few { is_short_reply reply.now ≡ true → length (reply_text reply.now) ≤ 60 }
     ensures line { is_one_line (reply_text reply.now) ≡ true }
 {
     put_reply(reply, out);
@@ -173,6 +186,7 @@ fn put_slot(out: &mut Text, slot: Slot)
 pub fn print_slot_reply(slot: Slot, reply: &Reply, out: &mut Text)
     ensures text { out.new ≡ put out.old (slot_reply_text slot reply.now) }
     ensures short { length (slot_reply_text slot reply.now) ≤ 8400 }
+    ensures few { is_short_reply reply.now ≡ true → length (slot_reply_text slot reply.now) ≤ 100 }
     ensures line { is_one_line (slot_reply_text slot reply.now) ≡ true }
 {
     put_slot(out, slot);
@@ -196,6 +210,7 @@ pub fn print_log_piece(slot: Slot, bytes: &[u8], ok: bool, out: &mut Text)
 pub fn print_log_sync(slot: Slot, ok: bool, out: &mut Text)
     ensures text { out.new ≡ put out.old (log_offer_text slot (ALogOffer.Sync ok)) }
     ensures short { length (log_offer_text slot (ALogOffer.Sync ok)) ≤ 8400 }
+    ensures few { length (log_offer_text slot (ALogOffer.Sync ok)) ≤ 100 }
 {
     put_number(out, slot.index() as u64);
     then_word(out, b"logsync");

@@ -3,4 +3,4 @@ use Rattle.xt_offline.specs.Printing.{home_lines}
 use Rattle.xt_offline.proofs.printing.put_home_lines.Given as goal
 
 abbrev pub invariant-loop-offer : goal.invariant-loop-offer
-invariant-loop-offer l = l.lines.items ≡ l.fn.lines.items ++ home_lines l.slot (take l.offer-index l.offers)
+invariant-loop-offer l = l.waiting ≡ l.fn.waiting ++ home_lines l.slot (take l.offer-index l.offers)

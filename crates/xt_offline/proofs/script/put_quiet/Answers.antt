@@ -7,5 +7,5 @@ use Rattle.xt_text.specs.Replies.{slot_reply_text}
 pub returns-clause-put : goal.returns-clause-put
 returns-clause-put c =
     on_both c.put_reply.result c.map_err.result _ _ c.map_err.ensures.variant c.put_reply.ensures
-    (λ text. put_quiet c.args.step.now c.in-Ok.reply c.answer.new.self c.args.host.now c.in-Ok.ensures.told c.args.lines.now.items c.put_reply.new.lines.items (c.in-Ok.ensures.quiet c.requires)
-    (text ∙ ap (λ n. c.args.lines.now.items ++ ended (slot_reply_text n c.in-Ok.reply)) c.slot.ensures))
+    (λ text. put_quiet c.args.step.now c.in-Ok.reply c.answer.new.self c.args.host.now c.in-Ok.ensures.told c.args.waiting.now c.put_reply.new.self (c.in-Ok.ensures.quiet c.requires)
+    (text ∙ ap (λ n. c.args.waiting.now ++ ended (slot_reply_text n c.in-Ok.reply)) c.slot.ensures))
