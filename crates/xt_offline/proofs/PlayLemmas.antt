@@ -1,5 +1,5 @@
 -- What a run of steps wrote.
-use Rattle.std.proofs.Common.{◌≡◌, ◌∙◌, ◌+◌, ◌++◌, ◌∷◌, ◌≤◌, ◌<◌, Bool, ℕ, List, [], ap, append_assoc, append-nil, cond, get_or, length, take, Option, Some, None, false, inl, inr, refl, subst, sym, true, true≢false}
+use Rattle.std.proofs.Common.{◌≡◌, ◌∙◌, ◌+◌, ◌++◌, ◌∷◌, ◌≤◌, ◌<◌, ℕ, List, [], ap, append_assoc, append-nil, cond, get_or, length, take, Option, Some, None, false, inl, inr, refl, subst, sym, true, true≢false}
 use Rattle.std.proofs.lemmas.Bool.{cases_Bool}
 use Rattle.std.proofs.lemmas.Grind.{flat_map-append}
 use Rattle.std.proofs.lemmas.List.Concat.{flat_map-cons}
@@ -14,7 +14,7 @@ use Rattle.xt_base.specs.declared.steps.Step.TheVariants.{Begin, Call, End, Flus
 use Rattle.xt_core.proofs.ToldLemmas.{told_all, told_before, told_begins, told_next}
 use Rattle.xt_core.specs.Host.{Host, IsNew, may_come}
 use Rattle.xt_core.specs.Runs.{IsToldBy}
-use Rattle.xt_offline.proofs.AppendLemmas.{appends_kept, appends_more, appends_none, begins_all, begins_kept, begins_longer, begins_same, begins_then, keeps_same}
+use Rattle.xt_offline.proofs.AppendLemmas.{appends_kept, appends_more, appends_none, begins_all, begins_longer, begins_same, begins_then, keeps_same}
 use Rattle.xt_offline.specs.Printing.{Begins, disorder_text, turn_text, turns_text}
 use Rattle.xt_offline.specs.Script.{is_of_script, picked, status_of, IsBegun, IsCutShort, IsFault, IsFaultIn, IsOutput, IsPlayed, IsPrinted, IsPutBehind, IsReported, IsRun, IsScript}
 use Rattle.xt_offline.specs.declared.fault.ScriptFault.{ScriptFault}

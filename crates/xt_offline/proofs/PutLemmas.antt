@@ -11,7 +11,7 @@ use Rattle.xt_base.specs.declared.steps.Reply.{Reply}
 use Rattle.xt_base.specs.declared.steps.Step.{Step}
 use Rattle.xt_core.specs.Host.{Host, lone_of}
 use Rattle.xt_core.specs.Runs.{said_as}
-use Rattle.xt_offline.specs.Printing.{ended, home_lines, log_lines, turn_text}
+use Rattle.xt_offline.specs.Printing.{ended, log_lines, turn_text}
 use Rattle.xt_offline.specs.Script.{IsPutBehind, IsTold}
 use Rattle.xt_text.specs.Replies.{slot_reply_text}
 
@@ -21,13 +21,6 @@ on_both (Ok x) (Ok y) P Q same holds follows = follows holds
 on_both (Ok x) (Err d) P Q same holds follows = tt
 on_both (Err e) (Ok y) P Q same holds follows = absurd (true≢false same)
 on_both (Err e) (Err d) P Q same holds follows = tt
-
--- the same of a list that is longer where the first result is Ok
-pub on_longer : {A B E D : Type 0} (r : Result A E) (q : Result B D) (new longer old : List ℕ) (Q : Type 0) → is_ok q ≡ is_ok r → new ≡ (if is_ok r then longer else old) → (new ≡ longer → Q) → OnOk q Q
-on_longer (Ok x) (Ok y) new longer old Q same is follows = follows is
-on_longer (Ok x) (Err d) new longer old Q same is follows = tt
-on_longer (Err e) (Ok y) new longer old Q same is follows = absurd (true≢false same)
-on_longer (Err e) (Err d) new longer old Q same is follows = tt
 
 -- a turn with these offers
 abbrev said : ℕ → Reply → List LogOffer → List HomeOffer → Said

@@ -3,7 +3,7 @@ use Rattle.std.proofs.Common.{Bool, ap₂, cond, false, true, true≢false, ◌&
 use Rattle.std.proofs.lemmas.Bool.{eqb-true}
 use Rattle.std.proofs.lemmas.List.{flat_map_more, length-take, take_all, take_rest}
 use Rattle.std.specs.List.{prefix_len, slice_get}
-use Rattle.std.specs.Prelude.{Err, IfSome, Result, not, option_map, unwrap_or, ◌==◌}
+use Rattle.std.specs.Prelude.{IfSome, not, option_map, unwrap_or, ◌==◌}
 use Rattle.xt_base.proofs.MapLemmas.{some_none}
 use Rattle.xt_base.specs.Sound.{Each}
 use Rattle.xt_base.specs.declared.steps.Step.{Step}

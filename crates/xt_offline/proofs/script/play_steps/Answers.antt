@@ -1,4 +1,4 @@
-use Rattle.std.proofs.Common.{[], ◌≡◌, ◌∙◌, ◌+◌, ◌++◌, refl, subst, sym, take}
+use Rattle.std.proofs.Common.{[], ◌≡◌, ◌+◌, ◌++◌, refl, subst, sym, take}
 use Rattle.std.specs.Prelude.{Ok}
 use Rattle.std.specs.Io.KnownBytes.{Appends}
 use Rattle.xt_core.specs.Host.{IsNew}
