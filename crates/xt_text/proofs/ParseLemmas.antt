@@ -1,5 +1,5 @@
 -- What follows where a line is the line of a step.
-use Rattle.std.proofs.Common.{Bool, Err, true, false, leb, List, None, Option, Result, Some, ap, arith, length, refl, subst, sym, ℕ, ◌<◌, ◌∙◌, ◌≡◌, ◌≤◌, [], cond}
+use Rattle.std.proofs.Common.{Bool, true, false, leb, List, None, Option, Result, Some, ap, arith, length, refl, subst, sym, ℕ, ◌<◌, ◌∙◌, ◌≡◌, ◌≤◌, [], cond}
 use Rattle.std.proofs.lemmas.Bool.{false_from_ne_true, le-leb, lt-leb}
 use Rattle.std.proofs.lemmas.Option.{same_Some}
 use Rattle.std.proofs.lemmas.Slice.Eq.{bytes_eq-Decides}
@@ -12,15 +12,10 @@ use Rattle.xt_text.specs.LineReading.{parsed, step_of}
 use Rattle.xt_text.specs.Lines.{IsStep, line_of}
 use Rattle.xt_text.specs.Reading.{Gives}
 use Rattle.xt_text.specs.declared.bad_line.BadLine.{BadLine}
-use Rattle.xt_text.specs.declared.bad_line.BadLine.TheVariants.{Memory, Spelling}
 
 -- the line of a step is read as that step
 pub line_gives : (line : List ℕ) (step : Step) → IsStep step → line ≡ line_of step → step_of line ≡ Some step
 line_gives line step is e = ap step_of e ∙ step_again step is
-
--- the line of a step is not too long
-pub line_not_long : (line : List ℕ) (step : Step) → IsStep step → line ≡ line_of step → 8400 < length line → ⊥
-line_not_long line step is e long = omega (arith, ap length e, line_fits step is)
 
 -- a line that is not too long is what is put into an empty buffer
 pub line_is_printed : (line text : List ℕ) → length line ≤ 8400 → line ≡ text → put (Some []) text ≡ Some line
@@ -47,11 +42,6 @@ long_parsed line long = rw (lt-leb (length line) 8400 long) refl
 pub none_parsed : (line : List ℕ) → length line ≤ 8400 → step_of line ≡ None → parsed line ≡ None
 unfolding parsed
 none_parsed line short none = rw (le-leb (length line) 8400 short, none) refl
-
--- where a reader failed, the line is parsed as no step, or there was no memory
-pub error_parsed : (line : List ℕ) (e : BadLine) → length line ≤ 8400 → Gives (Err e) (step_of line) → Gives (Err e) (parsed line)
-error_parsed line Spelling short gives = none_parsed line short gives
-error_parsed line Memory short gives = tt
 
 -- the line of the step that it gives is parsed as that step
 pub same_parsed : (line : List ℕ) (step : Step) → length line ≤ 8400 → step_of line ≡ Some step → line ≡ line_of step → parsed line ≡ Some step
