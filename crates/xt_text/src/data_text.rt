@@ -156,10 +156,7 @@ fn are_bytes(bytes: &[u8])
 fn is_count(text: &[u8]) -> bool
     ensures { result ≡ is_count text.now }
 {
-    match text {
-        [c, ..] => *c == b'*',
-        [] => false,
-    }
+    matches!(text, [b'*', ..])
 }
 
 /// The byte at the front of a text, if its two digits stand there and no count behind them, and what stands behind it.
@@ -355,8 +352,7 @@ fn put_counted(out: &mut Text, run: Run)
     requires most { run.count < 10 }
     ensures { out.new ≡ put out.old (run_text run) }
 {
-    let high = hex_digit(run.byte / DIGITS);
-    let low = hex_digit(run.byte % DIGITS);
+    let (high, low) = (hex_digit(run.byte / DIGITS), hex_digit(run.byte % DIGITS));
     out.put(&[high, low, b'*', b'0' + run.count as u8]);
 }
 
@@ -365,8 +361,7 @@ fn put_counted(out: &mut Text, run: Run)
 fn put_thrice(out: &mut Text, byte: u8)
     ensures { out.new ≡ put out.old (flat_map hex (replicate 3 byte)) }
 {
-    let high = hex_digit(byte / DIGITS);
-    let low = hex_digit(byte % DIGITS);
+    let (high, low) = (hex_digit(byte / DIGITS), hex_digit(byte % DIGITS));
     out.put(&[high, low, high, low, high, low]);
 }
 
@@ -484,13 +479,8 @@ pub(crate) fn put_data(out: &mut Text, bytes: &Data)
 {
     let kept = bytes.kept();
     if kept.bytes.is_empty() {
-        put_repeated(
-            out,
-            Run {
-                byte: kept.byte,
-                count: kept.count as usize,
-            },
-        );
+        let (byte, count) = (kept.byte, kept.count as usize);
+        put_repeated(out, Run { byte, count });
     } else if kept.count == 0 {
         put_bytes(out, &kept.bytes);
     } else if kept.bytes.len() < SMALL_ROOM {
