@@ -30,8 +30,8 @@ use xt_host::host::Host;
 use xt_service::door::Door;
 use xt_service::service::{Service, ServiceEnd};
 
-/// After how many entries the book of a slot is folded: few enough that the data which they keep stay in a processor's cache, and so many
-/// that a fold, which copies the mount, is cheap for each.
+/// After how many entries the book of a slot is folded: few enough that the data which they keep are some megabytes, and so many that
+/// a fold, which copies the mount, is cheap for each.
 const BOOK_LIMIT: u64 = 1_024;
 
 /// A service that is to run: where it listens and at which port, how many workers it has, how many sessions it serves, and standard input
