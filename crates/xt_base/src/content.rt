@@ -11,6 +11,7 @@ use crate::names::Block;
 use crate::sizes::{BUSY_BLOCKS, DATA_BYTES};
 use std::alloc::{AllocError, Global};
 use std::marker::Model;
+use std::sync::Arc;
 
 /// The content of a block: 512, 1,024, 2,048 or 4,096 bytes, in a box, so that what has a content is small.
 #[derive(Debug, Drop)]
@@ -141,10 +142,11 @@ struct Stretch {
     byte: u8,
 }
 
-/// Bytes that a request carries or a device was offered: at most 4,096, in a box, so that what has data is small.
+/// Bytes that a request carries or a device was offered: at most 4,096, on the heap, so that what has data is small, and counted, so
+/// that they can have several owners.
 #[derive(Debug, Drop)]
 pub struct Data {
-    kept: Box<Kept>,
+    kept: Arc<Kept, Global>,
 }
 
 impl Model for Data {
@@ -170,7 +172,7 @@ impl Data {
             return Ok(None);
         }
         let kept = kept_around(alloc, bytes, first_stretch(bytes))?;
-        let kept = Box::new(alloc, kept)?;
+        let kept = Arc::new(alloc, kept)?;
         Ok(Some(Data { kept }))
     }
 
@@ -188,12 +190,12 @@ impl Data {
             count: 0,
             byte: 0,
         };
-        let kept = Box::new(alloc, kept)?;
+        let kept = Arc::new(alloc, kept)?;
         Ok(Some(Data { kept }))
     }
 
-    /// These bytes in place of its own, copied as they stand and into its room; None where they are more than 4,096. The one error is
-    /// want of memory, where the room is too small.
+    /// These bytes in place of its own, copied as they stand and into its room, where it is their one owner; None where they are more
+    /// than 4,096. The one error is want of memory, where the room is too small or another owner keeps it.
     pub fn refilled(self, bytes: &[u8]) -> Result<Option<Self>, AllocError>
         ensures valid { IfOk result (λ found. IsSome found ↔ (length bytes.now ≤ DATA_BYTES)) }
         ensures value { IfOk result (λ found. IfSome found (λ carried. carried ≡ bytes.now)) }
@@ -202,10 +204,13 @@ impl Data {
             return Ok(None);
         }
         let Data { mut kept } = self;
-        kept.bytes.clear();
-        kept.bytes.extend_from_slice(bytes)?;
-        kept.first = 0;
-        kept.count = 0;
+        let Some(own) = Arc::get_mut(&mut kept) else {
+            return beside(&kept, bytes);
+        };
+        own.bytes.clear();
+        own.bytes.extend_from_slice(bytes)?;
+        own.first = 0;
+        own.count = 0;
         Ok(Some(Data { kept }))
     }
 
@@ -223,7 +228,7 @@ impl Data {
             count: count as u16,
             byte,
         };
-        let kept = Box::new(alloc, kept)?;
+        let kept = Arc::new(alloc, kept)?;
         Ok(Some(Data { kept }))
     }
 
@@ -238,7 +243,15 @@ impl Data {
             count: own.count,
             byte: own.byte,
         };
-        let kept = Box::new(alloc, kept)?;
+        let kept = Arc::new(alloc, kept)?;
+        Ok(Data { kept })
+    }
+
+    /// The same bytes, with one owner more. It takes no memory; the one error is where they have as many owners as can be counted.
+    pub fn share(&self) -> Result<Self, AllocError>
+        ensures { IfOk result (λ same. same ≡ self.now) }
+    {
+        let kept = Arc::try_clone(&self.kept)?;
         Ok(Data { kept })
     }
 
@@ -293,6 +306,19 @@ impl Data {
         other.copy_to(bytes);
         self.holds(bytes)
     }
+}
+
+/// These bytes, copied as they stand, beside others that stay as they are; None where they are more than 4,096. The one error is
+/// want of memory.
+#[inline(never)]
+fn beside(other: &Kept, bytes: &[u8]) -> Result<Option<Data>, AllocError>
+    ensures valid { IfOk result (λ found. IsSome found ↔ (length bytes.now ≤ DATA_BYTES)) }
+    ensures value { IfOk result (λ found. IfSome found (λ carried. carried ≡ bytes.now)) }
+{
+    let alloc = *other.bytes.allocator();
+    let mut copy = Vec::with_capacity(alloc, bytes.len())?;
+    copy.extend_from_slice(bytes)?;
+    Data::of_vec(alloc, copy)
 }
 
 /// The bytes after a block, if it stands at the front.
