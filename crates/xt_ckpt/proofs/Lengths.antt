@@ -9,9 +9,11 @@ use Rattle.std.proofs.lemmas.List.Sums.{sum_by-cons}
 use Rattle.xt_base.specs.Chunks.{word_of}
 use Rattle.xt_base.specs.Form.{form_of}
 use Rattle.xt_base.specs.Text.{item_text, sized_text_with, text_in, text_with}
-use Rattle.xt_ckpt.specs.Grammar.{end_of, head_of}
+use Rattle.xt_ckpt.proofs.Entries.{all_entries, same_cost, same_text}
+use Rattle.xt_ckpt.specs.Entries.{IsWhole, entries_len, entries_text, entry_bytes, entry_len}
+use Rattle.xt_ckpt.specs.Grammar.{Entry, end_of, entries, head_of}
 use Rattle.xt_ckpt.specs.declared.item.Item.{Item}
-use Rattle.xt_ckpt.specs.Items.{item_bytes, item_len, checkpoint_text, checkpoint_len, HasForm, checkpoint_text_in}
+use Rattle.xt_ckpt.specs.Items.{checkpoint_text, checkpoint_len, HasForm, checkpoint_text_in}
 
 -- four parts behind what stands there are one part behind it
 regroup : (old a b c d : List ℕ) → (((old ++ a) ++ b) ++ c) ++ d ≡ old ++ (((a ++ b) ++ c) ++ d)
@@ -34,12 +36,12 @@ length-item : (block : ℕ) (set content : List ℕ) → length (item_text block
 length-item block set content = omega arith
 
 -- the items take what they cost
-pub length-items : (items : List Item) → AllByRecursion HasForm items → length (flat_map item_bytes items) ≡ sum_by item_len items
-length-items [] form = refl
-length-items (i ∷ is) form =
-    let rest = length-items is form.1 in
-    let here = length-item i.block i.chunks i.content.items in
-    length-append (item_bytes i) (flat_map item_bytes is) ∙ omega (arith, rest, here, form.0) ∙ sym (sum_by-cons item_len i is)
+pub length-entries : (es : List Entry) → AllByRecursion IsWhole es → length (flat_map entry_bytes es) ≡ sum_by entry_len es
+length-entries [] whole = refl
+length-entries (e ∷ es) whole =
+    let rest = length-entries es whole.1 in
+    let here = length-item e.block e.chunks e.content in
+    length-append (entry_bytes e) (flat_map entry_bytes es) ∙ omega (arith, rest, here, whole.0) ∙ sym (sum_by-cons entry_len e es)
 
 -- a text is 32 bytes longer than its items
 length-text_with : (number count : ℕ) (body : List ℕ) → length (text_with number count body) ≡ 32 + length body
@@ -64,21 +66,30 @@ length-sized_text_with size number count body =
     omega (arith, a, b, d)
 
 -- the length of a text is its cost
-pub length_text : (number : ℕ) (items : List Item) → All HasForm items → length (checkpoint_text number items) ≡ checkpoint_len items
-length_text number items form =
-    length-text_with number (length items) (flat_map item_bytes items)
-    ∙ ap (λ n. 32 + n) (length-items items (recursion_from_All HasForm items form))
+length_plain : (number : ℕ) (es : List Entry) → All IsWhole es → length (entries_text None number es) ≡ entries_len es
+length_plain number es whole =
+    length-text_with number (length es) (flat_map entry_bytes es)
+    ∙ ap (λ n. 32 + n) (length-entries es (recursion_from_All IsWhole es whole))
 
 -- and 4 more where it says the size of a block
-pub length_sized : (size number : ℕ) (items : List Item) → All HasForm items → length (checkpoint_text_in (Some size) number items) ≡ checkpoint_len items + 4
-length_sized size number items form =
-    let plain = length-items items (recursion_from_All HasForm items form) in
-    length-sized_text_with size number (length items) (flat_map item_bytes items) ∙ omega (arith, plain)
+length_more : (size number : ℕ) (es : List Entry) → All IsWhole es → length (entries_text (Some size) number es) ≡ entries_len es + 4
+length_more size number es whole =
+    let plain = length-entries es (recursion_from_All IsWhole es whole) in
+    length-sized_text_with size number (length es) (flat_map entry_bytes es) ∙ omega (arith, plain)
 
 -- so it has at most 4 more
-pub length_either : (size : Option ℕ) (number : ℕ) (items : List Item) → All HasForm items → length (checkpoint_text_in size number items) ≤ checkpoint_len items + 4
-length_either None number items form = omega (arith, length_text number items form)
-length_either (Some size) number items form = omega (arith, length_sized size number items form)
+pub length_either : (size : Option ℕ) (number : ℕ) (es : List Entry) → All IsWhole es → length (entries_text size number es) ≤ entries_len es + 4
+length_either None number es whole = omega (arith, length_plain number es whole)
+length_either (Some size) number es whole = omega (arith, length_more size number es whole)
+
+-- the same of items
+pub length_text : (number : ℕ) (items : List Item) → All HasForm items → length (checkpoint_text number items) ≡ checkpoint_len items
+length_text number items form =
+    ap length (sym (same_text None number items)) ∙ length_plain number (entries items) (all_entries IsWhole items form) ∙ ap (λ n. 32 + n) (same_cost items)
+
+pub length_sized : (size number : ℕ) (items : List Item) → All HasForm items → length (checkpoint_text_in (Some size) number items) ≡ checkpoint_len items + 4
+length_sized size number items form =
+    ap length (sym (same_text (Some size) number items)) ∙ length_more size number (entries items) (all_entries IsWhole items form) ∙ ap (λ n. 32 + n + 4) (same_cost items)
 
 -- the parts of a text
 pub text_parts : (size : Option ℕ) (number count : ℕ) (body : List ℕ) → text_in (form_of size) number count body ≡ head_of size number count ++ body ++ end_of size ++ to_be_bytes w32 count ++ to_be_bytes w64 number

@@ -12,8 +12,8 @@ use Rattle.xt_base.specs.Chunks.{below, chunks_where, places_of, word_of}
 use Rattle.xt_base.specs.Form.{is_size}
 use Rattle.xt_base.specs.Sized.{IsWithin}
 use Rattle.xt_base.specs.Sound.{Each, RisesFromKeys}
-use Rattle.xt_ckpt.specs.Items.{FitsSize, IsStored}
-use Rattle.xt_ckpt.specs.declared.item.Item.{Item}
+use Rattle.xt_ckpt.specs.Entries.{Fits, IsStored}
+use Rattle.xt_ckpt.specs.Grammar.{Entry}
 
 -- one of two tests holds
 or_is : (a b : Bool) → (a || b) ≡ true → (a ≡ true) ⊎ (b ≡ true)
@@ -60,7 +60,7 @@ powers_small m n (k ∷ ks) room rises small =
     omega (arith, sum_by-cons (λ j. 2 ^ j) k ks, two-pow-succ k, pow_mono rises.0, powers_small (suc k) n ks small.0 rises.1 small.1)
 
 -- an item whose chunks a block of a size has fits that size
-pub within_fits : (size : ℕ) (item : Item) → IsStored item → IsWithin size item.chunks → FitsSize (Some size) item
+pub within_fits : (size : ℕ) (item : Entry) → IsStored item → IsWithin size item.chunks → Fits (Some size) item
 within_fits size item stored within =
     let rises : RisesFromKeys 0 item.chunks = subst (RisesFromKeys 0) stored.back (rises_places (word_of item.chunks)) in
     let small : Each (λ k. k < size / 128) item.chunks = each_map (λ k. 128 * k + 128 ≤ size) (λ k. k < size / 128) item.chunks (λ k h. omega (arith, h)) within in

@@ -1,6 +1,6 @@
 -- Items of a checkpoint, and what a list of them has to obey.
-use Rattle.std.specs.Prelude.{List, Option, flat_map, length, map, sum_by, ℕ, ◌*◌, ◌+◌, ◌<◌, ◌^◌, ◌≡◌}
-use Rattle.xt_base.specs.Chunks.{places_of, word_of}
+use Rattle.std.specs.Prelude.{List, Option, flat_map, length, map, sum_by, ℕ, ◌*◌, ◌+◌, ◌<◌, ◌≡◌}
+use Rattle.xt_base.specs.Chunks.{word_of}
 use Rattle.xt_base.specs.Form.{form_of}
 use Rattle.xt_base.specs.Sound.{RisesFromKeys}
 use Rattle.xt_base.specs.Text.{item_text, text_in, text_with}
@@ -39,9 +39,3 @@ FitsSize size item = word_of item.chunks < map_limit size
 -- the blocks of the items rise
 abbrev pub BlocksRise : List Item → Type 0
 BlocksRise items = RisesFromKeys 0 (map (λ item. item.block) items)
-
--- an item as it is kept: its block is one of 64 bits, and its set is that of a word of 32
-pub record IsStored (item : Item) : Type 0 where
-  pub block : item.block < 2 ^ 64
-  pub word : word_of item.chunks < 2 ^ 32
-  pub back : places_of (word_of item.chunks) ≡ item.chunks

@@ -2,12 +2,15 @@
 
 ghost use Rattle.std.specs.Prelude.{◌≡◌, ◌++◌, ◌≤◌, ◌↔◌, [], All, List, length, min, IfOk, IfErr, IfSome, IsNone, OnErr};
 ghost use Rattle.xt_base.specs.declared.steps.Errno.TheVariants.{NoMemory};
+ghost use Rattle.xt_ckpt.specs.Entries.{IsWhole, entries_text};
+ghost use Rattle.xt_ckpt.specs.Grammar.{Entry};
 ghost use Rattle.xt_ckpt.specs.Items.{HasForm, checkpoint_text_in};
-ghost use Rattle.xt_ckpt.specs.Pieces.{IsOf, given_bytes, to_come};
+ghost use Rattle.xt_ckpt.specs.Pieces.{IsFor, IsOf, given_bytes, left_of, to_come};
 ghost use Rattle.xt_ckpt.specs.declared.item.Item.{Item as AnItem};
 
 use crate::item::Item;
 use crate::place::{Ends, Place};
+use crate::source::ItemSource;
 use bytes::Bytes;
 use std::alloc::{AllocError, Global};
 use xt_base::names::CkptNo;
@@ -29,6 +32,14 @@ impl PieceWriter {
         ensures of { (items : List AnItem) → length items ≡ count → IsOf items result }
         ensures text { (items : List AnItem) → length items ≡ count → to_come items result ≡ checkpoint_text_in size number items }
     {
+        PieceWriter::at_front(number, size, count)
+    }
+
+    /// The same, of entries wherever they lie.
+    pub(crate) fn at_front(number: CkptNo, size: Option<u32>, count: u32) -> Self
+        ensures of { (es : List Entry) → length es ≡ count → IsFor es result }
+        ensures text { (es : List Entry) → length es ≡ count → left_of es result ≡ entries_text size number es }
+    {
         PieceWriter {
             ends: Ends {
                 number,
@@ -40,18 +51,18 @@ impl PieceWriter {
     }
 
     /// The next piece. After an error nothing has changed, and the same call may be made again.
-    pub(crate) fn try_next(
+    pub(crate) fn try_next<S: ItemSource>(
         &mut self,
         alloc: Global,
-        items: &[Item],
+        items: &S,
     ) -> Result<Option<Bytes>, AllocError>
-        requires same { IsOf items.now self.old }
-        requires few { length items.now ≤ BUSY_BLOCKS }
-        requires form { All HasForm items.now }
-        ensures bytes { IfOk result (λ given. to_come items.now self.old ≡ given_bytes given ++ to_come items.now self.new) }
-        ensures size { IfOk result (λ given. length (given_bytes given) ≡ min PIECE_BYTES (length (to_come items.now self.old))) }
-        ensures none { IfOk result (λ given. IsNone given ↔ (to_come items.now self.old ≡ [])) }
-        ensures same { IsOf items.now self.new }
+        requires same { IsFor (S.entries items.now) self.old }
+        requires few { length (S.entries items.now) ≤ BUSY_BLOCKS }
+        requires form { All IsWhole (S.entries items.now) }
+        ensures bytes { IfOk result (λ given. left_of (S.entries items.now) self.old ≡ given_bytes given ++ left_of (S.entries items.now) self.new) }
+        ensures size { IfOk result (λ given. length (given_bytes given) ≡ min PIECE_BYTES (length (left_of (S.entries items.now) self.old))) }
+        ensures none { IfOk result (λ given. IsNone given ↔ (left_of (S.entries items.now) self.old ≡ [])) }
+        ensures same { IsFor (S.entries items.now) self.new }
         ensures memory { OnErr result (self.new ≡ self.old) }
     {
         let room = self.place.room(&self.ends, items);
@@ -81,6 +92,6 @@ impl PieceWriter {
         ensures memory { IfErr result (λ e. e ≡ NoMemory) }
         ensures unchanged { OnErr result (self.new ≡ self.old) }
     {
-        self.try_next(alloc, items).map_err(|_| Errno::NoMemory)
+        self.try_next(alloc, &items).map_err(|_| Errno::NoMemory)
     }
 }

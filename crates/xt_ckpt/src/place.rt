@@ -3,13 +3,13 @@
 ghost use Rattle.std.specs.Prelude.{◌≡◌, ◌+◌, ◌-◌, ◌++◌, ◌<◌, ◌≤◌, ◌==◌, [], All, if◌then◌else◌, length, min, take, IfOk};
 ghost use Rattle.xt_ckpt.specs.Fields.{end_word};
 ghost use Rattle.xt_ckpt.specs.Grammar.{size_field};
-ghost use Rattle.xt_ckpt.specs.Items.{HasForm};
+ghost use Rattle.xt_ckpt.specs.Entries.{IsWhole};
 ghost use Rattle.xt_ckpt.specs.Pieces.{IsPart, IsPut, LiesIn, end_bytes, field_bytes, from_place, front_bytes, item_or_end, next_part, part_bytes, rank};
 ghost use Rattle.xt_ckpt.specs.declared.place.Part.TheVariants as Part;
 
-use crate::costs::{items_len, size_len};
+use crate::costs::{len_from, size_len};
 use crate::format::{END, END_BYTES, FIELD_BYTES, SIZE_BYTES, SIZED_END, SIZED_START, START};
-use crate::item::Item;
+use crate::source::ItemSource;
 use std::alloc::AllocError;
 use xt_base::chunks::Chunks;
 use xt_base::names::CkptNo;
@@ -104,13 +104,13 @@ fn cancel_flag(chunks: Chunks) -> u32
 }
 
 /// The block of an item, the map of its chunks, and its flag.
-fn fields(item: &Item) -> [u8; 16]
-    ensures { result ≡ field_bytes item.now }
+fn fields(block: u64, chunks: Chunks) -> [u8; 16]
+    ensures { result ≡ field_bytes block chunks }
 {
     let mut bytes = [0; FIELD_BYTES];
-    bytes[..8].copy_from_slice(&item.block.0.to_be_bytes());
-    bytes[8..12].copy_from_slice(&item.chunks.word().to_be_bytes());
-    bytes[12..].copy_from_slice(&cancel_flag(item.chunks).to_be_bytes());
+    bytes[..8].copy_from_slice(&block.to_be_bytes());
+    bytes[8..12].copy_from_slice(&chunks.word().to_be_bytes());
+    bytes[12..].copy_from_slice(&cancel_flag(chunks).to_be_bytes());
     bytes
 }
 
@@ -174,18 +174,18 @@ impl Place {
     }
 
     /// How many bytes are still to come.
-    fn left(self, ends: &Ends, items: &[Item]) -> usize
-        requires lies { LiesIn ends.now items.now self }
-        requires few { length items.now ≤ BUSY_BLOCKS }
-        requires form { All HasForm items.now }
-        ensures { result ≡ length (from_place ends.now items.now self) }
+    fn left<S: ItemSource>(self, ends: &Ends, items: &S) -> usize
+        requires lies { LiesIn ends.now (S.entries items.now) self }
+        requires few { length (S.entries items.now) ≤ BUSY_BLOCKS }
+        requires form { All IsWhole (S.entries items.now) }
+        ensures { result ≡ length (from_place ends.now (S.entries items.now) self) }
     {
         match self.part {
-            Part::Front => ends.front_len() - self.done + items_len(items) + END_BYTES,
-            Part::Fields(index) => items_len(&items[index..]) - self.done + END_BYTES,
+            Part::Front => ends.front_len() - self.done + len_from(items, 0) + END_BYTES,
+            Part::Fields(index) => len_from(items, index) - self.done + END_BYTES,
             Part::Content(index) => {
-                let content = items[index].content.len() - self.done;
-                content + items_len(&items[index + 1..]) + END_BYTES
+                let content = items.content_at(index).len() - self.done;
+                content + len_from(items, index + 1) + END_BYTES
             }
             Part::End => END_BYTES - self.done,
             Part::Nothing => 0,
@@ -193,56 +193,59 @@ impl Place {
     }
 
     /// How many bytes are still to come, at most a piece.
-    pub fn room(self, ends: &Ends, items: &[Item]) -> usize
-        requires lies { LiesIn ends.now items.now self }
-        requires few { length items.now ≤ BUSY_BLOCKS }
-        requires form { All HasForm items.now }
-        ensures { result ≡ min PIECE_BYTES (length (from_place ends.now items.now self)) }
+    pub fn room<S: ItemSource>(self, ends: &Ends, items: &S) -> usize
+        requires lies { LiesIn ends.now (S.entries items.now) self }
+        requires few { length (S.entries items.now) ≤ BUSY_BLOCKS }
+        requires form { All IsWhole (S.entries items.now) }
+        ensures { result ≡ min PIECE_BYTES (length (from_place ends.now (S.entries items.now) self)) }
     {
         self.left(ends, items).min(PIECE_BYTES)
     }
 
     /// Puts bytes of this part behind what is there, up to a limit: how many of them are
     /// given then, or None where all are.
-    fn put(
+    fn put<S: ItemSource>(
         self,
         out: &mut Vec<u8>,
         limit: usize,
         ends: &Ends,
-        items: &[Item],
+        items: &S,
     ) -> Result<Option<usize>, AllocError>
-        requires lies { LiesIn ends.now items.now self }
+        requires lies { LiesIn ends.now (S.entries items.now) self }
         requires room { length out.old.items ≤ limit }
-        ensures { IfOk result (IsPut (part_bytes ends.now items.now self.part) self.done limit out.old.items out.new.items) }
+        ensures { IfOk result (IsPut (part_bytes ends.now (S.entries items.now) self.part) self.done limit out.old.items out.new.items) }
     {
         match self.part {
             Part::Front => {
                 let front = ends.front();
                 put_from(out, limit, &front[..ends.front_len()], self.done)
             }
-            Part::Fields(index) => put_from(out, limit, &fields(&items[index]), self.done),
-            Part::Content(index) => put_from(out, limit, &items[index].content, self.done),
+            Part::Fields(index) => {
+                let fields = fields(items.block_at(index), items.chunks_at(index));
+                put_from(out, limit, &fields, self.done)
+            }
+            Part::Content(index) => put_from(out, limit, items.content_at(index), self.done),
             Part::End => put_from(out, limit, &ends.end(), self.done),
             Part::Nothing => Ok(None),
         }
     }
 
     /// Puts bytes of this part, and goes on behind them: some bytes further, or one part.
-    fn step(
+    fn step<S: ItemSource>(
         self,
         out: &mut Vec<u8>,
         limit: usize,
         ends: &Ends,
-        items: &[Item],
+        items: &S,
     ) -> Result<Place, AllocError>
-        requires lies { LiesIn ends.now items.now self }
-        requires count { length items.now ≡ ends.now.count }
+        requires lies { LiesIn ends.now (S.entries items.now) self }
+        requires count { length (S.entries items.now) ≡ ends.now.count }
         requires room { length out.old.items < limit }
-        requires more { limit ≤ length out.old.items + length (from_place ends.now items.now self) }
-        ensures lies { IfOk result (LiesIn ends.now items.now) }
-        ensures bytes { IfOk result (λ place. out.new.items ++ from_place ends.now items.now place ≡ out.old.items ++ from_place ends.now items.now self) }
+        requires more { limit ≤ length out.old.items + length (from_place ends.now (S.entries items.now) self) }
+        ensures lies { IfOk result (LiesIn ends.now (S.entries items.now)) }
+        ensures bytes { IfOk result (λ place. out.new.items ++ from_place ends.now (S.entries items.now) place ≡ out.old.items ++ from_place ends.now (S.entries items.now) self) }
         ensures limit { IfOk result (λ place. length out.new.items ≤ limit) }
-        ensures less { IfOk result (λ place. rank (length items.now) place.part + (limit - length out.new.items) < rank (length items.now) self.part + (limit - length out.old.items)) }
+        ensures less { IfOk result (λ place. rank (length (S.entries items.now)) place.part + (limit - length out.new.items) < rank (length (S.entries items.now)) self.part + (limit - length out.old.items)) }
     {
         Ok(match self.put(out, limit, ends, items)? {
             Some(done) => Place {
@@ -250,7 +253,7 @@ impl Place {
                 done,
             },
             None => Place {
-                part: self.part.next(items.len()),
+                part: self.part.next(items.item_count()),
                 done: 0,
             },
         })
@@ -258,19 +261,19 @@ impl Place {
 
     /// Fills a piece with the next bytes of the text, as many as the limit says and there
     /// are, and goes on behind them.
-    pub fn fill(
+    pub fn fill<S: ItemSource>(
         self,
         piece: &mut Vec<u8>,
         limit: usize,
         ends: &Ends,
-        items: &[Item],
+        items: &S,
     ) -> Result<Place, AllocError>
-        requires lies { LiesIn ends.now items.now self }
-        requires count { length items.now ≡ ends.now.count }
+        requires lies { LiesIn ends.now (S.entries items.now) self }
+        requires count { length (S.entries items.now) ≡ ends.now.count }
         requires empty { piece.old.items ≡ [] }
-        requires more { limit ≤ length (from_place ends.now items.now self) }
-        ensures lies { IfOk result (LiesIn ends.now items.now) }
-        ensures bytes { IfOk result (λ place. piece.new.items ++ from_place ends.now items.now place ≡ from_place ends.now items.now self) }
+        requires more { limit ≤ length (from_place ends.now (S.entries items.now) self) }
+        ensures lies { IfOk result (LiesIn ends.now (S.entries items.now)) }
+        ensures bytes { IfOk result (λ place. piece.new.items ++ from_place ends.now (S.entries items.now) place ≡ from_place ends.now (S.entries items.now) self) }
         ensures length { IfOk result (λ place. length piece.new.items ≡ limit) }
     {
         let mut place = self;

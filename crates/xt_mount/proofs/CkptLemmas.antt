@@ -1,34 +1,23 @@
 -- The text of a checkpoint, chunk by chunk and item by item.
-use Rattle.std.proofs.Common.{◌≡◌, ◌∙◌, ◌+◌, ◌<◌, ℕ, suc, List, [], ◌∷◌, ◌++◌, Option, Some, None, sym, ap, subst, refl, length, map, take, filter, append-nil, IfSome}
+use Rattle.std.proofs.Common.{◌≡◌, ◌∙◌, ◌+◌, ◌*◌, ◌<◌, ℕ, suc, List, [], ◌∷◌, ◌++◌, Option, Some, None, sym, ap, subst, refl, length, map, take, filter, IfSome}
 use Rattle.std.specs.Prelude.{All, flat_map, get_or, not}
-use Rattle.std.proofs.lemmas.List.{take_more, length-map, map-append}
-use Rattle.std.proofs.lemmas.List.Concat.{flat_map-append}
-use Rattle.std.proofs.lemmas.List.Elements.{All-cons, All-head, All-nil, All-push, All-tail}
+use Rattle.std.proofs.lemmas.List.{get_or-map, length-map, map-append, take_more}
+use Rattle.std.proofs.lemmas.List.Elements.{All-cons, All-nil, All-push}
+use Rattle.xt_base.specs.Form.{Form}
 use Rattle.xt_base.specs.Jobs.{landed, landed_items, waits_on}
 use Rattle.xt_base.specs.Settle.{settled}
 use Rattle.xt_base.specs.Sized.{IsWithin}
 use Rattle.xt_base.specs.Sound.{Each, IsRising, RisesFrom, AllBelow, IsBetween, IsSound, RisesFromKeys as NumbersRise}
 use Rattle.xt_base.specs.State.{Flight, Items, Jobs, State}
-use Rattle.xt_base.specs.Text.{item_text}
+use Rattle.xt_base.specs.Text.{chunk_bytes, content_at, item_text, text_in, text_of}
 use Rattle.xt_base.specs.declared.steps.Owner.{Owner}
 use Rattle.xt_base.proofs.MapLemmas.{some_same}
-use Rattle.xt_ckpt.specs.Items.{BlocksRise, HasForm, item_bytes}
-use Rattle.xt_ckpt.specs.declared.item.Item.{Item}
+use Rattle.xt_ckpt.specs.Entries.{EntriesRise, IsWhole, block_at, chunks_at, content_at as bytes_at, entry_bytes}
+use Rattle.xt_ckpt.specs.Grammar.{Entry}
 use Rattle.xt_items.specs.Lists.{flight_number}
 use Rattle.xt_mount.specs.Accounts.{AccountsState, landed_in}
-use Rattle.xt_mount.specs.Texts.{entry_block, entry_bytes}
-use Rattle.xt_vectors.specs.Vectors.{Vector, vectors_of}
-
--- the numbers of rising entries rise
-numbers_rise : (n : ℕ) (es : List (ℕ × List ℕ)) → RisesFrom n es → NumbersRise n (map entry_block es)
-numbers_rise n [] rises = tt
-numbers_rise n (e ∷ es) rises = (rises.0, numbers_rise (suc e.0) es rises.1)
-
-pub blocks_rise : (es : List (ℕ × List ℕ)) (items : List Item) → IsRising es → map entry_block es ≡ map (λ (i : Item). i.block) items → BlocksRise items
-blocks_rise es items rises same = subst (NumbersRise 0) same (numbers_rise 0 es rises)
-
-pub same_count : (es : List (ℕ × List ℕ)) (items : List Item) → map entry_block es ≡ map (λ (i : Item). i.block) items → length items ≡ length es
-same_count es items same = sym (length-map items (λ (i : Item). i.block)) ∙ sym (ap length same) ∙ length-map es entry_block
+use Rattle.xt_mount.specs.Texts.{entries_of, entry_of}
+use Rattle.xt_vectors.specs.Vectors.{Vector, vector_of, vectors_of}
 
 landed_by : (s : State) (o : Option Flight) (number : ℕ) (owners : List (ℕ × Owner)) (accounts : AccountsState) (jobs : Jobs) (n : State) → flight_number o ≡ Some number
     → owners ≡ filter (λ e. not (waits_on number e.1)) s.owners → IfSome o (λ f. accounts ≡ landed_in f (record { log_bytes = s.log_bytes; form = s.form; transactions = s.transactions; items = s.items; frames = s.frames; shut = s.shut })) → jobs ≡ record s.jobs { ckpt = None }
@@ -53,69 +42,61 @@ below_by l (Some f) between = between.1
 pub landed_below : (s : State) → IsSound s → IfSome s.items.flight (λ f. AllBelow f.number s.items.landed)
 landed_below s sound = below_by s.items s.items.flight sound.parts.flying
 
--- ---- items and log vectors
--- the block of a vector, its chunks, and its text
-abbrev pub vector_block : ℕ × Vector → ℕ
-vector_block v = v.0
+-- ---- the log vector at a place
+module _ (vs : List (ℕ × Vector)) (i : ℕ) (v : ℕ × Vector) (lt : i < length vs) where
+  entry_lt : i < length (entries_of vs)
+  entry_lt = subst (λ n. i < n) (sym (length-map vs entry_of)) lt
 
-abbrev pub vector_chunks : ℕ × Vector → List ℕ
-vector_chunks v = v.1.chunks
+  entry_here : get_or (entries_of vs) i (entry_of v) ≡ entry_of (get_or vs i v)
+  entry_here = get_or-map entry_of vs i v (entry_of v) lt
 
-abbrev pub vector_text : ℕ × Vector → List ℕ
-vector_text v = item_text v.0 v.1.chunks v.1.bytes
+  pub block_is : block_at (entries_of vs) i ≡ (get_or vs i v).0
+  block_is = get_or-map (λ (x : Entry). x.block) (entries_of vs) i (entry_of v) 0 entry_lt ∙ ap (λ (x : Entry). x.block) entry_here
 
--- one item for each vector
-pub record HasItems (vs : List (ℕ × Vector)) (items : List Item) : Type 0 where
-  pub text : flat_map item_bytes items ≡ flat_map vector_text vs
-  pub blocks : map vector_block vs ≡ map (λ (i : Item). i.block) items
-  pub chunks : map vector_chunks vs ≡ map (λ (i : Item). i.chunks) items
-  pub form : All HasForm items
+  pub chunks_are : chunks_at (entries_of vs) i ≡ (get_or vs i v).1.chunks
+  chunks_are = get_or-map (λ (x : Entry). x.chunks) (entries_of vs) i (entry_of v) [] entry_lt ∙ ap (λ (x : Entry). x.chunks) entry_here
 
--- one item more
-pub item_more : (vs : List (ℕ × Vector)) (i : ℕ) (v : ℕ × Vector) (x : Item) (items new : List Item) → i < length vs → v ≡ get_or vs i v → new ≡ items ++ x ∷ [] → item_bytes x ≡ vector_text v
-    → x.block ≡ v.0 → x.chunks ≡ v.1.chunks → HasForm x → HasItems (take i vs) items → HasItems (take (i + 1) vs) new
-item_more vs i v x items new lt is pushed same_bytes same_block same_chunks formed before =
-    let cut : take (i + 1) vs ≡ take i vs ++ v ∷ [] = take_more vs i v lt ∙ ap (λ y. take i vs ++ y ∷ []) (sym is) in
-    record {
-      text = ap (flat_map item_bytes) pushed ∙ flat_map-append item_bytes items (x ∷ []) ∙ ap (λ ys. flat_map item_bytes items ++ ys) (append-nil (item_bytes x) ∙ same_bytes ∙ sym (append-nil (vector_text v)))
-          ∙ ap (λ ys. ys ++ flat_map vector_text (v ∷ [])) before.text ∙ sym (flat_map-append vector_text (take i vs) (v ∷ [])) ∙ ap (flat_map vector_text) (sym cut);
-      blocks = ap (map vector_block) cut ∙ map-append vector_block (take i vs) (v ∷ []) ∙ ap (λ ys. ys ++ v.0 ∷ []) before.blocks ∙ ap (λ b. map (λ (y : Item). y.block) items ++ b ∷ []) (sym same_block)
-          ∙ sym (map-append (λ (y : Item). y.block) items (x ∷ [])) ∙ ap (map (λ (y : Item). y.block)) (sym pushed);
-      chunks = ap (map vector_chunks) cut ∙ map-append vector_chunks (take i vs) (v ∷ []) ∙ ap (λ ys. ys ++ v.1.chunks ∷ []) before.chunks ∙ ap (λ set. map (λ (y : Item). y.chunks) items ++ set ∷ []) (sym same_chunks)
-          ∙ sym (map-append (λ (y : Item). y.chunks) items (x ∷ [])) ∙ ap (map (λ (y : Item). y.chunks)) (sym pushed);
-      form = subst (All HasForm) (sym pushed) (All-push HasForm items x before.form formed);
-    }
+  pub bytes_are : bytes_at (entries_of vs) i ≡ (get_or vs i v).1.bytes
+  bytes_are = get_or-map (λ (x : Entry). x.content) (entries_of vs) i (entry_of v) [] entry_lt ∙ ap (λ (x : Entry). x.content) entry_here
 
--- the text of the vectors of a commit list is that of its entries
-text_of_vectors : (size : ℕ) (m es : List (ℕ × List ℕ)) → flat_map vector_text (vectors_of size m es) ≡ flat_map (entry_bytes size m) es
-text_of_vectors size m [] = refl
-text_of_vectors size m (e ∷ es) = ap (λ xs. entry_bytes size m e ++ xs) (text_of_vectors size m es)
+  -- its bytes are as many as its chunks have, as those of the ones before
+  pub whole_more : (bytes : List ℕ) → v ≡ get_or vs i v → bytes ≡ v.1.bytes → length bytes ≡ 128 * length v.1.chunks → All IsWhole (entries_of (take i vs)) → All IsWhole (entries_of (take (i + 1) vs))
+  whole_more bytes is same form before =
+      let cut : take (i + 1) vs ≡ take i vs ++ v ∷ [] = take_more vs i v lt ∙ ap (λ x. take i vs ++ x ∷ []) (sym is) in
+      subst (All IsWhole) (sym (ap entries_of cut ∙ map-append entry_of (take i vs) (v ∷ []))) (All-push IsWhole (entries_of (take i vs)) (entry_of v) before (ap length (sym same) ∙ form))
 
-blocks_of_vectors : (size : ℕ) (m es : List (ℕ × List ℕ)) → map entry_block es ≡ map vector_block (vectors_of size m es)
-blocks_of_vectors size m [] = refl
-blocks_of_vectors size m (e ∷ es) = ap (λ xs. e.0 ∷ xs) (blocks_of_vectors size m es)
+-- ---- what a checkpoint says by the log vectors of a commit list
+-- what holds of the block and the chunks of each of its items, whatever their bytes
+all_chunks : (P : List ℕ → Type 0) (size : ℕ) (m es : List (ℕ × List ℕ)) → Each (λ e. P e.1) es → All (λ (x : Entry). P x.chunks) (entries_of (vectors_of size m es))
+all_chunks P size m [] all = All-nil (λ (x : Entry). P x.chunks)
+all_chunks P size m (e ∷ es) all = All-cons (λ (x : Entry). P x.chunks) (entry_of (vector_of size m e)) (entries_of (vectors_of size m es)) all.0 (all_chunks P size m es all.1)
 
-chunks_of_vectors : (size : ℕ) (m es : List (ℕ × List ℕ)) → map (λ (e : ℕ × List ℕ). e.1) es ≡ map vector_chunks (vectors_of size m es)
-chunks_of_vectors size m [] = refl
-chunks_of_vectors size m (e ∷ es) = ap (λ xs. e.1 ∷ xs) (chunks_of_vectors size m es)
+numbers_rise : (n size : ℕ) (m es : List (ℕ × List ℕ)) → RisesFrom n es → NumbersRise n (map (λ (x : Entry). x.block) (entries_of (vectors_of size m es)))
+numbers_rise n size m [] rises = tt
+numbers_rise n size m (e ∷ es) rises = (rises.0, numbers_rise (suc e.0) size m es rises.1)
 
--- what holds of the chunks of each entry, in a list of them, and of each item
-all_chunks : (P : List ℕ → Type 0) (es : List (ℕ × List ℕ)) → Each (λ e. P e.1) es → All P (map (λ (e : ℕ × List ℕ). e.1) es)
-all_chunks P [] all = All-nil P
-all_chunks P (e ∷ es) all = All-cons P e.1 (map (λ (x : ℕ × List ℕ). x.1) es) all.0 (all_chunks P es all.1)
+-- their bytes are the text of the items
+bytes_of_vectors : (size : ℕ) (m es : List (ℕ × List ℕ)) → flat_map entry_bytes (entries_of (vectors_of size m es)) ≡ flat_map (λ (e : ℕ × List ℕ). item_text e.0 e.1 (chunk_bytes (content_at size e.0 m) e.1)) es
+bytes_of_vectors size m [] = refl
+bytes_of_vectors size m (e ∷ es) = ap (λ xs. item_text e.0 e.1 (chunk_bytes (content_at size e.0 m) e.1) ++ xs) (bytes_of_vectors size m es)
 
-each_chunks : (P : List ℕ → Type 0) (items : List Item) → All P (map (λ (i : Item). i.chunks) items) → All (λ (i : Item). P i.chunks) items
-each_chunks P [] all = All-nil (λ (i : Item). P i.chunks)
-each_chunks P (x ∷ items) all =
-    All-cons (λ (i : Item). P i.chunks) x items (All-head P x.chunks (map (λ (i : Item). i.chunks) items) all) (each_chunks P items (All-tail P x.chunks (map (λ (i : Item). i.chunks) items) all))
+module _ (size : ℕ) (m es : List (ℕ × List ℕ)) (vs : List (ℕ × Vector)) (are : vs ≡ vectors_of size m es) where
+  -- there is one for each item
+  pub vector_count : length (entries_of vs) ≡ length es
+  vector_count = length-map vs entry_of ∙ ap length are ∙ length-map es (vector_of size m)
 
-module _ (size : ℕ) (m es : List (ℕ × List ℕ)) (vs : List (ℕ × Vector)) (items : List Item) (are : vs ≡ vectors_of size m es) (has : HasItems vs items) where
-  pub items_text : flat_map item_bytes items ≡ flat_map (entry_bytes size m) es
-  items_text = has.text ∙ ap (flat_map vector_text) are ∙ text_of_vectors size m es
+  -- their blocks rise
+  pub vectors_rise : IsRising es → EntriesRise (entries_of vs)
+  vectors_rise rises = subst (λ xs. EntriesRise (entries_of xs)) (sym are) (numbers_rise 0 size m es rises)
 
-  pub items_blocks : map entry_block es ≡ map (λ (i : Item). i.block) items
-  items_blocks = blocks_of_vectors size m es ∙ ap (map vector_block) (sym are) ∙ has.blocks
+  -- they are of chunks that the blocks have
+  pub vectors_within : Each (λ e. IsWithin size e.1) es → All (λ (x : Entry). IsWithin size x.chunks) (entries_of vs)
+  vectors_within all = subst (λ xs. All (λ (x : Entry). IsWithin size x.chunks) (entries_of xs)) (sym are) (all_chunks (IsWithin size) size m es all)
 
-  -- the items are of chunks that the blocks have
-  pub items_within : Each (λ e. IsWithin size e.1) es → All (λ (i : Item). IsWithin size i.chunks) items
-  items_within all = each_chunks (IsWithin size) items (subst (All (IsWithin size)) (chunks_of_vectors size m es ∙ ap (map vector_chunks) (sym are) ∙ has.chunks) (all_chunks (IsWithin size) es all))
+  -- the text of a checkpoint of them is that of the items
+  pub vectors_text : (form : Form) (number : ℕ) → form.size ≡ size → text_in form number (length (entries_of vs)) (flat_map entry_bytes (entries_of vs)) ≡ text_of form number es m
+  vectors_text form number of =
+      ap (λ n. text_in form number n (flat_map entry_bytes (entries_of vs))) vector_count
+      ∙ ap (λ xs. text_in form number (length es) (flat_map entry_bytes (entries_of xs))) are
+      ∙ ap (text_in form number (length es)) (bytes_of_vectors size m es)
+      ∙ ap (λ n. text_in form number (length es) (flat_map (λ (e : ℕ × List ℕ). item_text e.0 e.1 (chunk_bytes (content_at n e.0 m) e.1)) es)) (sym of)

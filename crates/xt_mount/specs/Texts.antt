@@ -1,15 +1,15 @@
--- The text of a checkpoint, by the entries of the commit list.
-use Rattle.std.specs.Prelude.{List, All, length, ℕ, ◌≤◌}
-use Rattle.xt_base.specs.Text.{chunk_bytes, content_at, item_text}
+-- What a checkpoint says, by the log vectors of the commit list.
+use Rattle.std.specs.Prelude.{List, All, length, map, ℕ, ◌≤◌}
+use Rattle.xt_ckpt.specs.Grammar.{Entry}
+use Rattle.xt_vectors.specs.Vectors.{Vector}
 use Rattle.xt_base.specs.declared.sizes.TheConstants.{PIECE_BYTES, TEXT_PIECES}
 
--- the block of an entry
-abbrev pub entry_block : ℕ × List ℕ → ℕ
-entry_block e = e.0
+-- what a checkpoint says by log vectors, each with its block
+abbrev pub entry_of : ℕ × Vector → Entry
+entry_of v = record { block = v.0; chunks = v.1.chunks; content = v.1.bytes }
 
--- the text of an entry, with these contents of a size
-abbrev pub entry_bytes : ℕ → List (ℕ × List ℕ) → ℕ × List ℕ → List ℕ
-entry_bytes size contents e = item_text e.0 e.1 (chunk_bytes (content_at size e.0 contents) e.1)
+abbrev pub entries_of : List (ℕ × Vector) → List Entry
+entries_of vs = map entry_of vs
 
 -- pieces such as a log device takes: not too many, and none is empty or too long
 pub record ArePieces (ps : List (List ℕ)) : Type 0 where

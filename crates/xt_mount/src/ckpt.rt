@@ -1,47 +1,32 @@
 //! The begin and the end of a checkpoint job.
 
-ghost use Rattle.std.specs.Prelude.{◌≡◌, ◌≤◌, ◌<◌, true, All, length, map, flat_map, is_some, is_none, IfOk, OnOk, OnErr, Some, [], IfSome, false};
+ghost use Rattle.std.specs.Prelude.{◌≡◌, ◌≤◌, ◌<◌, true, All, length, is_some, is_none, IfOk, OnOk, OnErr, Some, [], IfSome, false};
 ghost use Rattle.xt_base.specs.Alone.{has_begun};
 ghost use Rattle.xt_base.specs.Calls.{gives};
 ghost use Rattle.xt_base.specs.Jobs.{begin as begin_step, begun as begun_step, end as end_step, failed as failed_step, flight_pieces, is_ok, landed as landed_step, next_pieces};
-ghost use Rattle.xt_base.specs.Sized.{IsSized, IsWithin};
+ghost use Rattle.xt_base.specs.Sized.{IsSized};
 ghost use Rattle.xt_base.specs.Sound.{IsSound};
-ghost use Rattle.xt_base.specs.Text.{item_text};
-ghost use Rattle.xt_ckpt.specs.Items.{item_bytes, HasForm};
-ghost use Rattle.xt_ckpt.specs.declared.item.Item.{Item as AnItem};
+ghost use Rattle.xt_ckpt.specs.Entries.{IsWhole};
 ghost use Rattle.xt_items.specs.Lists.{flight_number};
 ghost use Rattle.xt_mount.specs.Machines.{state_of};
-ghost use Rattle.xt_mount.specs.Texts.{entry_bytes, entry_block};
+ghost use Rattle.xt_mount.specs.Texts.{entries_of};
 
 use crate::machine::Machine;
-use crate::snapshot::copies_of;
 use bytes::Bytes;
 use std::alloc::{AllocError, Global};
-use xt_base::names::{Block, CkptNo, JobKind};
+use xt_base::chunks::Chunks;
+use xt_base::names::{CkptNo, JobKind};
 use xt_base::sizes::TEXT_PIECES;
 use xt_base::steps::{LogAnswers, Reason, Reply};
-use xt_ckpt::item::Item;
+use xt_ckpt::source::ItemSource;
 use xt_ckpt::writing::write_checkpoint_in;
 use xt_vectors::vector::LogVector;
 
-impl Machine {
-    /// The committed items with their log vectors, on a live mount.
-    fn items_now(&self) -> Result<Vec<Item>, AllocError>
-        requires live { is_none self.now.accounts.shut ≡ true }
-        requires sized { IsSized (state_of self.now) }
-        ensures text { IfOk result (λ items. flat_map item_bytes items.items ≡ flat_map (entry_bytes self.now.accounts.form.size self.now.accounts.frames.committed) self.now.accounts.items.cil) }
-        ensures blocks { IfOk result (λ items. map entry_block self.now.accounts.items.cil ≡ map (λ (i : AnItem). i.block) items.items) }
-        ensures form { IfOk result (λ items. All HasForm items.items) }
-        ensures within { IfOk result (λ items. All (λ (i : AnItem). IsWithin self.now.accounts.form.size i.chunks) items.items) }
-    {
-        let mut items = Vec::new(self.alloc);
-        for v in self.accounts.vectors() {
-            let item = item_of(self.alloc, v.0, &v.1)?;
-            items.push(item)?;
-        }
-        Ok(items)
-    }
+/// The log vectors of a commit list, as a checkpoint is written from them: where they lie.
+#[derive(Clone, Copy)]
+struct Vectors<'a>(&'a [(u64, LogVector)]);
 
+impl Machine {
     /// The pieces of a checkpoint of the committed items, as they are now, on a live mount.
     fn pieces_now(&self) -> Result<Vec<Bytes>, AllocError>
         requires sound { IsSound (state_of self.now) }
@@ -51,12 +36,10 @@ impl Machine {
         ensures pieces { IfOk result (λ pieces. pieces.items ≡ next_pieces (state_of self.now)) }
         ensures few { IfOk result (λ pieces. length pieces.items ≤ TEXT_PIECES) }
     {
-        let items = self.items_now()?;
+        let items = Vectors(self.accounts.vectors());
+        items.are_whole();
         let form = self.accounts.form();
-        match write_checkpoint_in(self.alloc, form, self.accounts.open_number(), &items) {
-            Ok(pieces) => Ok(pieces),
-            Err(_) => Err(AllocError),
-        }
+        write_checkpoint_in(self.alloc, form, self.accounts.open_number(), &items)
     }
 
     /// Begins the outstanding checkpoint: the committed items become the flight. On a shut mount there is
@@ -168,19 +151,37 @@ impl Machine {
     }
 }
 
-/// What a checkpoint says of a block by its log vector.
-fn item_of(alloc: Global, block: u64, vector: &LogVector) -> Result<Item, AllocError>
-    ensures text { IfOk result (λ item. item_bytes item ≡ item_text block vector.now.chunks vector.now.bytes) }
-    ensures block { IfOk result (λ item. item.block ≡ block) }
-    ensures chunks { IfOk result (λ item. item.chunks ≡ vector.now.chunks) }
-    ensures form { IfOk result HasForm }
-{
-    let content = copies_of(alloc, vector.bytes())?;
-    Ok(Item {
-        block: Block(block),
-        chunks: vector.chunks(),
-        content,
-    })
+impl Vectors<'_> {
+    /// Each has 128 bytes for each of its chunks: for a proof, at run time nothing.
+    fn are_whole(&self)
+        ensures { All IsWhole (entries_of self.now.0.now) }
+    {
+        for v in self.0 {
+            let _bytes = v.1.bytes();
+        }
+    }
+}
+
+impl ItemSource for Vectors<'_> {
+    ghost entries = { λ v. entries_of v.0.now };
+
+    fn item_count(&self) -> usize {
+        self.0.len()
+    }
+
+    fn block_at(&self, index: usize) -> u64 {
+        self.0[index].0
+    }
+
+    fn chunks_at(&self, index: usize) -> Chunks {
+        let v = &self.0[index];
+        v.1.chunks()
+    }
+
+    fn content_at(&self, index: usize) -> &[u8] {
+        let v = &self.0[index];
+        v.1.bytes()
+    }
 }
 
 /// Other owners of these pieces.

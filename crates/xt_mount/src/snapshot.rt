@@ -36,7 +36,7 @@ impl Machine {
 }
 
 /// Some values, copied. The one error is want of memory.
-pub(crate) fn copies_of<T: Copy>(alloc: Global, values: &[T]) -> Result<Vec<T>, AllocError>
+fn copies_of<T: Copy>(alloc: Global, values: &[T]) -> Result<Vec<T>, AllocError>
     ensures { IfOk result (λ copies. copies.items ≡ values.now) }
 {
     let mut copies = Vec::with_capacity(alloc, values.len())?;

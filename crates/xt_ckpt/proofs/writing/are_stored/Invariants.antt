@@ -1,6 +1,6 @@
 use Rattle.std.proofs.Common.{All, take}
-use Rattle.xt_ckpt.specs.Items.{IsStored}
+use Rattle.xt_ckpt.specs.Entries.{IsStored}
 use Rattle.xt_ckpt.proofs.writing.are_stored.Given as goal
 
-abbrev pub invariant-loop-item : goal.invariant-loop-item
-invariant-loop-item l = All IsStored (take l.item-index l.items)
+abbrev pub invariant-loop-index : goal.invariant-loop-index
+invariant-loop-index g l = All IsStored (take l.index (g.S.ItemSource.entries l.items))

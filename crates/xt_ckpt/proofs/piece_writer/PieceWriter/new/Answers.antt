@@ -1,8 +1,10 @@
 use Rattle.std.proofs.Common.{◌∙◌}
-use Rattle.xt_ckpt.proofs.Places.{front_text, whole_text}
+use Rattle.xt_ckpt.proofs.Entries.{entry_count, same_text}
+use Rattle.xt_ckpt.specs.Grammar.{entries}
 use Rattle.xt_ckpt.proofs.piece_writer.PieceWriter.new.Goals as goal
 
+pub returns-clause-of : goal.returns-clause-of
+returns-clause-of c = λ items count. c.at_front.ensures.of (entries items) (entry_count items ∙ count)
+
 pub returns-clause-text : goal.returns-clause-text
-returns-clause-text c = λ items count.
-    front_text (record { number = c.args.number; size = c.args.size; count = c.args.count }) items c.front.result c.front.ensures.0 c.front.ensures.1
-    ∙ whole_text c.args.size c.args.number c.args.count items count
+returns-clause-text c = λ items count. c.at_front.ensures.text (entries items) (entry_count items ∙ count) ∙ same_text c.args.size c.args.number items
