@@ -95,16 +95,6 @@ impl BusyFrames {
         }
     }
 
-    /// Brings the frame of a block that has none. It takes no memory.
-    pub fn put_new(&mut self, block: u64, frame: Buf)
-        requires absent { is_in block self.old ≡ false }
-        requires room { length self.old < ROOM }
-        ensures { self.new ≡ put block frame self.old }
-    {
-        let key = self.frames.insert_reserved((block, frame));
-        self.index.put_new(block, key);
-    }
-
     /// Brings a frame, and hands back the one that stood in its place. A new block needs room. It takes no memory.
     pub fn exchange(&mut self, block: u64, frame: Buf) -> Option<Buf>
         requires { is_in block self.old ≡ false → length self.old < ROOM }

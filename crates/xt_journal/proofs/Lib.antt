@@ -1,3 +1,3 @@
 pub mod OverLemmas
 pub mod KeepLemmas
-mod TieLemmas
+pub mod TieLemmas
