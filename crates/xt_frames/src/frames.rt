@@ -1,5 +1,6 @@
 //! Contents: those of busy blocks in frames, fresh marks, and the idle list.
 
+ghost use Rattle.std.specs.Bool.{OnFalse, OnTrue};
 ghost use Rattle.std.specs.Prelude.{ℕ, Bool, ◌≡◌, ◌+◌, ◌-◌, Some, None, ◌<◌, ◌≤◌, ◌++◌, ◌∷◌, [], length, take, drop, slice_get, false, true, IfErr, IfOk, IfSome, OnErr, OnOk, option_copied, if◌then◌else◌, ◌&&◌, nat_lt, not};
 ghost use Rattle.xt_base.specs.Maps.{at, has, is_in, put, with_member, without, without_member};
 ghost use Rattle.xt_base.specs.Sound.{IsRising};
@@ -132,6 +133,22 @@ impl Frames {
                 let _before = self.busy.exchange(block, Buf::clean(content));
             }
             None => self.fresh.insert(block),
+        }
+    }
+
+    /// An idle block becomes busy, with its content; another is left as it is. Whether it was idle. It takes no memory.
+    pub fn bring_idle(&mut self, block: u64) -> bool
+        requires { length self.old.frames < ROOM }
+        ensures there { result ≡ is_in block self.old.idle }
+        ensures brought { OnTrue result (self.new ≡ bufs_brought_in block (at block self.old.idle) self.old) }
+        ensures kept { OnFalse result (self.new ≡ self.old) }
+    {
+        match self.idle.take(block) {
+            Some(content) => {
+                let _before = self.busy.exchange(block, Buf::clean(content));
+                true
+            }
+            None => false,
         }
     }
 

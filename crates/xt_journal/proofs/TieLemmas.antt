@@ -1,6 +1,7 @@
 -- The log vectors of a journal, where its contents or its commit list change.
-use Rattle.std.proofs.Common.{◌≡◌, ◌≢◌, ◌∙◌, ◌∷◌, Bool, List, None, Option, Some, [], ap, arith, false, filter, length, not, refl, suc, sym, true, unwrap_or, ℕ}
+use Rattle.std.proofs.Common.{◌≡◌, ◌≢◌, ◌∙◌, ◌∷◌, Bool, List, None, Option, Some, [], ap, arith, false, filter, length, not, refl, subst, suc, sym, true, unwrap_or, ℕ}
 use Rattle.std.proofs.lemmas.Bool.{false≢true, ne_eqb}
+use Rattle.std.specs.Bool.{OnFalse, OnTrue}
 use Rattle.std.specs.Prelude.{is_none, ◌&&◌, ◌==◌, ◌||◌}
 use Rattle.xt_base.proofs.MapLemmas.{at_put_other, at_put_same, at_without_other}
 use Rattle.xt_base.proofs.RisingLemmas.{each_map}
@@ -18,6 +19,11 @@ use Rattle.xt_journal.specs.Journals.{AreVectors, is_busy_beside}
 use Rattle.xt_journal.specs.Keeping.{is_saved}
 use Rattle.xt_vectors.proofs.VectorLemmas.{each_there, vectors_kept, vectors_other, vectors_put}
 use Rattle.xt_vectors.specs.Vectors.{Vector, no_vector, vector, vectors_of}
+
+-- what holds of another value and of the old one holds of the new one, which is either
+pub either_way : {X : Type 0} (P : X → Type 0) (b : Bool) (new old other : X) → OnTrue b (new ≡ other) → OnFalse b (new ≡ old) → P other → P old → P new
+either_way P true new old other is kept there stays = subst P (sym is) there
+either_way P false new old other is kept there stays = subst P (sym kept) stays
 
 module _ (size : ℕ) (l : Lists) (f : Frames) (shut : Option Reason) (tied : AreVectors size l f shut) where
   -- ---- a block that is not listed comes

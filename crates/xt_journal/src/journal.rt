@@ -1,5 +1,6 @@
 //! The journal of a mount: item lists and contents in one hand, since what is written to the log is of both.
 
+ghost use Rattle.std.specs.Bool.{OnFalse, OnTrue};
 ghost use Rattle.std.specs.Prelude.{◌≡◌, ◌+◌, ◌*◌, ◌<◌, ◌≤◌, [], Some, None, filter, is_none, is_some, length, not, true, IfErr, IfOk, IfSome, OnErr, OnOk, false};
 ghost use Rattle.xt_base.specs.Calls.{shut_for};
 ghost use Rattle.xt_base.specs.Jobs.{activated, fits_plan, gone};
@@ -144,6 +145,18 @@ impl Journal {
         ensures { self.new ≡ record self.old { frames = bufs_brought_in block (at block self.old.frames.idle) self.old.frames } }
     {
         self.frames.bring(block);
+    }
+
+    /// An idle block becomes busy, on a live mount one that is not listed, with its content; one that is not idle is left as it is.
+    /// Whether it was idle. It takes no memory.
+    pub fn bring_idle(&mut self, block: u64) -> bool
+        requires unlisted { is_none self.old.shut ≡ true → is_in block self.old.lists.cil ≡ false }
+        requires frames { length self.old.frames.frames < ROOM }
+        ensures there { result ≡ is_in block self.old.frames.idle }
+        ensures brought { OnTrue result (self.new ≡ record self.old { frames = bufs_brought_in block (at block self.old.frames.idle) self.old.frames }) }
+        ensures kept { OnFalse result (self.new ≡ self.old) }
+    {
+        self.frames.bring_idle(block)
     }
 
     /// A block becomes busy, on a live mount one that is not listed, with this content. It takes no memory.

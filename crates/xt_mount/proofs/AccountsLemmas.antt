@@ -1,5 +1,6 @@
 -- Accounts whose ledger agrees with its transactions and lists, and whose transactions stand in its frames.
 use Rattle.std.proofs.Common.{◌≡◌, ◌≢◌, ◌∙◌, ◌+◌, ◌*◌, ◌<◌, ◌≤◌, ◌⊎◌, ℕ, Bool, List, [], None, Ok, Option, Some, false, inl, inr, length, sym, true, ap, refl, subst, arith, IfSome}
+use Rattle.std.specs.Bool.{OnFalse, OnTrue}
 use Rattle.std.specs.Prelude.{IfOk, Result, Err, is_none, is_some, option_map, ◌&&◌}
 use Rattle.std.proofs.lemmas.Bool.{false≢true}
 use Rattle.xt_base.proofs.MapLemmas.{some_same}
@@ -315,6 +316,15 @@ pub lost_parts : (b : ℕ) (ts : List (ℕ × Transaction)) (landed : List (ℕ 
 lost_parts b ts landed l m u contents rest xs =
     ap (λ (x : JournalState). record { log_bytes = b; form = x.form; transactions = xs; items = with_landed landed x.lists; frames = contents_of m.frames; shut = x.shut }) rest
     ∙ ap (λ (f : Frames). record (pages b ts landed l) { transactions = xs; frames = f }) (contents ∙ sym (lost_over l.frames.frames u.leg (contents_of l.frames)))
+
+-- ---- where a result says which of two came
+pub on_true : {P Q : Type 0} (b : Bool) → (P → Q) → OnTrue b P → OnTrue b Q
+on_true true f p = f p
+on_true false f p = tt
+
+pub on_false : {P Q : Type 0} (b : Bool) → (P → Q) → OnFalse b P → OnFalse b Q
+on_false true f p = tt
+on_false false f p = f p
 
 -- ---- blocks come and go
 -- a block that nobody changed became busy

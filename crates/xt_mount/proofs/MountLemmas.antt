@@ -1,5 +1,5 @@
 -- A mount stays sound, of its size, and of its slot and life, and its pieces in flight stay such as a log device takes, whatever it serves.
-use Rattle.std.proofs.Common.{◌≡◌, ◌∙◌, ◌+◌, ◌*◌, ◌<◌, ◌≤◌, ◌∷◌, ℕ, suc, zero, List, Bool, [], true, false, sym, ap, subst, refl, IfOk, OnOk, OnErr, Option, None, Some, Result, Ok, Err, arith, drop, take, length, length-take, if◌then◌else◌}
+use Rattle.std.proofs.Common.{◌≡◌, ◌∙◌, ◌+◌, ◌*◌, ◌<◌, ◌≤◌, ◌∷◌, ℕ, suc, zero, List, Bool, [], true, false, sym, ap, subst, refl, IfErr, IfOk, OnOk, OnErr, Option, None, Some, Result, Ok, Err, arith, drop, take, length, length-take, if◌then◌else◌}
 use Rattle.std.proofs.lemmas.List.Elements.{All-cons, All-nil}
 use Rattle.std.proofs.lemmas.List.{length-drop}
 use Rattle.std.specs.Prelude.{All, is_some}
@@ -72,6 +72,11 @@ served_whole old new request answer (Ok reply) size whole ok err =
     (whole_flight old (alone_with [] request answer old).state (sound_call [] request answer old whole.0) (sized_call [] request answer old whole.0.form size whole.1) (same_call old [] request answer).flight whole.2)
 served_whole old new request answer (Err e) size whole ok err = subst IsWhole (sym err) whole
 
+-- a read that was tried: served with no answer, or nothing changed
+pub tried_whole : (old new : State) (t b : ℕ) (r : Result Reply ℕ) → IsWhole old → IfOk r (λ reply. gives reply new ≡ alone_with [] (Request.Read t b) Answer.None old) → IfErr r (λ asked. new ≡ old) → IsWhole new
+tried_whole old new t b (Ok reply) whole served kept = served_whole old new (Request.Read t b) Answer.None (Ok reply) refl whole served tt
+tried_whole old new t b (Err asked) whole served kept = subst IsWhole (sym kept) whole
+
 begun_whole : (s t : State) (b : Bool) (x y : Outcome) → IsSound t → IsSized t → t ≡ (if b then x else y).state → length (flight_pieces t.items.flight) ≤ 65 → flight_pieces x.state.items.flight ≡ flight_pieces s.items.flight
     → flight_pieces y.state.items.flight ≡ next_pieces s → ArePieces (flight_pieces s.items.flight) → IsWhole t
 begun_whole s t true x y sound sized is few shut live ps = (sound, sized, subst ArePieces (sym (ap (λ (u : State). flight_pieces u.items.flight) is ∙ shut)) ps)
@@ -115,6 +120,10 @@ pub served_same : (new old : State) (request : Request) (answer : Answer) (r : R
 served_same new old request answer (Ok reply) ok err =
     given_same reply new old (alone_with [] request answer old) ok (same_life old (alone_with [] request answer old).state (same_call old [] request answer))
 served_same new old request answer (Err e) ok err = kept_same new old err
+
+pub tried_same : (new old : State) (t b : ℕ) (r : Result Reply ℕ) → IfOk r (λ reply. gives reply new ≡ alone_with [] (Request.Read t b) Answer.None old) → IfErr r (λ asked. new ≡ old) → IsSameMount new old
+tried_same new old t b (Ok reply) served kept = served_same new old (Request.Read t b) Answer.None (Ok reply) served tt
+tried_same new old t b (Err asked) served kept = kept_same new old kept
 
 pub begun_same : (new old : State) (r : Result Reply AllocError) → IfOk r (λ reply. gives reply new ≡ begin old) → OnErr r (new ≡ old) → IsSameMount new old
 begun_same new old (Ok reply) ok err = given_same reply new old (begin old) ok (same_begin old)

@@ -1,5 +1,6 @@
 //! The contents in the accounts of a mount: what a block has, what a leg sees of it, and when it comes and settles.
 
+ghost use Rattle.std.specs.Bool.{OnFalse, OnTrue};
 ghost use Rattle.std.specs.Prelude.{◌≡◌, ◌<◌, false, true, is_none, length, IfOk, IfSome, option_copied, ◌||◌};
 ghost use Rattle.xt_base.specs.Calls.{seen};
 ghost use Rattle.xt_base.specs.Legs.{is_stale};
@@ -89,6 +90,19 @@ impl Accounts {
         ensures { self.new ≡ record self.old { frames = brought_in block (at block self.old.frames.idle) self.old.frames } }
     {
         self.journal.bring(block);
+    }
+
+    /// An idle block becomes busy, on a live mount one that is not listed, with its content; one that is not idle is left as it is.
+    /// Whether it was idle. It takes no memory.
+    pub fn bring_idle(&mut self, block: u64) -> bool
+        requires unlisted { is_none self.old.shut ≡ true → is_in block self.old.items.cil ≡ false }
+        requires unchanged { IsUnchanged block self.old.transactions }
+        requires committed { length self.old.frames.committed < ROOM }
+        ensures there { result ≡ is_in block self.old.frames.idle }
+        ensures brought { OnTrue result (self.new ≡ record self.old { frames = brought_in block (at block self.old.frames.idle) self.old.frames }) }
+        ensures kept { OnFalse result (self.new ≡ self.old) }
+    {
+        self.journal.bring_idle(block)
     }
 
     /// A block becomes busy, on a live mount one that is not listed, with this content, which has the mount's size. It takes no memory.

@@ -8,6 +8,7 @@ ghost use Rattle.xt_base.specs.Jobs.{begin as begin_step, end as end_step, fits_
 ghost use Rattle.xt_base.specs.Maps.{at, is_in};
 ghost use Rattle.xt_base.specs.Order.{has_size, is_there};
 ghost use Rattle.xt_base.specs.State.{mount_of};
+ghost use Rattle.xt_base.specs.declared.steps.Answer.TheVariants as Answered;
 ghost use Rattle.xt_base.specs.declared.steps.Errno.TheVariants.{NoMemory};
 ghost use Rattle.xt_frames.specs.Shares.{no_contents};
 ghost use Rattle.xt_mount.specs.Accounts.{IsUnchanged};
@@ -186,7 +187,24 @@ impl Mount {
         }
     }
 
-    /// The same, of a request and an answer that are handed over.
+    /// Serves a request that asks no home device, as `serve` does with no answer. One that must ask it changes nothing: the block that it
+    /// asks for, and then it is to be served with the device's answer. What `needs` says is told on the way, so that nothing is looked
+    /// up twice.
+    pub fn try_serve(&mut self, request: &Request) -> Result<Reply, Block>
+        ensures unasked { IfOk result (λ _. asks request.now self.old ≡ false) }
+        ensures asked { IfErr result (λ _. asks request.now self.old ≡ true) }
+        ensures block { IfErr result (λ block. read_block request.now ≡ Some block) }
+        ensures served { IfOk result (λ reply. IsCallUnlessMemory (may_want_memory request.now) (alone_with [] request.now Answered.None self.old) reply self.new self.old) }
+        ensures kept { IfErr result (λ _. self.new ≡ self.old) }
+        ensures same { IsSameMount self.new self.old }
+    {
+        match request {
+            Request::Read { trans, block } => self.machine.try_read(*trans, *block),
+            _ => Ok(self.serve(request, &Answer::None)),
+        }
+    }
+
+    /// As `serve`, of a request and an answer that are handed over.
     pub fn call(&mut self, request: Request, answer: Answer) -> Reply
         requires answered { is_there (asks request self.old) answer ≡ true }
         requires size { has_size answer (Some self.old) ≡ true }

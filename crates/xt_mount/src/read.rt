@@ -1,12 +1,15 @@
 //! Reading a block, and which reads ask the home device.
 
-ghost use Rattle.std.specs.Prelude.{◌≡◌, ◌<◌, ◌&&◌, ◌||◌, None, false, is_none, is_some, length, true, IfOk, IfSome, OnErr, Some, if◌then◌else◌};
+ghost use Rattle.std.specs.Bool.{OnFalse, OnTrue};
+ghost use Rattle.std.specs.Prelude.{◌≡◌, ◌<◌, ◌&&◌, ◌||◌, None, false, is_none, is_some, length, not, true, IfErr, IfOk, IfSome, OnErr, Some, if◌then◌else◌};
 ghost use Rattle.xt_base.specs.Alone.{is_refusal};
-ghost use Rattle.xt_base.specs.Calls.{answered, asks, at_end, busied, first_of, gives, is_absent, is_elsewhere, is_fresh, is_own, is_resident, read as read_step, read_asks, read_refusals, with_owner, with_trans};
+ghost use Rattle.xt_base.specs.Calls.{answered, asks, at_end, busied, first_of, gives, is_absent, is_elsewhere, is_fresh, is_own, is_resident, locked, read as read_step, read_asks, read_refusals, with_owner, with_trans};
 ghost use Rattle.xt_base.specs.Legs.{is_dirty, is_stale, own_count};
 ghost use Rattle.xt_base.specs.Maps.{at, is_in};
 ghost use Rattle.xt_base.specs.Order.{has_size, is_there};
 ghost use Rattle.xt_base.specs.Sound.{IsSound};
+ghost use Rattle.xt_base.specs.Space.{is_busy};
+ghost use Rattle.xt_base.specs.declared.steps.Answer.TheVariants as Answered;
 ghost use Rattle.xt_base.specs.declared.steps.Owner.TheVariants.{Trans as OwnedBy};
 ghost use Rattle.xt_mount.specs.Come.{read_block};
 ghost use Rattle.xt_mount.specs.Machines.{state_of};
@@ -84,6 +87,88 @@ impl Machine {
             Some(block)
         } else {
             None
+        }
+    }
+
+    /// A first lock of a block that is busy: whether it is resident. One that is not is left as it is.
+    fn lock_busy(&mut self, trans: TransNo, block: Block) -> bool
+        requires sound { IsSound (state_of self.old) }
+        requires strange { own_count trans (at block self.old.locks) ≡ None }
+        requires free { is_elsewhere (state_of self.old) trans block ≡ false }
+        requires busy { is_busy (state_of self.old) block ≡ true }
+        ensures resident { result ≡ is_resident (state_of self.old) block }
+        ensures locked { OnTrue result (state_of self.new ≡ locked trans block None (state_of self.old)) }
+        ensures kept { OnFalse result (state_of self.new ≡ state_of self.old) }
+    {
+        if self.accounts.is_fresh(block.0) && !self.accounts.is_idle(block.0) {
+            return false;
+        }
+        let _locked = self.locks.try_lock(trans, block);
+        true
+    }
+
+    /// A first lock of a block that is not busy: whether it is resident, which is to be idle. It is searched once: found, it is taken. One
+    /// that is not resident is left as it is.
+    fn lock_idle(&mut self, trans: TransNo, block: Block) -> bool
+        requires sound { IsSound (state_of self.old) }
+        requires strange { own_count trans (at block self.old.locks) ≡ None }
+        requires free { is_elsewhere (state_of self.old) trans block ≡ false }
+        requires idle { is_busy (state_of self.old) block ≡ false }
+        ensures resident { result ≡ is_resident (state_of self.old) block }
+        ensures locked { OnTrue result (state_of self.new ≡ locked trans block None (state_of self.old)) }
+        ensures kept { OnFalse result (state_of self.new ≡ state_of self.old) }
+    {
+        if !self.accounts.bring_idle(block.0) {
+            return false;
+        }
+        let _locked = self.locks.try_lock(trans, block);
+        true
+    }
+
+    /// Locks a block that is the transaction's own or resident, and says whether it is. One that is neither is left as it is.
+    fn lock_resident(&mut self, trans: TransNo, block: Block) -> bool
+        requires sound { IsSound (state_of self.old) }
+        requires room { at_end (own_count trans (at block self.old.locks)) ≡ false }
+        requires free { is_elsewhere (state_of self.old) trans block ≡ false }
+        ensures absent { result ≡ not (is_absent trans block (state_of self.old)) }
+        ensures locked { OnTrue result (state_of self.new ≡ locked trans block (own_count trans (at block self.old.locks)) (state_of self.old)) }
+        ensures kept { OnFalse result (state_of self.new ≡ state_of self.old) }
+    {
+        match self.own_count(trans, block) {
+            Some(_) => {
+                let _again = self.locks.again(trans, block);
+                true
+            }
+            None => {
+                if self.is_busy(block) {
+                    self.lock_busy(trans, block)
+                } else {
+                    self.lock_idle(trans, block)
+                }
+            }
+        }
+    }
+
+    /// Locks a block with its content where that asks no home device; else nothing changes, and the device is to be asked for the block
+    /// first. It takes no memory.
+    pub fn try_read(&mut self, trans: TransNo, block: Block) -> Result<Reply, Block>
+        requires { IsSound (state_of self.old) }
+        ensures served { IfOk result (λ reply. gives reply (state_of self.new) ≡ with_trans (at trans self.old.accounts.transactions) (state_of self.old) (read_step trans block Answered.None (state_of self.old))) }
+        ensures unasked { IfOk result (λ _. read_asks trans block (state_of self.old) (at trans self.old.accounts.transactions) ≡ false) }
+        ensures asked { IfErr result (λ _. read_asks trans block (state_of self.old) (at trans self.old.accounts.transactions) ≡ true) }
+        ensures block { IfErr result (λ asked. asked ≡ block) }
+        ensures kept { IfErr result (λ _. state_of self.new ≡ state_of self.old) }
+    {
+        let Some(opened) = self.accounts.get(trans.0) else {
+            return Ok(Reply::Refused(Errno::Invalid));
+        };
+        if let Some(errno) = self.read_refusal(&opened.leg(), trans, block) {
+            return Ok(Reply::Refused(errno));
+        }
+        if self.lock_resident(trans, block) {
+            Ok(Reply::Okay)
+        } else {
+            Err(block)
         }
     }
 

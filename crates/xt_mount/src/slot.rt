@@ -8,6 +8,7 @@ ghost use Rattle.xt_base.specs.Jobs.{fits_pieces, fits_plan, is_begun, is_ckpt, 
 ghost use Rattle.xt_base.specs.Maps.{at, is_in};
 ghost use Rattle.xt_base.specs.Order.{has_size, is_there, mount_is, of_life};
 ghost use Rattle.xt_base.specs.State.{mount_of};
+ghost use Rattle.xt_base.specs.declared.steps.Answer.TheVariants as Answered;
 ghost use Rattle.xt_base.specs.declared.steps.Errno.TheVariants.{NoMemory};
 ghost use Rattle.xt_base.specs.declared.steps.Reply.{Reply as AReply};
 ghost use Rattle.xt_base.specs.declared.steps.Step.{Step as AStep};
@@ -260,6 +261,25 @@ impl MountSlot {
         reply
     }
 
+    /// Serves a request that asks no home device, as `call` does with no answer. One that must ask it changes nothing: the block that it
+    /// asks for, and then it is to be called with the device's answer. What `needs` says is told on the way.
+    pub fn try_call(&mut self, life: Life, request: &Request) -> Result<Reply, Block>
+        ensures unasked { IfOk result (λ _. mount_is (of_life life request.now) self.old.mounted ≡ false) }
+        ensures asked { IfErr result (λ _. mount_is (of_life life request.now) self.old.mounted ≡ true) }
+        ensures block { IfErr result (λ block. read_block request.now ≡ Some block) }
+        ensures served { IfOk result (λ reply. IsServedUnlessMemory (AStep.Call self.old.slot life request.now Answered.None) reply self.new self.old) }
+        ensures kept { IfErr result (λ _. self.new ≡ self.old) }
+    {
+        match tried(&mut self.mount, life, request) {
+            Ok(reply) => {
+                let is_gone = is_unmounted(request, &reply);
+                empty_if(&mut self.mount, &mut self.share, is_gone);
+                Ok(reply)
+            }
+            Err(block) => Err(block),
+        }
+    }
+
     /// A job that is owed was posted: it is outstanding until its end, its flush, or a begin that finds nothing to do.
     pub fn posted(&mut self, name: JobName)
         requires owed { mount_is (is_owed_as name) self.old.mounted ≡ true }
@@ -320,6 +340,20 @@ impl MountSlot {
     {
         match &mut self.mount {
             Some(mount) => mount.flush(name, answers),
+            None => unreachable!(),
+        }
+    }
+
+    /// The same for a caller that has the plan at hand, so that it is not made again.
+    pub fn flush_planned(&mut self, name: JobName, plan: &FlushPlan, answers: HomeAnswers) -> Reply
+        requires kind { is_ckpt name.kind ≡ false }
+        requires waiting { mount_is (is_waiting name) self.old.mounted ≡ true }
+        requires planned { plan.now ≡ plan_in self.old.mounted }
+        requires fits { fits_plan answers plan.now ≡ true }
+        ensures { (worker : ℕ) → IsServed (AStep.Flush worker name answers) result self.new self.old }
+    {
+        match &mut self.mount {
+            Some(mount) => mount.flush_planned(name, plan, answers),
             None => unreachable!(),
         }
     }
@@ -387,6 +421,23 @@ fn answered(mount: &mut Option<Mount>, life: Life, request: &Request, answer: &A
         return Reply::Refused(Errno::Stale);
     }
     mounted.serve(request, answer)
+}
+
+/// The same with no answer of the home device. Where it must be asked, nothing changes, and the block is told.
+fn tried(mount: &mut Option<Mount>, life: Life, request: &Request) -> Result<Reply, Block>
+    ensures unasked { IfOk result (λ _. mount_is (of_life life request.now) mount.old ≡ false) }
+    ensures asked { IfErr result (λ _. mount_is (of_life life request.now) mount.old ≡ true) }
+    ensures block { IfErr result (λ block. read_block request.now ≡ Some block) }
+    ensures answered { IfOk result (λ reply. IsAnsweredUnlessMemory life request.now Answered.None reply mount.new mount.old) }
+    ensures kept { IfErr result (λ _. mount.new ≡ mount.old) }
+{
+    let Some(mounted) = mount else {
+        return Ok(Reply::Refused(Errno::NoDevice));
+    };
+    if mounted.life() != life {
+        return Ok(Reply::Refused(Errno::Stale));
+    }
+    mounted.try_serve(request)
 }
 
 /// The slot is emptied, if it is so, and has its share again.
