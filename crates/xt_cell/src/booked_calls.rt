@@ -18,7 +18,7 @@ use crate::house::House;
 use crate::rooms::Rooms;
 use crate::seat::HostSeat;
 use crate::shares::{Counts, Shares};
-use crate::twin::{Twin, mount_twin, plain_step, plain_twin};
+use crate::twin::{Twin, call_copy, mount_twin, plain_twin};
 use std::alloc::Global;
 use xt_base::names::Life;
 use xt_base::steps::{Answer, Errno, Reply, Request, Step};
@@ -26,7 +26,7 @@ use xt_mount::slot::MountSlot;
 
 impl<H: House, const S: u8> SlotBook<H, S> {
     /// Serves a request to one life of the slot, with the home device's answer where it was asked, and books it with its receipt; or it is
-    /// refused memory, and nothing changes. A step that carries neither bytes nor a content is copied; another is shared.
+    /// refused memory, and nothing changes. The step is made twice, and bytes that it carries are shared; one with a content is shared whole.
     #[inline(always)]
     pub(crate) fn ask(
         &mut self,
@@ -48,7 +48,7 @@ impl<H: House, const S: u8> SlotBook<H, S> {
         ensures room { is_no_memory result ≡ false → self.new.room + 1 ≡ self.old.room }
     {
         let slot = self.slot().slot();
-        let copy = plain_step(slot, life, &request, &answer);
+        let copy = call_copy(slot, life, &request, &answer);
         let step = Step::Call {
             slot,
             life,
@@ -57,10 +57,29 @@ impl<H: House, const S: u8> SlotBook<H, S> {
         };
         match copy {
             Some(copy) => self.call(seat, Twin::of(copy, step), rooms),
-            None => match Twin::shared(self.alloc, step) {
-                Ok(step) => self.call(seat, step, rooms),
-                Err(_) => Reply::Refused(Errno::NoMemory),
-            },
+            None => self.call_shared(seat, step, rooms),
+        }
+    }
+
+    /// Serves the step of a call that its entry and its receipt share, and books it; or it is refused memory, and nothing changes.
+    #[inline(never)]
+    fn call_shared(&mut self, seat: &mut HostSeat<H>, step: Step, rooms: &mut Rooms) -> Reply
+    where
+        Shares<H>: Counts<H, S>,
+        requires slot { slot_of step ≡ S }
+        requires call { is_call step ≡ true }
+        requires suits { suits step (lone_with 0 None self.old.state) ≡ true }
+        requires ready { may_hold step ≡ true → AreReady rooms.old }
+        requires room { 1 ≤ self.old.room }
+        requires seat { 1 ≤ seat.old.room }
+        ensures booked { is_no_memory result ≡ false → IsBooked S step result self.old self.new seat.old seat.new }
+        ensures counted { is_no_memory result ≡ false → ⟦<Shares<H> as Counts<H, S>>⟧.counts seat.new.counts ≡ counted S (⟦<Shares<H> as Counts<H, S>>⟧.counts seat.old.counts) }
+        ensures refused { is_no_memory result ≡ true → (self.new ≡ self.old) × (seat.new ≡ seat.old) }
+        ensures room { is_no_memory result ≡ false → self.new.room + 1 ≡ self.old.room }
+    {
+        match Twin::shared(self.alloc, step) {
+            Ok(step) => self.call(seat, step, rooms),
+            Err(_) => Reply::Refused(Errno::NoMemory),
         }
     }
 

@@ -39,8 +39,8 @@ impl<T: Drop> Twin<T> {
     }
 }
 
-/// A copy of a request that carries no bytes. It takes no memory; None where it carries some.
-fn plain_request(request: &Request) -> Option<Request>
+/// A copy of a request, whose bytes both share. It takes no memory; None where they have as many owners as can be counted.
+fn request_copy(request: &Request) -> Option<Request>
     ensures { IfSome result (λ copy. copy ≡ request.now) }
 {
     let copy = match *request {
@@ -48,7 +48,17 @@ fn plain_request(request: &Request) -> Option<Request>
         Request::Get { trans, block } => Request::Get { trans, block },
         Request::Read { trans, block } => Request::Read { trans, block },
         Request::View { trans, block } => Request::View { trans, block },
-        Request::Log { .. } => return None,
+        Request::Log {
+            first,
+            trans,
+            block,
+            ref bytes,
+        } => Request::Log {
+            first,
+            trans,
+            block,
+            bytes: bytes.share().ok()?,
+        },
         Request::Hold { trans, block } => Request::Hold { trans, block },
         Request::Unhold { trans, block } => Request::Unhold { trans, block },
         Request::Relse { trans, block } => Request::Relse { trans, block },
@@ -69,8 +79,9 @@ fn plain_request(request: &Request) -> Option<Request>
     Some(copy)
 }
 
-/// A copy of the step of a call that carries neither bytes nor a content. It takes no memory; None where it carries some.
-pub(crate) fn plain_step(slot: Slot, life: Life, request: &Request, answer: &Answer) -> Option<Step>
+/// A copy of the step of a call that carries no content; bytes that it carries are shared. It takes no memory; None where it carries a
+/// content, or bytes with as many owners as can be counted.
+pub(crate) fn call_copy(slot: Slot, life: Life, request: &Request, answer: &Answer) -> Option<Step>
     ensures { IfSome result (λ copy. copy ≡ AStep.Call slot life request.now answer.now) }
 {
     let answer = match answer {
@@ -78,7 +89,7 @@ pub(crate) fn plain_step(slot: Slot, life: Life, request: &Request, answer: &Ans
         Answer::Failed => Answer::Failed,
         Answer::Content(_) => return None,
     };
-    let request = plain_request(request)?;
+    let request = request_copy(request)?;
     Some(Step::Call {
         slot,
         life,
