@@ -139,6 +139,7 @@ impl<H: House, const S: u8> SlotBook<H, S> {
     /// Folds all entries into the base, which is then the slot as it is now: so the book is short again, and the numbers of its entries
     /// go on. Where memory for the state is refused it stays as it is, and so does a book that folded as many entries as its numbers can
     /// count, which no run gets to.
+    #[inline(never)]
     pub(crate) fn fold(&mut self) -> bool
         ensures folded { OnTrue result (Folds self.old self.new) }
         ensures kept { OnFalse result (self.new ≡ self.old) }
@@ -158,6 +159,7 @@ impl<H: House, const S: u8> SlotBook<H, S> {
     }
 
     /// Folds where there are at least so many entries, if there is memory.
+    #[inline(always)]
     pub(crate) fn fold_from(&mut self, limit: u64)
         ensures book { Readies limit self.old self.new }
         ensures state { self.new.state ≡ self.old.state }

@@ -85,6 +85,7 @@ impl<H: House, const S: u8> SlotBook<H, S> {
 
     /// Serves the step of a call, and books it with its receipt; or it is refused memory, and nothing changes.
     #[tactic(auto, using(crate::proofs::BookLemmas::few_events))]
+    #[inline(always)]
     pub(crate) fn call(
         &mut self,
         seat: &mut HostSeat<H>,

@@ -1,6 +1,6 @@
 //! One locked slot: its book, its devices, and its way to the queue.
 
-ghost use Rattle.std.specs.Prelude.{◌≡◌, ◌+◌, ◌++◌, ◌<◌, ◌≤◌, ◌∷◌, ◌⊎◌, [], None, IfOk, IfSome, MatchOption, OnErr, OnOk, is_some, slice_index, false, true, ℕ};
+ghost use Rattle.std.specs.Prelude.{◌≡◌, ◌+◌, ◌++◌, ◌<◌, ◌≤◌, ◌∷◌, ◌⊎◌, [], None, Some, IfOk, IfSome, MatchOption, OnErr, OnOk, is_some, slice_index, false, true, ℕ};
 ghost use Rattle.xt_base.specs.Alone.{reason_of};
 ghost use Rattle.xt_base.specs.Calls.{is_unmount};
 ghost use Rattle.xt_base.specs.Carried.{may_leave_held};
@@ -40,11 +40,12 @@ use crate::seat::HostSeat;
 use crate::shares::{Counts, Shares};
 use std::alloc::{AllocError, Global};
 use std::sync::Wait;
-use xt_base::names::{JobName, Life};
+use xt_base::names::{Block, JobName, Life};
 use xt_base::steps::{Answer, Errno, Reply, Request};
 use xt_dev::home::HomeDevice;
 use xt_dev::log::LogDevice;
 use xt_mount::mount::Stage;
+use xt_mount::slot::MountSlot;
 use xt_queue::board::Board;
 
 /// What slot S's lock guards: its book with its mount, its devices, and its way to the queue. The home device is there exactly while
@@ -104,6 +105,7 @@ impl<H: House, const S: u8> SlotCell<H, S> {
 
     /// Makes the slot ready for its next event: a book that has at least as many entries as its limit is folded, where there is memory for
     /// the state of the slot. Where there is none the book stays, grows by the event, and the next one tries again.
+    #[inline(always)]
     pub fn fold(&mut self)
         ensures book { Readies self.old.limit self.old.book self.new.book }
         ensures state { self.new.book.state ≡ self.old.book.state }
@@ -186,6 +188,19 @@ fn is_shutdown(request: &Request) -> bool
     matches!(request, Request::Shutdown)
 }
 
+/// The block that a request to one life of a slot must ask the home device for, if there is one. A read alone asks, so the mount is not
+/// looked at for another request.
+#[inline(always)]
+fn needed(slot: &MountSlot, life: Life, request: &Request) -> Option<Block>
+    ensures asked { is_some result ≡ mount_is (of_life life request.now) slot.now.mounted }
+    ensures block { IfSome result (λ block. read_block request.now ≡ Some block) }
+{
+    match request {
+        Request::Read { .. } => slot.needs(life, request),
+        _ => None,
+    }
+}
+
 /// The home device's answer to a request to one life of a slot, where it must be asked; it is asked once, for as many bytes as the blocks
 /// of the mount have. The one error is want of memory, and then it was not asked.
 fn asked<H: House, const S: u8>(
@@ -204,7 +219,7 @@ fn asked<H: House, const S: u8>(
     ensures failures { IfOk result (λ answer. MatchOption home.old (home.new ≡ None) (λ h. IfSome home.new (λ k. home_failures k ≡ home_failures h + failed_reads answer))) }
 {
     let slot = book.slot();
-    let Some(block) = slot.needs(life, request) else {
+    let Some(block) = needed(slot, life, request) else {
         return Ok(Answer::None);
     };
     let place = asking::place(alloc, slot.form())?;

@@ -5,7 +5,7 @@ ghost use Rattle.xt_base.specs.Alone.{carries_content, names_held};
 ghost use Rattle.xt_base.specs.Carried.{may_leave_held};
 ghost use Rattle.xt_cell.specs.Twins.{AreReady};
 
-use crate::twin::{Twin, plain_reply};
+use crate::twin::{Twin, twin_if_plain};
 use std::alloc::{AllocError, Global};
 use xt_base::content::HeldRoom;
 use xt_base::steps::{Reply, Request};
@@ -52,10 +52,10 @@ impl Rooms {
         ensures ok { IfOk result (λ twin. twin.booked ≡ reply.now) }
         ensures err { OnErr result (carries_content reply.now ≡ true) }
     {
-        if let (Some(first), Some(second)) = (plain_reply(reply), plain_reply(reply)) {
-            return Ok(Twin::of(first, second));
+        match twin_if_plain(reply) {
+            Some(twin) => Ok(twin),
+            None => self.carried_twin(alloc, reply),
         }
-        self.carried_twin(alloc, reply)
     }
 
     /// The same of a reply that carries a content, or names held blocks.

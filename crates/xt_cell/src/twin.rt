@@ -174,30 +174,35 @@ pub(crate) fn flush_twin(worker: Worker, name: &JobName, answers: &HomeAnswers) 
     )
 }
 
-/// A copy of a reply that carries no content and names no held blocks. It takes no memory; None where it has some.
-pub(crate) fn plain_reply(reply: &Reply) -> Option<Reply>
-    ensures { IfSome result (λ copy. copy ≡ reply.now) }
+/// A reply twice, where it carries no content and names no held blocks; else None. It takes no memory.
+pub(crate) fn twin_if_plain(reply: &Reply) -> Option<Twin<Reply>>
+    ensures { IfSome result (λ twin. twin.booked ≡ reply.now) }
 {
-    let copy = match *reply {
-        Reply::Okay => Reply::Okay,
-        Reply::Life(life) => Reply::Life(life),
-        Reply::Trans(trans) => Reply::Trans(trans),
-        Reply::Committed(number) => Reply::Committed(number),
-        Reply::Wait(number) => Reply::Wait(number),
-        Reply::Done => Reply::Done,
-        Reply::Kept => Reply::Kept,
-        Reply::Free => Reply::Free,
-        Reply::Nothing => Reply::Nothing,
-        Reply::Begun { number, pieces } => Reply::Begun { number, pieces },
-        Reply::Landed(number) => Reply::Landed(number),
-        Reply::Failed(number) => Reply::Failed(number),
-        Reply::Flushed(count) => Reply::Flushed(count),
-        Reply::Seen { life, reason } => Reply::Seen { life, reason },
-        Reply::Refused(errno) => Reply::Refused(errno),
+    let twin = match *reply {
+        Reply::Okay => Twin::of(Reply::Okay, Reply::Okay),
+        Reply::Life(life) => Twin::of(Reply::Life(life), Reply::Life(life)),
+        Reply::Trans(trans) => Twin::of(Reply::Trans(trans), Reply::Trans(trans)),
+        Reply::Committed(number) => { Twin::of(Reply::Committed(number), Reply::Committed(number)) }
+        Reply::Wait(number) => Twin::of(Reply::Wait(number), Reply::Wait(number)),
+        Reply::Done => Twin::of(Reply::Done, Reply::Done),
+        Reply::Kept => Twin::of(Reply::Kept, Reply::Kept),
+        Reply::Free => Twin::of(Reply::Free, Reply::Free),
+        Reply::Nothing => Twin::of(Reply::Nothing, Reply::Nothing),
+        Reply::Begun { number, pieces } => Twin::of(
+            Reply::Begun { number, pieces },
+            Reply::Begun { number, pieces },
+        ),
+        Reply::Landed(number) => Twin::of(Reply::Landed(number), Reply::Landed(number)),
+        Reply::Failed(number) => Twin::of(Reply::Failed(number), Reply::Failed(number)),
+        Reply::Flushed(count) => Twin::of(Reply::Flushed(count), Reply::Flushed(count)),
+        Reply::Seen { life, reason } => {
+            Twin::of(Reply::Seen { life, reason }, Reply::Seen { life, reason })
+        }
+        Reply::Refused(errno) => Twin::of(Reply::Refused(errno), Reply::Refused(errno)),
         Reply::OkayHeld(_) | Reply::CommittedHeld { .. } => return None,
         Reply::Aborted(_) | Reply::Data(_) => return None,
     };
-    Some(copy)
+    Some(twin)
 }
 
 /// A reply that carries neither a content nor held blocks, twice.
