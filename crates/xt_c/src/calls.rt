@@ -4,6 +4,7 @@ ghost use Rattle.std.specs.Prelude.{◌≡◌, ◌==◌, ◌&&◌, Some, None, f
 ghost use Rattle.xt_base.specs.Alone.{is_okay};
 ghost use Rattle.xt_base.specs.Calls.{asks, is_unmount};
 ghost use Rattle.xt_base.specs.Order.{has_size, is_there};
+ghost use Rattle.xt_base.specs.declared.steps.Answer.TheVariants as Answered;
 ghost use Rattle.xt_c.specs.Calling.{IsAsJudged, IsCalled, Serves, carries, has_room, judged, seen, seen_after, spelled, verdict};
 ghost use Rattle.xt_c.specs.Holding.{held};
 ghost use Rattle.xt_c.specs.Requests.{answer_of, request_of};
@@ -49,7 +50,7 @@ fn is_whole(form: Form, content: &Content) -> bool
     content.bytes().len() == form.block_bytes()
 }
 
-/// Why a request is not served, if it isn't.
+/// Why a request that comes with an answer is not served, if it isn't.
 fn why_unserved(mount: &Mount, request: &Request, answer: &Answer, room: usize) -> Option<Unserved>
     ensures served { IfNone result (judged room mount.now request.now answer.now ≡ Serves request.now answer.now) }
     ensures there { IfNone result (is_there (asks request.now mount.now) answer.now ≡ true) }
@@ -110,6 +111,24 @@ fn serve(
     ensures judged { IsAsJudged (judged (length room.old) mount.old request.now answer.now) result.status (seen_after reply.new room.new result.gone mount.new) (seen_after reply.old room.old false mount.old) }
     ensures slot { mount.new.slot ≡ mount.old.slot }
 {
+    match answer {
+        Answer::None => serve_unanswered(mount, request, reply, room),
+        _ => serve_answered(mount, request, answer, reply, room),
+    }
+}
+
+/// The same with an answer of the home device, where the mount must ask it.
+#[inline(never)]
+fn serve_answered(
+    mount: &mut Mount,
+    request: &Request,
+    answer: &Answer,
+    reply: &mut ReplyWords,
+    room: &mut [u8],
+) -> Called
+    ensures judged { IsAsJudged (judged (length room.old) mount.old request.now answer.now) result.status (seen_after reply.new room.new result.gone mount.new) (seen_after reply.old room.old false mount.old) }
+    ensures slot { mount.new.slot ≡ mount.old.slot }
+{
     match why_unserved(mount, request, answer, room.len()) {
         Some(Unserved::Barred(errno)) => stays(refusal(errno)),
         Some(Unserved::Asks(block)) => {
@@ -124,6 +143,35 @@ fn serve(
                 status: status_of(&told),
                 gone: is_gone(request, &told),
             }
+        }
+    }
+}
+
+/// The same with no answer: whether the home device must be asked is found as the request is served.
+fn serve_unanswered(
+    mount: &mut Mount,
+    request: &Request,
+    reply: &mut ReplyWords,
+    room: &mut [u8],
+) -> Called
+    ensures judged { IsAsJudged (judged (length room.old) mount.old request.now Answered.None) result.status (seen_after reply.new room.new result.gone mount.new) (seen_after reply.old room.old false mount.old) }
+    ensures slot { mount.new.slot ≡ mount.old.slot }
+{
+    if !has_room(mount.form(), room.len(), request) {
+        return stays(refusal(Errno::Invalid));
+    }
+    match mount.try_serve(request) {
+        Ok(told) => {
+            put_reply(reply, &told);
+            put_content(room, &told);
+            Called {
+                status: status_of(&told),
+                gone: is_gone(request, &told),
+            }
+        }
+        Err(block) => {
+            reply.number = block.0;
+            stays(ASKS)
         }
     }
 }
