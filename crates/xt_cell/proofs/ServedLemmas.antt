@@ -1,5 +1,5 @@
 -- What follows of a step by its reply.
-use Rattle.std.proofs.Common.{Bool, [], length, None, Option, Some, ap, false, inl, inr, refl, subst, sym, true, ◌∙◌, ◌≡◌}
+use Rattle.std.proofs.Common.{Bool, [], length, None, Option, Some, ap, false, inl, inr, refl, subst, sym, true, ℕ, ◌∙◌, ◌≡◌}
 use Rattle.std.proofs.lemmas.Bool.{false≢true}
 use Rattle.xt_base.proofs.CarryLemmas.{step_data_only_view, step_held_only, step_view_keeps}
 use Rattle.xt_base.proofs.MemoryLemmas.{alone_no_want}
@@ -10,6 +10,7 @@ use Rattle.xt_base.specs.Jobs.{begin, end, end_of, end_offers, flush, flush_offe
 use Rattle.xt_base.specs.Carried.{is_view}
 use Rattle.xt_base.specs.Isolation.{is_no_memory}
 use Rattle.xt_base.specs.State.{Flight, Lone, State}
+use Rattle.xt_base.specs.declared.steps.Answer.{Answer}
 use Rattle.xt_base.specs.declared.steps.Errno.{Errno}
 use Rattle.xt_base.specs.declared.steps.LogAnswers.{LogAnswers}
 use Rattle.xt_base.specs.declared.steps.Reply.{Reply}
@@ -134,3 +135,14 @@ plain_step (Peek slot) s other = (refl, refl)
 -- the same of one that was served
 pub plain_if : (x : Step) (r : Reply) (new old : SlotState) → is_call x ≡ false → IsServed x r new old → IsPlain r
 plain_if x r new old other served = subst IsPlain (sym (served.reply 0 None)) (plain_step x (lone_with 0 None old) other)
+
+no_more : (b : Bool) → (b ≡ true → false ≡ true) → b ≡ false
+no_more true f = absurd (false≢true (f refl))
+no_more false f = refl
+
+-- a read that was served is answered with neither
+pub plain_read : (slot life t b : ℕ) (answer : Answer) (r : Reply) (new old : SlotState) → IsServed (Call slot life (Request.Read t b) answer) r new old → IsPlain r
+plain_read slot life t b answer r new old served = (
+  no_more (carries_content r) (λ carries. step_data_only_view slot life (Request.Read t b) answer (lone_with 0 None old) (ap carries_content (sym (served.reply 0 None)) ∙ carries)),
+  no_more (names_held r) (λ names. step_held_only slot life (Request.Read t b) answer (lone_with 0 None old) (ap names_held (sym (served.reply 0 None)) ∙ names)),
+)

@@ -20,6 +20,7 @@ use xt_base::sizes::FLUSH_BLOCKS;
 use xt_base::steps::{Answer, HomeAnswers};
 use xt_dev::home::HomeDevice;
 use xt_dev::offer_home::offer_home;
+use xt_items::plan::FlushPlan;
 use xt_mount::slot::MountSlot;
 
 /// The place of a block that is going to be read, as long as a mount's form says. The one error is want of memory.
@@ -85,13 +86,16 @@ fn writes_of<'a>(slot: &'a MountSlot, blocks: &[Block]) -> [(Block, &'a [u8]); F
     ]
 }
 
-/// Offers the home device what a flush writes now, each block once in the order of its plan, and then the sync. It takes no memory.
-pub fn flush(home: &mut dyn HomeDevice, slot: &MountSlot) -> HomeAnswers
-    ensures fits { fits_plan result (plan_in slot.now.mounted) ≡ true }
+/// Offers the home device what a flush of this plan, the one that stands now, writes: each block once in its order, and then the sync. It
+/// takes no memory.
+pub fn flush(home: &mut dyn HomeDevice, slot: &MountSlot, plan: &FlushPlan) -> HomeAnswers
+    requires planned { plan.now ≡ plan_in slot.now.mounted }
+    requires committed { All (λ b. is_in b (contents_in slot.now.mounted) ≡ true) plan.now }
+    requires unchanged { All (λ b. IsUnchangedIn b slot.now.mounted) plan.now }
+    ensures fits { fits_plan result plan.now ≡ true }
     ensures offered { Tells (home_tells home.old) (home_taken home.old) (flush_calls result slot.now.mounted) (home_tells home.new) (home_taken home.new) }
     ensures failures { home_failures home.new ≡ home_failures home.old + failed_answers result }
 {
-    let plan = slot.flush_plan();
     let blocks = plan.blocks();
     if blocks.is_empty() {
         return offer_home(home, &[]);

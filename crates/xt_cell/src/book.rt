@@ -180,6 +180,14 @@ impl<H: House, const S: u8> SlotBook<H, S> {
         self.entries.reserve(EVENT_ENTRIES)
     }
 
+    /// Whether there is room for an event with its posts already.
+    pub(crate) fn has_room(&self) -> bool
+        ensures { result ≡ true → EVENT_ENTRIES ≤ self.now.room }
+    {
+        let length = self.entries.len();
+        length <= MOST_ENTRIES - EVENT_ENTRIES && self.entries.capacity() - length >= EVENT_ENTRIES
+    }
+
     /// A job that is owed was posted: books that, for the caller of the event that found it owed.
     #[tactic(auto, using(crate::proofs::BookLemmas::posted_book))]
     pub(crate) fn posted(&mut self, caller: Caller, name: &JobName)

@@ -19,6 +19,7 @@ use crate::twin::{Twin, begin_twin, end_twin, flush_twin, plain_twin};
 use bytes::Bytes;
 use xt_base::names::{JobName, Worker};
 use xt_base::steps::{Errno, HomeAnswers, LogAnswers, Reply};
+use xt_items::plan::FlushPlan;
 use xt_mount::slot::MountSlot;
 
 impl<H: House, const S: u8> SlotBook<H, S> {
@@ -101,13 +102,14 @@ impl<H: House, const S: u8> SlotBook<H, S> {
         reply
     }
 
-    /// Ends an outstanding flush by what the home device answered, and books it with its receipt.
+    /// Ends an outstanding flush of the plan that stands now, by what the home device answered, and books it with its receipt.
     #[tactic(auto, using(crate::proofs::BookLemmas::few_events))]
     pub(crate) fn flush(
         &mut self,
         seat: &mut HostSeat<H>,
         worker: Worker,
         name: &JobName,
+        plan: &FlushPlan,
         answers: &HomeAnswers,
     ) -> Reply
     where
@@ -115,7 +117,8 @@ impl<H: House, const S: u8> SlotBook<H, S> {
         requires slot { name.now.slot ≡ S }
         requires kind { is_ckpt name.now.kind ≡ false }
         requires waiting { mount_is (is_waiting name.now) self.old.state.mounted ≡ true }
-        requires fits { fits_plan answers.now (plan_in self.old.state.mounted) ≡ true }
+        requires planned { plan.now ≡ plan_in self.old.state.mounted }
+        requires fits { fits_plan answers.now plan.now ≡ true }
         requires room { 1 ≤ self.old.room }
         requires seat { 1 ≤ seat.old.room }
         ensures booked { IsBooked S (AStep.Flush worker name.now answers.now) result self.old self.new seat.old seat.new }
@@ -124,7 +127,7 @@ impl<H: House, const S: u8> SlotBook<H, S> {
     {
         let number = self.next_number();
         let slot = self.mount.slot();
-        let (reply, told) = serve_flush(&mut self.mount, worker, name, answers);
+        let (reply, told) = serve_flush(&mut self.mount, worker, name, plan, answers);
         let step = flush_twin(worker, name, answers);
         write(
             &mut self.entries,
@@ -187,16 +190,18 @@ fn serve_flush(
     slot: &mut MountSlot,
     worker: Worker,
     name: &JobName,
+    plan: &FlushPlan,
     answers: &HomeAnswers,
 ) -> (Reply, Twin<Reply>)
     requires kind { is_ckpt name.now.kind ≡ false }
     requires waiting { mount_is (is_waiting name.now) slot.old.mounted ≡ true }
-    requires fits { fits_plan answers.now (plan_in slot.old.mounted) ≡ true }
+    requires planned { plan.now ≡ plan_in slot.old.mounted }
+    requires fits { fits_plan answers.now plan.now ≡ true }
     ensures served { IsServed (AStep.Flush worker name.now answers.now) result.0 slot.new slot.old }
     ensures twice { result.1.booked ≡ result.0 }
 {
     let _worker = worker;
-    let reply = slot.flush(*name, *answers);
+    let reply = slot.flush_planned(*name, plan, *answers);
     let told = plain_twin(&reply);
     (reply, told)
 }

@@ -35,6 +35,7 @@ use crate::house::House;
 use crate::mount_ref::MountRef;
 use crate::poster::Poster;
 use crate::posting::post_both;
+use crate::reading::serve_resident;
 use crate::rooms::Rooms;
 use crate::seat::HostSeat;
 use crate::shares::{Counts, Shares};
@@ -258,9 +259,51 @@ fn ready<H: House, const S: u8>(
     asked(alloc, book, home, life, request)
 }
 
-/// Serves a request and books it with its posts, or is refused memory.
+/// Serves a request and books it with its posts, or is refused memory. Most reads find their block resident: of those no device is asked,
+/// and nothing is looked up twice.
 #[inline(always)]
 fn serve_call<H: House, R: Wait, const S: u8>(
+    rt: &R,
+    alloc: Global,
+    book: &mut SlotBook<H, S>,
+    poster: &mut Poster<S>,
+    seat: &mut HostSeat<H>,
+    home: &mut Option<Box<dyn HomeDevice + Send>>,
+    life: Life,
+    request: Request,
+    rooms: &mut Rooms,
+) -> Reply
+where
+    Shares<H>: Counts<H, S>,
+    requires last { is_last_post (last_of unposted poster.old.posted) book.old.state ≡ true }
+    requires home { is_some home.old ≡ is_some book.old.state.mounted }
+    requires idle { is_flown_by_job book.old.state.mounted ≡ true }
+    requires kind { is_unmount request ≡ false }
+    ensures last { is_last_post (last_of unposted poster.new.posted) book.new.state ≡ true }
+    ensures home { is_some home.new ≡ is_some book.new.state.mounted }
+    ensures log { has_log book.new.state.mounted ≡ has_log book.old.state.mounted }
+    ensures idle { is_flown_by_job book.new.state.mounted ≡ true }
+    ensures board { seat.new.board ≡ seat.old.board }
+    ensures refused { is_no_memory result ≡ true → IsSameBook book.old book.new × IsSameSeat seat.old seat.new }
+    ensures tried { is_no_memory result ≡ true → (home.new ≡ home.old) ⊎ ((answer : AnAnswer) × MatchOption home.old (home.new ≡ None) (λ h. IfSome home.new (λ k. Tells (home_tells h) (home_taken h) (read_calls (read_block request) answer) (home_tells k) (home_taken k)))) }
+    ensures booked { is_no_memory result ≡ false → (step : AStep) × IsStepOf S life request book.old.state.mounted step × IsEvent S step result book.old book.new seat.old seat.new poster.old poster.new × MatchOption home.old (home.new ≡ None) (λ h. IfSome home.new (λ k. Tells (home_tells h) (home_taken h) (step_calls step) (home_tells k) (home_taken k))) }
+    ensures counted { is_no_memory result ≡ false → ⟦<Shares<H> as Counts<H, S>>⟧.counts seat.new.counts ≡ counted S (⟦<Shares<H> as Counts<H, S>>⟧.counts seat.old.counts) }
+    ensures failures { is_no_memory result ≡ false → (step : AStep) × (number : ℕ) × (seat.new.receipts ≡ seat.old.receipts ++ receipt S number step result ∷ []) × MatchOption home.old (home.new ≡ None) (λ h. IfSome home.new (λ k. home_failures k ≡ home_failures h + failed_calls step)) }
+{
+    if let Request::Read { trans, block } = request {
+        match serve_resident(rt, book, poster, seat, life, trans, block) {
+            Some(reply) => return reply,
+            None => {
+                let again = Request::Read { trans, block };
+                return serve_asking(rt, alloc, book, poster, seat, home, life, again, rooms);
+            }
+        }
+    }
+    serve_asking(rt, alloc, book, poster, seat, home, life, request, rooms)
+}
+
+/// The same, where the home device is asked if it must be.
+fn serve_asking<H: House, R: Wait, const S: u8>(
     rt: &R,
     alloc: Global,
     book: &mut SlotBook<H, S>,

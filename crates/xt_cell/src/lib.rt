@@ -15,6 +15,7 @@ pub mod mount_ref;
 pub mod mounting;
 pub mod poster;
 pub mod posting;
+mod reading;
 pub mod records;
 pub mod reserve;
 pub mod rooms;

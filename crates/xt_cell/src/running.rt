@@ -5,6 +5,7 @@ ghost use Rattle.std.specs.Prelude.{◌≡◌, ◌+◌, ◌++◌, ◌≤◌, ◌
 ghost use Rattle.xt_base.specs.Alone.{has_begun, reason_of};
 ghost use Rattle.xt_base.specs.Isolation.{is_no_memory};
 ghost use Rattle.xt_base.specs.Jobs.{fits_pieces, fits_plan, is_begun, is_ckpt, is_waiting};
+ghost use Rattle.xt_base.specs.Maps.{is_in};
 ghost use Rattle.xt_base.specs.Order.{mount_is};
 ghost use Rattle.xt_base.specs.declared.sizes.TheConstants.{PIECE_BYTES, TEXT_PIECES};
 ghost use Rattle.xt_base.specs.declared.steps.HomeAnswers.{HomeAnswers as AnAnswer};
@@ -19,7 +20,7 @@ ghost use Rattle.xt_cell.specs.HostSeats.{IsSameSeat, receipt};
 ghost use Rattle.xt_cell.specs.declared.running.EndFault.TheVariants.{Memory as NoRoom, Stranger as OfNoFlight};
 ghost use Rattle.xt_dev.specs.Devices.{IsCut, Tells};
 ghost use Rattle.xt_dev.specs.Flushes.{failed_answers};
-ghost use Rattle.xt_mount.specs.Slots.{pieces_in, plan_in, spent_in};
+ghost use Rattle.xt_mount.specs.Slots.{IsUnchangedIn, contents_in, pieces_in, plan_in, spent_in};
 ghost use Rattle.xt_queue.specs.Names.{last_of, unposted};
 ghost use Rattle.xt_queue.specs.Boards.{Rises};
 
@@ -39,6 +40,7 @@ use xt_base::names::{JobName, Worker};
 use xt_base::steps::{Errno, HomeAnswers, LogAnswers, Reply};
 use xt_dev::home::HomeDevice;
 use xt_dev::log::LogDevice;
+use xt_items::plan::FlushPlan;
 use xt_mount::mount::Stage;
 use xt_queue::board::Board;
 
@@ -194,8 +196,9 @@ impl<H: House, const S: u8> SlotCell<H, S> {
             return Reply::Refused(Errno::NoMemory);
         };
         let before = book.slot().shut();
-        let answers = offered(book, home);
-        let reply = serve_flush(rt, book, poster, seat, worker, name, &answers);
+        let plan = plan_of(book);
+        let answers = offered(book, home, &plan);
+        let reply = serve_flush(rt, book, poster, seat, worker, name, &plan, &answers);
         cut_spent(book, log);
         show_shut(book, seat, board, false, before);
         reply
@@ -337,19 +340,32 @@ where
     reply
 }
 
-/// What the home device of a mount answers to a flush; it is offered the flush's writes once.
+/// What a flush writes home now.
+fn plan_of<H: House, const S: u8>(book: &SlotBook<H, S>) -> FlushPlan
+    ensures planned { result ≡ plan_in book.now.state.mounted }
+    ensures committed { All (λ b. is_in b (contents_in book.now.state.mounted) ≡ true) result }
+    ensures unchanged { All (λ b. IsUnchangedIn b book.now.state.mounted) result }
+{
+    book.slot().flush_plan()
+}
+
+/// What the home device of a mount answers to a flush of this plan; it is offered the flush's writes once.
 fn offered<H: House, const S: u8>(
     book: &SlotBook<H, S>,
     home: &mut Option<Box<dyn HomeDevice + Send>>,
+    plan: &FlushPlan,
 ) -> HomeAnswers
     requires home { is_some home.old ≡ true }
-    ensures fits { fits_plan result (plan_in book.now.state.mounted) ≡ true }
+    requires planned { plan.now ≡ plan_in book.now.state.mounted }
+    requires committed { All (λ b. is_in b (contents_in book.now.state.mounted) ≡ true) plan.now }
+    requires unchanged { All (λ b. IsUnchangedIn b book.now.state.mounted) plan.now }
+    ensures fits { fits_plan result plan.now ≡ true }
     ensures home { is_some home.new ≡ true }
     ensures offered { IfSome home.old (λ h. IfSome home.new (λ k. Tells (home_tells h) (home_taken h) (flush_calls result book.now.state.mounted) (home_tells k) (home_taken k))) }
     ensures failures { IfSome home.old (λ h. IfSome home.new (λ k. home_failures k ≡ home_failures h + failed_answers result)) }
 {
     match home {
-        Some(home) => asking::flush(&mut **home, book.slot()),
+        Some(home) => asking::flush(&mut **home, book.slot(), plan),
         None => unreachable!(),
     }
 }
@@ -362,6 +378,7 @@ fn serve_flush<H: House, R: Wait, const S: u8>(
     seat: &mut HostSeat<H>,
     worker: Worker,
     name: &JobName,
+    plan: &FlushPlan,
     answers: &HomeAnswers,
 ) -> Reply
 where
@@ -371,7 +388,8 @@ where
     requires slot { name.now.slot ≡ S }
     requires kind { is_ckpt name.now.kind ≡ false }
     requires waiting { mount_is (is_waiting name.now) book.old.state.mounted ≡ true }
-    requires fits { fits_plan answers.now (plan_in book.old.state.mounted) ≡ true }
+    requires planned { plan.now ≡ plan_in book.old.state.mounted }
+    requires fits { fits_plan answers.now plan.now ≡ true }
     requires room { 3 ≤ book.old.room }
     requires seat { 1 ≤ seat.old.room }
     ensures last { is_last_post (last_of unposted poster.new.posted) book.new.state ≡ true }
@@ -383,7 +401,7 @@ where
     ensures booked { IsEvent S (AStep.Flush worker name.now answers.now) result book.old book.new seat.old seat.new poster.old poster.new }
     ensures counted { ⟦<Shares<H> as Counts<H, S>>⟧.counts seat.new.counts ≡ counted S (⟦<Shares<H> as Counts<H, S>>⟧.counts seat.old.counts) }
 {
-    let reply = book.flush(seat, worker, name, answers);
+    let reply = book.flush(seat, worker, name, plan, answers);
     post_both(rt, book, poster, seat.caller());
     reply
 }

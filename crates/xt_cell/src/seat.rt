@@ -1,6 +1,6 @@
 //! What a caller keeps of its calls.
 
-ghost use Rattle.std.specs.Prelude.{◌≡◌, ◌+◌, ◌++◌, ◌∷◌, ◌≤◌, ◌<◌, ◌^◌, [], None, OnOk, IfSome, replicate, slice_index, slice_set};
+ghost use Rattle.std.specs.Prelude.{◌≡◌, ◌+◌, ◌++◌, ◌∷◌, ◌≤◌, ◌<◌, ◌^◌, [], None, OnOk, IfSome, replicate, slice_index, slice_set, true};
 ghost use Rattle.xt_base.specs.declared.sizes.TheConstants.{SLOTS};
 ghost use Rattle.xt_cell.specs.Counting.{counted};
 ghost use Rattle.xt_queue.specs.Boards.{Rises};
@@ -128,6 +128,13 @@ impl<H: House> HostSeat<H> {
         ensures room { OnOk result (1 ≤ self.new.room) }
     {
         self.receipts.reserve(1)
+    }
+
+    /// Whether there is room for one receipt already.
+    pub(crate) fn has_room(&self) -> bool
+        ensures { result ≡ true → 1 ≤ self.now.room }
+    {
+        self.receipts.len() < self.receipts.capacity()
     }
 
     /// Shows a life of a slot, live or shut for a reason, on the board.

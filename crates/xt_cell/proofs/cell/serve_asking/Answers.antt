@@ -5,7 +5,7 @@ use Rattle.xt_cell.specs.Facts.{has_log, is_flown_by_job, is_last_post}
 use Rattle.xt_cell.specs.Posts.{PostsBoth}
 use Rattle.xt_mount.specs.Slots.{SlotState}
 use Rattle.xt_queue.specs.Names.{last_of, unposted}
-use Rattle.xt_cell.proofs.cell.serve_call.Goals as goal
+use Rattle.xt_cell.proofs.cell.serve_asking.Goals as goal
 
 pub post_both-requires : goal.post_both-requires
 post_both-requires g c =
