@@ -149,22 +149,6 @@ fn read(
     }
 }
 
-/// What the home device answers, if the request asks it.
-fn answer_to(
-    alloc: Global,
-    mount: &Mount,
-    home: &mut dyn HomeDevice,
-    request: &Request,
-) -> Result<Answer, Fail>
-    ensures answered { IfOk result (λ answer. is_there (asks request.now mount.now) answer ≡ true) }
-    ensures size { IfOk result (λ answer. has_size answer (Some mount.now) ≡ true) }
-{
-    match mount.needs(request) {
-        Some(block) => read(alloc, mount, home, block),
-        None => Ok(Answer::None),
-    }
-}
-
 /// A request to the life of the mount, answered by the home device where it asks it.
 fn call(
     alloc: Global,
@@ -176,8 +160,15 @@ fn call(
     if life != mount.life() {
         return Err(Fail::from("a call of another life"));
     }
-    let answer = answer_to(alloc, mount, home, &request)?;
-    Ok(mount.call(request, answer))
+    let needed = mount.needs(&request);
+    match mount.try_serve(&request) {
+        Ok(reply) if needed.is_none() => Ok(reply),
+        Err(block) if needed == Some(block) => {
+            let answer = read(alloc, mount, home, block)?;
+            Ok(mount.call(request, answer))
+        }
+        _ => Err(Fail::from("a block that the device is asked for, or not")),
+    }
 }
 
 /// Posts the job that is owed, which must have this name.

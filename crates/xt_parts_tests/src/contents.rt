@@ -24,6 +24,8 @@ enum Step {
     BringContent(u64, u8),
     /// It is brought in.
     Bring(u64),
+    /// It is brought in if it is idle.
+    BringIdle(u64),
     /// It becomes fresh.
     MakeFresh(u64),
     /// A leg writes its first byte in place.
@@ -74,6 +76,9 @@ fn enter(alloc: Global, frames: &mut Frames, step: Step) -> Result<(), AllocErro
         Step::Commit(block, first) => frames.commit(block, content_of(alloc, first)?),
         Step::BringContent(block, first) => frames.bring_content(block, content_of(alloc, first)?),
         Step::Bring(block) => frames.bring(block),
+        Step::BringIdle(block) => {
+            let _was_idle = frames.bring_idle(block);
+        }
         Step::MakeFresh(block) => frames.make_fresh(block),
         _ => {}
     }
@@ -176,6 +181,11 @@ const ROWS: &[(&str, &[Step])] = &[
             Step::Settle(7, true),
             Step::Idle(7),
             Step::Bring(7),
+            Step::Begins(7, 0x11),
+            Step::Settle(7, true),
+            Step::BringIdle(8),
+            Step::Gone(8),
+            Step::BringIdle(7),
             Step::Begins(7, 0x11),
         ],
     ),
