@@ -1,13 +1,12 @@
 -- Contents, chunk by chunk.
 use Rattle.std.proofs.Common.{◌≡◌, ◌≢◌, ◌∙◌, ◌+◌, ◌*◌, ◌-◌, ◌<◌, ◌≤◌, ◌++◌, ◌∷◌, ◌⊎◌, Bool, IfSome, List, None, Option, Some, [], ap, append-nil, append_assoc, arith, drop, false, if◌then◌else◌, inl, inr, length, length-append, min, not, refl, suc, sym, take, take-append-drop, true, zero, ℕ}
-use Rattle.std.proofs.Math.Seq.{drop-append-add, take-add, take-append_seam, take-length}
+use Rattle.std.proofs.Math.Seq.{drop-append-add, take-add, take-append_seam}
 use Rattle.std.proofs.lemmas.Bool.{cases_order, false≢true}
 use Rattle.std.proofs.lemmas.Bool.Decides.{nat_tests}
 use Rattle.std.proofs.lemmas.List.{drop-append-le, drop_all, length-drop, length-take, length-take-le, take-append-le, take_all}
 use Rattle.std.proofs.lemmas.List.Concat.{flat_map-append}
-use Rattle.std.specs.Prelude.{flat_map, nat_lt, ◌&&◌, ◌||◌}
+use Rattle.std.specs.Prelude.{flat_map, ◌&&◌, ◌||◌}
 use Rattle.xt_base.proofs.ChunkCounts.{has-chunks_where}
-use Rattle.xt_base.proofs.ChunkLemmas.{has-below}
 use Rattle.xt_base.specs.Calls.{overwritten}
 use Rattle.xt_base.specs.Chunks.{below, marks, touches, union}
 use Rattle.xt_base.specs.Maps.{has}
