@@ -64,8 +64,9 @@ fn make_busy<H: House, D: Desk<H, R>, R: Wait>(
     requires board { seat.old.board.board ≡ host.now.board }
     ensures board { seat.new.board.board ≡ seat.old.board.board }
 {
+    let content = change.content().map_err(|_| Errno::NoMemory)?;
     for turn in 0..count {
-        transact(rt, host, seat, at, change, u32::from(turn))?;
+        transact(rt, host, seat, at, change, &content, u32::from(turn))?;
     }
     Ok(())
 }
@@ -161,10 +162,11 @@ fn log_by_turns<H: House, D: Desk<H, R>, R: Wait>(
     ensures board { seat.new.board.board ≡ seat.old.board.board }
 {
     let change = Change::small(alloc);
+    let content = change.content().map_err(|_| Errno::NoMemory)?;
     let block = block_of(0, 0);
     host.get(rt, seat, trans, block)?;
     for turn in 0..count {
-        let bytes = change.content().map_err(|_| Errno::NoMemory)?;
+        let bytes = content.share().map_err(|_| Errno::NoMemory)?;
         host.log(rt, seat, trans, block, change.first(turn), bytes)?;
         if turn % TURNS == 0 {
             seat.forget();

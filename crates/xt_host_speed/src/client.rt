@@ -59,7 +59,8 @@ impl Change {
         }
     }
 
-    /// What a block is changed to. The one error is want of memory.
+    /// What blocks are changed to. A caller makes it once, as one who has it in a buffer of its own, and its changes share it. The one error
+    /// is want of memory.
     pub fn content(&self) -> Result<Data, AllocError> {
         let bytes = vec![in self.alloc; 0x5a_u8; self.bytes]?;
         Data::of_vec(self.alloc, bytes)?.ok_or(AllocError)
@@ -180,13 +181,14 @@ pub fn commit<H: House, D: Desk<H, R>, R: Wait>(
     }
 }
 
-/// Locks the blocks of a turn in a transaction, and changes them.
+/// Locks the blocks of a turn in a transaction, and changes them to this.
 fn fill<H: House, D: Desk<H, R>, R: Wait>(
     rt: &R,
     host: &Host<H, D>,
     seat: &mut HostSeat<H>,
     trans: &mut Trans,
     change: &Change,
+    content: &Data,
     turn: u32,
 ) -> Result<(), Errno>
     requires board { seat.old.board.board ≡ host.now.board }
@@ -195,7 +197,7 @@ fn fill<H: House, D: Desk<H, R>, R: Wait>(
     for step in 0..change.blocks {
         let block = block_of(turn, step);
         host.read(rt, seat, trans, block)?;
-        let bytes = change.content().map_err(|_| Errno::NoMemory)?;
+        let bytes = content.share().map_err(|_| Errno::NoMemory)?;
         host.log(rt, seat, trans, block, change.first(turn), bytes)?;
     }
     Ok(())
@@ -208,13 +210,14 @@ pub fn transact<H: House, D: Desk<H, R>, R: Wait>(
     seat: &mut HostSeat<H>,
     at: &MountRef,
     change: &Change,
+    content: &Data,
     turn: u32,
 ) -> Result<(), Errno>
     requires board { seat.old.board.board ≡ host.now.board }
     ensures board { seat.new.board.board ≡ seat.old.board.board }
 {
     let mut trans = host.begin_trans(rt, seat, *at, change.unit, 1, false)?;
-    if let Err(errno) = fill(rt, host, seat, &mut trans, change, turn) {
+    if let Err(errno) = fill(rt, host, seat, &mut trans, change, content, turn) {
         give_up(rt, host, seat, trans);
         return Err(errno);
     }
@@ -254,11 +257,12 @@ pub fn transact_all<H: House, D: Workplace<H, R>, R: Wait>(
     ensures queue { client.new.pass.queue ≡ client.old.pass.queue }
     ensures board { client.new.seat.board.board ≡ client.old.seat.board.board }
 {
+    let content = change.content().map_err(|_| Errno::NoMemory)?;
     for turn in 0..count {
-        let told = transact(rt, host, &mut client.seat, at, change, turn);
+        let told = transact(rt, host, &mut client.seat, at, change, &content, turn);
         if told == Err(Errno::Again) {
             write_out(rt, host, client, at)?;
-            transact(rt, host, &mut client.seat, at, change, turn)?;
+            transact(rt, host, &mut client.seat, at, change, &content, turn)?;
         } else {
             told?;
         }
