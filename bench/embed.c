@@ -47,14 +47,12 @@ static void checkpoint(void)
 /* Writes home what is on the log: how many blocks. */
 static unsigned flush(void)
 {
-    static uint8_t contents[REFSKOLD_PLAN][REFSKOLD_BLOCK];
     refskold_plan plan;
     uint64_t serial;
     unsigned blocks = 0;
     want(refskold_push(&mount) == 0, "push");
     while (refskold_take(&mount, REFSKOLD_FLUSH, &serial) == REFSKOLD_TAKEN) {
-        want(refskold_homes(&mount, &plan, contents, sizeof contents) >= 0, "homes");
-        for (uint32_t k = 0; k < plan.count; k++) memcpy(home + plan.blocks[k] * REFSKOLD_BLOCK, contents[k], REFSKOLD_BLOCK);
+        want(refskold_homes_mapped(&mount, &plan, home, BLOCKS * REFSKOLD_BLOCK) >= 0, "homes");
         want(refskold_flush(&mount, serial, plan.count, (1u << plan.count) - 1, 1, NULL) == 0, "flush");
         blocks += plan.count;
     }

@@ -249,6 +249,7 @@ int32_t refskold_abi_end(refskold *mount, uint64_t serial, uint32_t taken, uint3
 int32_t refskold_abi_plan(refskold *mount, refskold_plan *plan);
 int32_t refskold_abi_home(refskold *mount, uint32_t index, uint8_t *room, size_t room_len);
 int32_t refskold_abi_homes(refskold *mount, refskold_plan *plan, uint8_t *room, size_t room_len);
+int32_t refskold_abi_homes_mapped(refskold *mount, refskold_plan *plan, uint8_t *device, size_t device_len);
 int32_t refskold_abi_flush(refskold *mount, uint64_t serial, uint32_t count, uint32_t written, uint32_t synced,
                            refskold_reply *reply);
 
@@ -647,6 +648,18 @@ static inline int refskold_homes(refskold *mount, refskold_plan *plan, void *roo
 {
     if (mount == NULL || plan == NULL || room == NULL) return -EINVAL;
     return refskold_abi_homes(mount, plan, (uint8_t *)room, length);
+}
+
+/* The same where your home device lies in memory, as a file that is mapped: writes which blocks a flush writes home now, and
+ * copies what is to be written of each straight to its own place in the device, which has `length` bytes and begins with
+ * block 0; a block has the mount's size. Returns how many, 0 to REFSKOLD_PLAN. The bytes of all other blocks are as they
+ * were. To sync the device, as by msync, is still yours, before refskold_flush.
+ *
+ * -EINVAL: the device ends before a block of the plan does, and neither it nor the plan is written. */
+static inline int refskold_homes_mapped(refskold *mount, refskold_plan *plan, void *device, size_t length)
+{
+    if (mount == NULL || plan == NULL || device == NULL) return -EINVAL;
+    return refskold_abi_homes_mapped(mount, plan, (uint8_t *)device, length);
 }
 
 /* Ends a flush that was taken, by what your home device answered to the writes of the plan: `count` as in the plan, bit k

@@ -112,6 +112,7 @@ unsigned bad_calls(refskold *mount)
     failed += judge("the last life", refskold_open(mount, UINT32_MAX, REFSKOLD_LEAST_LOG, 1), -ENOSPC, &rooms);
     failed += judge("a plan of no mount", refskold_flush_plan(mount, &rooms.plan), -ENODEV, &rooms);
     failed += judge("homes of no mount", refskold_homes(mount, &rooms.plan, rooms.room, sizeof rooms.room), -ENODEV, &rooms);
+    failed += judge("mapped homes of no mount", refskold_homes_mapped(mount, &rooms.plan, rooms.room, sizeof rooms.room), -ENODEV, &rooms);
     return failed + judge("a force of no mount", refskold_force(mount, &rooms.number), -ENODEV, &rooms);
 }
 
@@ -152,7 +153,8 @@ static unsigned null_requests(struct rooms *rooms)
         refskold_open(NULL, 0, REFSKOLD_LEAST_LOG, 1), refskold_open_sized(NULL, 0, REFSKOLD_LEAST_LOG, 1, 512), refskold_take(NULL, REFSKOLD_CHECKPOINT, &rooms->number),
         refskold_begin(NULL, 1, &rooms->reply), refskold_piece(NULL, 0, rooms->room, REFSKOLD_BLOCK), refskold_end(NULL, 1, 0, 0, &rooms->reply),
         refskold_flush_plan(NULL, &rooms->plan), refskold_home(NULL, 0, rooms->room),
-        refskold_homes(NULL, &rooms->plan, rooms->room, REFSKOLD_BLOCK), refskold_flush(NULL, 1, 0, 0, 0, NULL), refskold_close(NULL),
+        refskold_homes(NULL, &rooms->plan, rooms->room, REFSKOLD_BLOCK), refskold_homes_mapped(NULL, &rooms->plan, rooms->room, REFSKOLD_BLOCK),
+        refskold_flush(NULL, 1, 0, 0, 0, NULL), refskold_close(NULL),
     };
     unsigned failed = 0;
     for (size_t k = 0; k < sizeof statuses / sizeof *statuses; k++) failed += judge("no handle", statuses[k], -EINVAL, rooms);
@@ -168,6 +170,7 @@ unsigned null_pointers(refskold *mount)
         refskold_take(mount, REFSKOLD_CHECKPOINT, NULL), refskold_begin(mount, 1, NULL), refskold_piece(mount, 0, NULL, REFSKOLD_BLOCK), refskold_read_content(mount, 1, 7, NULL),
         refskold_flush_plan(mount, NULL), refskold_home(mount, 0, NULL),
         refskold_homes(mount, NULL, rooms.room, REFSKOLD_BLOCK), refskold_homes(mount, &rooms.plan, NULL, REFSKOLD_BLOCK),
+        refskold_homes_mapped(mount, NULL, rooms.room, REFSKOLD_BLOCK), refskold_homes_mapped(mount, &rooms.plan, NULL, REFSKOLD_BLOCK),
     };
     unsigned failed = null_requests(&rooms);
     for (size_t k = 0; k < sizeof statuses / sizeof *statuses; k++) failed += judge("a pointer that is NULL", statuses[k], -EINVAL, &rooms);

@@ -33,6 +33,15 @@ static void wants(const char *what, long got, long wanted) {
 
 static uint8_t block[4097], room[4097];
 
+/* a home device that lies in memory */
+static uint8_t device[64 * 4096];
+
+/* whether so many bytes of it are as they were */
+static int untouched(size_t first, size_t count) {
+    while (count > 0 && device[first] == 0x5a) first++, count--;
+    return count == 0;
+}
+
 /* the text of the checkpoint of the last run */
 static uint8_t text[4 * 4096];
 static size_t text_length;
@@ -85,6 +94,11 @@ static long run(long number) {
     AGAIN(status, refskold_take(&m, REFSKOLD_FLUSH, &serial)); wants("take a flush", status, REFSKOLD_TAKEN);
     wants("plan", refskold_flush_plan(&m, &plan), 2);
     wants("home", refskold_home(&m, 0, room), 0), wants("home's bytes", memcmp(room + 100, "hello", 5), 0);
+    memset(device, 0x5a, sizeof device);
+    wants("mapped homes of two", refskold_homes_mapped(&m, &plan, device, sizeof device), 2);
+    wants("the first's place", memcmp(device + plan.blocks[0] * 4096, room, 4096), 0);
+    wants("home of the second", refskold_home(&m, 1, room), 0), wants("its place", memcmp(device + plan.blocks[1] * 4096, room, 4096), 0);
+    wants("before them", untouched(0, 7 * 4096), 1), wants("behind them", untouched(9 * 4096, sizeof device - 9 * 4096), 1);
     AGAIN(status, refskold_flush(&m, serial, 2, 3, 1, &reply)); wants("flush", (long)reply.number, 2);
     AGAIN(status, refskold_unmount(&m)); wants("unmount", status, 0);
     wants("gone", refskold_push(&m), -ENODEV);
@@ -146,6 +160,7 @@ static void bad_callers(void) {
     wants("no mount: plan", refskold_flush_plan(&m, &plan), -ENODEV);
     wants("no mount: home", refskold_home(&m, 0, room), -ENODEV);
     wants("no mount: homes", refskold_homes(&m, &plan, room, sizeof room), -ENODEV);
+    wants("no mount: mapped homes", refskold_homes_mapped(&m, &plan, device, sizeof device), -ENODEV);
     wants("no mount: flush", refskold_flush(&m, 1, 0, 0, 1, &reply), -ENODEV);
     wants("no mount: close", refskold_close(&m), 0);
     wants("NULL handle", refskold_open(NULL, 0, 65536, 1), -EINVAL);
@@ -199,6 +214,15 @@ static void bad_callers(void) {
     wants("plan untouched", plan.count, 0x5a5a5a5a), wants("room untouched", room[0], 0x5a);
     wants("homes", refskold_homes(&m, &plan, room, REFSKOLD_BLOCK), 1);
     wants("the plan's count", plan.count, 1), wants("the plan's block", (long)plan.blocks[0], 7), wants("its content", room[0], 'x');
+    memset(&plan, 0x5a, sizeof plan), memset(device, 0x5a, sizeof device);
+    wants("an empty device", refskold_homes_mapped(&m, &plan, device, 0), -EINVAL);
+    wants("a device of 7 blocks", refskold_homes_mapped(&m, &plan, device, 7 * REFSKOLD_BLOCK), -EINVAL);
+    wants("a device that ends in block 7", refskold_homes_mapped(&m, &plan, device, 8 * REFSKOLD_BLOCK - 1), -EINVAL);
+    wants("plan untouched", plan.count, 0x5a5a5a5a), wants("device untouched", untouched(0, sizeof device), 1);
+    wants("mapped homes", refskold_homes_mapped(&m, &plan, device, 8 * REFSKOLD_BLOCK), 1);
+    wants("the plan's count", plan.count, 1), wants("the plan's block", (long)plan.blocks[0], 7);
+    wants("its place", memcmp(device + 7 * REFSKOLD_BLOCK, room, REFSKOLD_BLOCK), 0);
+    wants("before it", untouched(0, 7 * REFSKOLD_BLOCK), 1), wants("behind it", untouched(8 * REFSKOLD_BLOCK, 56 * REFSKOLD_BLOCK), 1);
     wants("flush", refskold_flush(&m, serial, 1, 1, 1, &reply), 0);
     wants("version", (long)refskold_version(), REFSKOLD_VERSION);
     refskold_close(&m), wants("closed", (long)m.holds, 0);
@@ -227,6 +251,12 @@ static void small_blocks(void) {
     wants("a room too long for a home", refskold_home(&m, 0, room), -EINVAL), wants("a home there", refskold_home_sized(&m, 0, room, SMALL), 0);
     memset(room, 0x5a, sizeof room);
     wants("homes there", refskold_homes(&m, &plan, room, SMALL), 1), wants("its content", room[SMALL - 1], 'x'), wants("behind it", room[SMALL], 0x5a);
+    memset(device, 0x5a, sizeof device);
+    wants("a device of 7 small ones", refskold_homes_mapped(&m, &plan, device, 8 * SMALL - 1), -EINVAL);
+    wants("device untouched", untouched(0, sizeof device), 1);
+    wants("mapped homes there", refskold_homes_mapped(&m, &plan, device, sizeof device), 1);
+    wants("its place", memcmp(device + 7 * SMALL, room, SMALL), 0);
+    wants("before it", untouched(0, 7 * SMALL), 1), wants("behind it", untouched(8 * SMALL, sizeof device - 8 * SMALL), 1);
     wants("flush there", refskold_flush(&m, serial, 1, 1, 1, &reply), 0), wants("unmount there", refskold_unmount(&m), 0);
 }
 

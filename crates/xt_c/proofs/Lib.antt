@@ -1,4 +1,5 @@
 pub mod ElementLemmas
 pub mod HomeLemmas
 mod LooseSteps
+pub mod MappedLemmas
 pub mod WorkedLemmas

@@ -1,5 +1,6 @@
 -- What becomes of a mount whose jobs a caller does.
-use Rattle.std.specs.Prelude.{Bool, List, MatchBool, None, Option, Some, [], bit_and, drop, false, flat_map, if◌then◌else◌, length, nat_le, nat_lt, not, pos, slice_get, true, unwrap_or, ℕ, ℤ, ◌*◌, ◌++◌, ◌==◌, ◌∷◌, ◌≡◌, ◌⊎◌}
+use Rattle.std.specs.List.{list_all}
+use Rattle.std.specs.Prelude.{Bool, List, MatchBool, None, Option, Some, [], bit_and, drop, false, flat_map, fold, if◌then◌else◌, length, nat_le, nat_lt, not, pos, slice_get, take, true, unwrap_or, ℕ, ℤ, ◌*◌, ◌++◌, ◌+◌, ◌/◌, ◌==◌, ◌∷◌, ◌≡◌, ◌⊎◌}
 use Rattle.xt_base.specs.Calls.{Outcome, gives}
 use Rattle.xt_base.specs.Jobs.{begin, end, flight_pieces, flush, flush_plan, is_begun, is_waiting, posted}
 use Rattle.xt_base.specs.Maps.{at}
@@ -137,6 +138,34 @@ AreHomes plan m status new_plan old_plan new old =
 abbrev pub AreHomesOf : Option State → ℤ → PlanWords → PlanWords → List ℕ → List ℕ → Type 0
 AreHomesOf None status new_plan old_plan new old = (status ≡ refusal NoDevice) × (new_plan ≡ old_plan) × (new ≡ old)
 AreHomesOf (Some m) status new_plan old_plan new old = AreHomes (flush_plan m) m status new_plan old_plan new old
+
+-- whether blocks all have numbers below a count
+abbrev pub lie_below : ℕ → List ℕ → Bool
+lie_below count blocks = list_all (λ b. nat_lt b count) blocks
+
+-- a device with these bytes from `first` on
+abbrev pub laid : ℕ → List ℕ → List ℕ → List ℕ
+laid first bytes device = take first device ++ bytes ++ drop (first + length bytes) device
+
+-- a device with the committed content of a block at the block's own place
+abbrev pub with_home : State → List ℕ → ℕ → List ℕ
+with_home m device block = laid (block * m.form.size) (content_in m block) device
+
+-- a device with those of some blocks, each at its own place
+abbrev pub with_homes : State → List ℕ → List ℕ → List ℕ
+with_homes m blocks device = fold (with_home m) device blocks
+
+-- a plan, and its contents in a device that lies in memory; where the device has not all of its blocks nothing is written
+abbrev pub AreMappedHomes : List ℕ → State → ℤ → PlanWords → PlanWords → List ℕ → List ℕ → Type 0
+AreMappedHomes plan m status new_plan old_plan new old =
+    MatchBool (lie_below (length old / m.form.size) plan)
+    ((status ≡ pos (length plan)) × ShowsPlan plan new_plan × (new ≡ with_homes m plan old))
+    ((status ≡ refusal Invalid) × (new_plan ≡ old_plan) × (new ≡ old))
+
+-- the blocks that a flush writes home now, with their contents at their own places
+abbrev pub AreMappedHomesOf : Option State → ℤ → PlanWords → PlanWords → List ℕ → List ℕ → Type 0
+AreMappedHomesOf None status new_plan old_plan new old = (status ≡ refusal NoDevice) × (new_plan ≡ old_plan) × (new ≡ old)
+AreMappedHomesOf (Some m) status new_plan old_plan new old = AreMappedHomes (flush_plan m) m status new_plan old_plan new old
 
 -- whether the bit of a number is set
 abbrev pub has_bit : ℕ → ℕ → Bool

@@ -31,7 +31,7 @@ fn plan_of(mount: &Mount) -> FlushPlan
 }
 
 /// Writes the blocks of a plan.
-fn put_plan(plan: &FlushPlan, to: &mut PlanWords)
+pub fn put_plan(plan: &FlushPlan, to: &mut PlanWords)
     ensures { ShowsPlan plan.now to.new }
 {
     to.count = u32::from(plan.count());
@@ -117,7 +117,7 @@ pub extern "C" fn refskold_abi_home(
 }
 
 /// The committed content of a block.
-fn content_of(mount: &Mount, block: Block) -> &[u8]
+pub fn content_of(mount: &Mount, block: Block) -> &[u8]
     requires unchanged { IsUnchanged block mount.now.transactions }
     requires committed { is_in block mount.now.frames.committed ≡ true }
     ensures value { result.now ≡ content_in mount.now block }
@@ -130,7 +130,7 @@ fn content_of(mount: &Mount, block: Block) -> &[u8]
 }
 
 /// Copies a content into a room from `first` on.
-fn put_content_at(content: &[u8], first: usize, room: &mut [u8])
+pub fn put_content_at(content: &[u8], first: usize, room: &mut [u8])
     requires room { first + length content.now ≤ length room.old }
     ensures put { room.new ≡ take first room.old ++ content.now ++ drop (first + length content.now) room.old }
     ensures same { length room.new ≡ length room.old }

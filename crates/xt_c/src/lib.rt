@@ -12,6 +12,7 @@ mod held_mount;
 mod holding;
 mod jobs;
 mod loose;
+mod mapped;
 mod mounts;
 mod replies;
 mod requests;
