@@ -34,8 +34,8 @@ pub struct DoneJob {
 }
 
 impl CkptJob {
-    /// Offers the pieces to the log device in order, up to the first failure, and one sync only if none failed. It takes no memory
-    /// and no lock.
+    /// Offers the pieces to the log device in order, up to the first failure, and one sync only if none failed. It cuts nothing of the log,
+    /// and takes no memory and no lock.
     pub fn run(self) -> DoneJob
         requires kind { is_ckpt self.name.kind ≡ true }
         ensures worker { result.worker ≡ self.worker }
@@ -43,6 +43,7 @@ impl CkptJob {
         ensures pieces { result.pieces ≡ self.pieces }
         ensures offered { Tells (log_tells self.log) (log_taken self.log) (log_offers_of result.answers self.pieces.items) (log_tells result.log) (log_taken result.log) }
         ensures failures { log_failures result.log ≡ failures_after (is_ok result.answers.sync) (log_failures self.log) }
+        ensures cuts { log_cuts result.log ≡ log_cuts self.log }
     {
         let CkptJob {
             worker,

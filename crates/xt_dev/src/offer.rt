@@ -21,6 +21,8 @@ pub fn offer(log: &mut dyn LogDevice, pieces: &[Bytes]) -> LogAnswers
     ensures offers { Tells (log_tells log.old) (log_taken log.old) (log_offers_of result pieces.now) (log_tells log.new) (log_taken log.new) }
     // One call failed, or none where the sync was answered Ok.
     ensures failures { log_failures log.new ≡ failures_after (is_ok result.sync) (log_failures log.old) }
+    // It was not cut.
+    ensures cuts { log_cuts log.new ≡ log_cuts log.old }
 {
     let taken = append_all(log, pieces);
     let sync = if (taken as usize) < pieces.len() {
@@ -38,6 +40,7 @@ fn append_all(log: &mut dyn LogDevice, pieces: &[Bytes]) -> u32
     ensures range { result ≤ length pieces.now }
     ensures offers { Tells (log_tells log.old) (log_taken log.old) (offered true (take result pieces.now) ++ offered false (take 1 (drop result pieces.now))) (log_tells log.new) (log_taken log.new) }
     ensures failures { log_failures log.new ≡ failures_after (result == length pieces.now) (log_failures log.old) }
+    ensures cuts { log_cuts log.new ≡ log_cuts log.old }
 {
     for (i, piece) in pieces.iter().enumerate() {
         if log.append(piece.as_slice()).is_err() {

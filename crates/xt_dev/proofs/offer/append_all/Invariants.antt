@@ -1,4 +1,4 @@
--- The pieces so far were offered, and each was answered Ok.
+-- The pieces so far were offered, and each was answered Ok; the log was not cut.
 use Rattle.std.proofs.Common.{◌≡◌, take, true}
 use Rattle.xt_base.specs.Text.{offered}
 use Rattle.xt_dev.specs.Devices.{Tells}
@@ -11,4 +11,5 @@ invariant-loop-i g l =
     record {
       offers : Tells (before.log_tells l.initial.log.now.1) (before.log_taken l.initial.log.now.1) (offered true (take l.i l.pieces)) (after.log_tells l.log.now.1) (after.log_taken l.log.now.1);
       failures : after.log_failures l.log.now.1 ≡ before.log_failures l.initial.log.now.1;
+      cuts : after.log_cuts l.log.now.1 ≡ before.log_cuts l.initial.log.now.1;
     }
