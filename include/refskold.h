@@ -846,10 +846,11 @@ static inline int refskold_host_close(refskold_host *host)
 }
 
 /* Takes the step that a line spells, which stands without its newline. 0, and its reply can be asked for: an errno that a
- * volume answers is a reply. The replies of a slot, and what it holds, are those of the slot alone on its own steps.
+ * volume answers is a reply. The replies of a slot, and what it holds, are those of the slot alone on its own steps; a step
+ * whose reply is ENOMEM did not happen.
  *
  * -EINVAL: the line spells no step. -EPROTO: the step may not come now, as the answer to a read that nobody asked for.
- * -ENOMEM: only of a line with data, of the end of a checkpoint, and of a flush. -ENODEV. */
+ * -ENOMEM: only of a line of a log or a read, of the end of a checkpoint, and of a flush. -ENODEV. */
 static inline int refskold_host_step(refskold_host *host, const char *line, size_t length)
 {
     static const uint8_t none[1] = { 0 };
