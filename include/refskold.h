@@ -608,7 +608,8 @@ static inline int refskold_piece(refskold *mount, uint32_t index, void *room, si
  * that its sync was good. 0: it has landed. The reply may be NULL.
  *
  * -EINVAL: no checkpoint of this serial is begun, or it has fewer pieces. -EIO: it has failed (the reply's word is
- * REFSKOLD_FAILED): the mount is shut for REFSKOLD_LOG_IO_ERROR, and what it had begun to write counts for nothing. */
+ * REFSKOLD_FAILED): the mount is shut, for REFSKOLD_LOG_IO_ERROR where it was live, and what it had begun to write counts
+ * for nothing. */
 static inline int refskold_end(refskold *mount, uint64_t serial, uint32_t taken, int synced, refskold_reply *reply)
 {
     refskold_reply told;
