@@ -6,6 +6,7 @@ ghost use Rattle.xt_base.specs.Form.{is_size};
 ghost use Rattle.xt_base.specs.Kept.{kept_bytes, IsStretch};
 ghost use Rattle.xt_base.specs.declared.sizes.TheConstants.{BLOCK_BYTES, CHUNK_BYTES};
 
+use crate::data_ref::DataRef;
 use crate::form::{Form, is_block_size};
 use crate::names::Block;
 use crate::sizes::{BUSY_BLOCKS, DATA_BYTES};
@@ -107,7 +108,7 @@ impl Content {
     }
 
     /// Writes data from `first` on.
-    pub fn write_data(&mut self, first: usize, bytes: &Data)
+    pub fn write_data(&mut self, first: usize, bytes: &DataRef<'_>)
         requires { first + length bytes.now ≤ length self.old }
         ensures { self.new ≡ take first self.old ++ bytes.now ++ drop (first + length bytes.now) self.old }
     {
@@ -194,26 +195,6 @@ impl Data {
         Ok(Some(Data { kept }))
     }
 
-    /// These bytes in place of its own, copied as they stand and into its room, where it is their one owner; None where they are more
-    /// than 4,096. The one error is want of memory, where the room is too small or another owner keeps it.
-    pub fn refilled(self, bytes: &[u8]) -> Result<Option<Self>, AllocError>
-        ensures valid { IfOk result (λ found. IsSome found ↔ (length bytes.now ≤ DATA_BYTES)) }
-        ensures value { IfOk result (λ found. IfSome found (λ carried. carried ≡ bytes.now)) }
-    {
-        if bytes.len() > DATA_BYTES {
-            return Ok(None);
-        }
-        let Data { mut kept } = self;
-        let Some(own) = Arc::get_mut(&mut kept) else {
-            return beside(&kept, bytes);
-        };
-        own.bytes.clear();
-        own.bytes.extend_from_slice(bytes)?;
-        own.first = 0;
-        own.count = 0;
-        Ok(Some(Data { kept }))
-    }
-
     /// One byte so many times; None where that is more than 4,096. The one error is want of memory.
     pub fn of_repeated(alloc: Global, byte: u8, count: usize) -> Result<Option<Self>, AllocError>
         ensures valid { IfOk result (λ found. IsSome found ↔ (count ≤ DATA_BYTES)) }
@@ -273,18 +254,21 @@ impl Data {
         &self.kept
     }
 
+    /// The same bytes, borrowed.
+    pub fn lent(&self) -> DataRef<'_>
+        ensures { result ≡ self.now }
+    {
+        let kept = self.kept();
+        let (head, tail) = kept.bytes.split_at(kept.first as usize);
+        DataRef::around(head, kept.count, kept.byte, tail)
+    }
+
     /// Writes its bytes over as many others.
     pub fn copy_to(&self, room: &mut [u8])
         requires { length room.old ≡ length self.now }
         ensures { room.new ≡ self.now }
     {
-        let kept = self.kept();
-        let (head, tail) = kept.bytes.split_at(kept.first as usize);
-        let (front, rest) = room.split_at_mut(head.len());
-        let (middle, back) = rest.split_at_mut(kept.count as usize);
-        front.copy_from_slice(head);
-        middle.fill(kept.byte);
-        back.copy_from_slice(tail);
+        self.lent().copy_to(room);
     }
 
     /// Whether these are its bytes.
@@ -306,19 +290,6 @@ impl Data {
         other.copy_to(bytes);
         self.holds(bytes)
     }
-}
-
-/// These bytes, copied as they stand, beside others that stay as they are; None where they are more than 4,096. The one error is
-/// want of memory.
-#[inline(never)]
-fn beside(other: &Kept, bytes: &[u8]) -> Result<Option<Data>, AllocError>
-    ensures valid { IfOk result (λ found. IsSome found ↔ (length bytes.now ≤ DATA_BYTES)) }
-    ensures value { IfOk result (λ found. IfSome found (λ carried. carried ≡ bytes.now)) }
-{
-    let alloc = *other.bytes.allocator();
-    let mut copy = Vec::with_capacity(alloc, bytes.len())?;
-    copy.extend_from_slice(bytes)?;
-    Data::of_vec(alloc, copy)
 }
 
 /// The bytes after a block, if it stands at the front.

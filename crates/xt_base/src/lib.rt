@@ -4,6 +4,7 @@
 
 pub mod chunks;
 pub mod content;
+pub mod data_ref;
 pub mod equality;
 pub mod form;
 pub mod kinds;
@@ -18,6 +19,7 @@ pub mod steps;
 
 pub use chunks::Chunks;
 pub use content::{Content, Data, HeldBlocks, HeldRoom, Kept};
+pub use data_ref::DataRef;
 pub use form::Form;
 pub use map::NumberMap;
 pub use marks::ItemMarks;

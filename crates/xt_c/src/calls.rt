@@ -11,7 +11,6 @@ ghost use Rattle.xt_c.specs.Requests.{answer_of, request_of};
 ghost use Rattle.xt_c.specs.Verdicts.{verdict_of};
 
 use crate::handle::Handle;
-use crate::held_mount::HeldMount;
 use crate::replies::{put_content, put_reply};
 use crate::requests::{answer_of, request_of};
 use crate::status::{refusal, status_of};
@@ -179,7 +178,7 @@ fn serve_unanswered(
 /// Reads the words of a request and of an answer, and serves it.
 fn call(
     alloc: Global,
-    holding: &mut HeldMount,
+    mount: &mut Mount,
     request: &RequestWords,
     bytes: &[u8],
     answered: u32,
@@ -187,10 +186,10 @@ fn call(
     reply: &mut ReplyWords,
     room: &mut [u8],
 ) -> Called
-    ensures called { IsCalled (carries request.now answered) (spelled (length room.old) holding.old (request_of request.now bytes.now) (answer_of answered content.now)) result.status (seen_after reply.new room.new result.gone holding.new) (seen_after reply.old room.old false holding.old) }
-    ensures slot { holding.new.slot ≡ holding.old.slot }
+    ensures called { IsCalled (carries request.now answered) (spelled (length room.old) mount.old (request_of request.now bytes.now) (answer_of answered content.now)) result.status (seen_after reply.new room.new result.gone mount.new) (seen_after reply.old room.old false mount.old) }
+    ensures slot { mount.new.slot ≡ mount.old.slot }
 {
-    let request = match request_of(alloc, *request, bytes, &mut holding.data) {
+    let request = match request_of(alloc, *request, bytes) {
         Ok(request) => request,
         Err(errno) => return stays(refusal(errno)),
     };
@@ -198,11 +197,7 @@ fn call(
         Ok(answer) => answer,
         Err(errno) => return stays(refusal(errno)),
     };
-    let called = serve(&mut holding.mount, &request, &answer, reply, room);
-    if let Request::Log { bytes, .. } = request {
-        holding.data = Some(bytes);
-    }
-    called
+    serve(mount, &request, &answer, reply, room)
 }
 
 /// Serves a request. 0: the reply is written. 1: the home device must be asked for the block that is the reply's number, and the call
@@ -221,21 +216,14 @@ pub extern "C" fn refskold_abi_call(
 ) -> i32
     ensures { IsCalled (carries request.now answered) (verdict (length room.old) (held handle.old) (request_of request.now bytes.now) (answer_of answered content.now)) result (seen reply.new room.new (held handle.new)) (seen reply.old room.old (held handle.old)) }
 {
-    let Some(mut holding) = handle.take(alloc) else {
+    let Some(mut mount) = handle.take(alloc) else {
         return refusal(Errno::NoDevice);
     };
     let called = call(
-        alloc,
-        &mut holding,
-        request,
-        bytes,
-        answered,
-        content,
-        reply,
-        room,
+        alloc, &mut mount, request, bytes, answered, content, reply, room,
     );
     if !called.gone {
-        handle.put(holding);
+        handle.put(mount);
     }
     called.status
 }

@@ -42,11 +42,11 @@ pub extern "C" fn refskold_abi_begin(
 ) -> i32
     ensures { IsWorked has_begun (begin_of serial) (held handle.old) result (worked reply.new (held handle.new)) (worked reply.old (held handle.old)) }
 {
-    let Some(mut holding) = handle.take(alloc) else {
+    let Some(mut mount) = handle.take(alloc) else {
         return refusal(Errno::NoDevice);
     };
-    let status = begin(&mut holding.mount, serial, reply);
-    handle.put(holding);
+    let status = begin(&mut mount, serial, reply);
+    handle.put(mount);
     status
 }
 
@@ -91,11 +91,11 @@ pub extern "C" fn refskold_abi_piece(
     ensures piece { IsPieceOf index (held handle.old) result room.new room.old }
     ensures same { held handle.new ≡ held handle.old }
 {
-    let Some(holding) = handle.take(alloc) else {
+    let Some(mount) = handle.take(alloc) else {
         return refusal(Errno::NoDevice);
     };
-    let status = piece(&holding.mount, index, room);
-    handle.put(holding);
+    let status = piece(&mount, index, room);
+    handle.put(mount);
     status
 }
 
@@ -143,10 +143,10 @@ pub extern "C" fn refskold_abi_end(
 ) -> i32
     ensures { IsWorked wants_none (end_of serial taken synced) (held handle.old) result (worked reply.new (held handle.new)) (worked reply.old (held handle.old)) }
 {
-    let Some(mut holding) = handle.take(alloc) else {
+    let Some(mut mount) = handle.take(alloc) else {
         return refusal(Errno::NoDevice);
     };
-    let status = end(&mut holding.mount, serial, taken, synced, reply);
-    handle.put(holding);
+    let status = end(&mut mount, serial, taken, synced, reply);
+    handle.put(mount);
     status
 }

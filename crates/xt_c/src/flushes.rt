@@ -44,12 +44,12 @@ pub extern "C" fn refskold_abi_plan(alloc: Global, handle: &mut Handle, plan: &m
     ensures plan { IsPlanOf (held handle.old) result plan.new plan.old }
     ensures same { held handle.new ≡ held handle.old }
 {
-    let Some(holding) = handle.take(alloc) else {
+    let Some(mount) = handle.take(alloc) else {
         return refusal(Errno::NoDevice);
     };
-    let now = plan_of(&holding.mount);
+    let now = plan_of(&mount);
     put_plan(&now, plan);
-    handle.put(holding);
+    handle.put(mount);
     i32::from(now.count())
 }
 
@@ -108,11 +108,11 @@ pub extern "C" fn refskold_abi_home(
     ensures home { IsHomeOf index (held handle.old) result room.new room.old }
     ensures same { held handle.new ≡ held handle.old }
 {
-    let Some(holding) = handle.take(alloc) else {
+    let Some(mount) = handle.take(alloc) else {
         return refusal(Errno::NoDevice);
     };
-    let status = home(&holding.mount, index, room);
-    handle.put(holding);
+    let status = home(&mount, index, room);
+    handle.put(mount);
     status
 }
 
@@ -178,11 +178,11 @@ pub extern "C" fn refskold_abi_homes(
     ensures homes { AreHomesOf (held handle.old) result plan.new plan.old room.new room.old }
     ensures same { held handle.new ≡ held handle.old }
 {
-    let Some(holding) = handle.take(alloc) else {
+    let Some(mount) = handle.take(alloc) else {
         return refusal(Errno::NoDevice);
     };
-    let status = homes(&holding.mount, plan, room);
-    handle.put(holding);
+    let status = homes(&mount, plan, room);
+    handle.put(mount);
     status
 }
 
@@ -253,10 +253,10 @@ pub extern "C" fn refskold_abi_flush(
 ) -> i32
     ensures { IsWorked wants_none (flush_of serial count written synced) (held handle.old) result (worked reply.new (held handle.new)) (worked reply.old (held handle.old)) }
 {
-    let Some(mut holding) = handle.take(alloc) else {
+    let Some(mut mount) = handle.take(alloc) else {
         return refusal(Errno::NoDevice);
     };
-    let status = flush(&mut holding.mount, serial, count, written, synced, reply);
-    handle.put(holding);
+    let status = flush(&mut mount, serial, count, written, synced, reply);
+    handle.put(mount);
     status
 }

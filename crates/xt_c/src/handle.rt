@@ -23,7 +23,7 @@ impl Model for Handle {
     ghost use Rattle.std.specs.Prelude.{◌==◌};
     ghost use Rattle.std.specs.contracts.impls.GlobalAllocator.TheImpl.{ghosts};
     ghost use Rattle.xt_c.specs.Owning.{owned_unless};
-    ghost use Rattle.xt_c.specs.contracts.held_mount.HeldMount.{the_row};
+    ghost use Rattle.xt_mount.specs.contracts.mount.Mount.{the_row};
 
     ghost also_owns = { λ h. owned_unless (h.holds == 0) (box_owns (ghosts.dealloc_token h.alloc) the_row h.at h.value) };
 }

@@ -4,9 +4,9 @@ ghost use Rattle.std.specs.Prelude.{◌≡◌, ◌==◌, not, false, Some, None,
 ghost use Rattle.xt_c.specs.Holding.{held};
 
 use crate::handle::Handle;
-use crate::held_mount::HeldMount;
 use crate::loose::Loose;
 use std::alloc::Global;
+use xt_mount::mount::Mount;
 
 impl Handle {
     /// Whether it holds a mount.
@@ -18,18 +18,18 @@ impl Handle {
     }
 
     /// Its mount, in a box again.
-    fn take_box(&mut self, alloc: Global) -> Box<HeldMount>
+    fn take_box(&mut self, alloc: Global) -> Box<Mount>
         requires { (self.old.holds == 0) ≡ false }
         ensures taken { Some result.value ≡ held self.old }
         ensures slot { result.value.slot ≡ 0 }
         ensures left { held self.new ≡ None }
     {
         self.holds = 0;
-        unsafe { Box::from_raw(alloc, self.at as *mut HeldMount) }
+        unsafe { Box::from_raw(alloc, self.at as *mut Mount) }
     }
 
     /// Keeps a mount.
-    fn keep(&mut self, mount: Loose<HeldMount, Global>)
+    fn keep(&mut self, mount: Loose<Mount, Global>)
         requires { mount.value.slot ≡ 0 }
         ensures { held self.new ≡ Some mount.value }
     {
@@ -39,7 +39,7 @@ impl Handle {
     }
 
     /// Its mount, which it holds no more; None where it holds none.
-    pub fn take(&mut self, alloc: Global) -> Option<Box<HeldMount>>
+    pub fn take(&mut self, alloc: Global) -> Option<Box<Mount>>
         ensures taken { IfSome result (λ mount. held self.old ≡ Some mount.value) }
         ensures slot { IfSome result (λ mount. mount.value.slot ≡ 0) }
         ensures left { held self.new ≡ None }
@@ -53,7 +53,7 @@ impl Handle {
     }
 
     /// Puts a mount in.
-    pub fn put(&mut self, mount: Box<HeldMount>)
+    pub fn put(&mut self, mount: Box<Mount>)
         requires { mount.value.slot ≡ 0 }
         ensures { held self.new ≡ Some mount.value }
     {

@@ -97,10 +97,10 @@ pub extern "C" fn refskold_abi_take(
 ) -> i32
     ensures { IsTaken (kind_of kind) result serial.new serial.old (held handle.new) (held handle.old) }
 {
-    let Some(mut holding) = handle.take(alloc) else {
+    let Some(mut mount) = handle.take(alloc) else {
         return refusal(Errno::NoDevice);
     };
-    let status = take(&mut holding.mount, kind, serial);
-    handle.put(holding);
+    let status = take(&mut mount, kind, serial);
+    handle.put(mount);
     status
 }

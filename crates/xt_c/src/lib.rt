@@ -8,7 +8,6 @@ mod calls;
 mod checkpoints;
 mod flushes;
 mod handle;
-mod held_mount;
 mod holding;
 mod jobs;
 mod loose;

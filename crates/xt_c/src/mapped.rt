@@ -76,10 +76,10 @@ pub extern "C" fn refskold_abi_homes_mapped(
     ensures homes { AreMappedHomesOf (held handle.old) result plan.new plan.old device.new device.old }
     ensures same { held handle.new ≡ held handle.old }
 {
-    let Some(holding) = handle.take(alloc) else {
+    let Some(mount) = handle.take(alloc) else {
         return refusal(Errno::NoDevice);
     };
-    let status = homes_mapped(&holding.mount, plan, device);
-    handle.put(holding);
+    let status = homes_mapped(&mount, plan, device);
+    handle.put(mount);
     status
 }

@@ -11,7 +11,6 @@ ghost use Rattle.xt_frames.specs.Shares.{no_contents};
 ghost use Rattle.xt_mount.specs.Come.{new_refusals};
 
 use crate::handle::Handle;
-use crate::held_mount::HeldMount;
 use crate::status::refusal;
 use std::alloc::Global;
 use xt_base::names::{Life, Slot};
@@ -62,13 +61,13 @@ pub fn new_mount(
     log_bytes: u32,
     blocks: u64,
     size: Option<u32>,
-) -> Result<Box<HeldMount>, Errno>
+) -> Result<Box<Mount>, Errno>
     ensures ok { IfOk result (λ mount. (first_of (new_refusals last log_bytes blocks size) ≡ None) × (mount.value ≡ mount_of 0 (last + 1) log_bytes blocks (form_of size))) }
     ensures err { IfErr result (λ errno. (first_of (new_refusals last log_bytes blocks size) ≡ Some errno) ⊎ (errno ≡ NoMemory)) }
 {
     let share = share_of_one(alloc)?;
     match Mount::new(alloc, share, Life(last), log_bytes, blocks, size) {
-        Ok(mount) => match Box::new(alloc, HeldMount::new(mount)) {
+        Ok(mount) => match Box::new(alloc, mount) {
             Ok(mount) => Ok(mount),
             Err(_) => Err(Errno::NoMemory),
         },
@@ -157,10 +156,10 @@ pub extern "C" fn refskold_abi_shut(alloc: Global, handle: &mut Handle) -> i32
     ensures status { result ≡ shut_status (held handle.old) }
     ensures same { held handle.new ≡ held handle.old }
 {
-    let Some(holding) = handle.take(alloc) else {
+    let Some(mount) = handle.take(alloc) else {
         return refusal(Errno::NoDevice);
     };
-    let status = reason_status(holding.mount.shut());
-    handle.put(holding);
+    let status = reason_status(mount.shut());
+    handle.put(mount);
     status
 }

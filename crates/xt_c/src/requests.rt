@@ -23,32 +23,24 @@ fn copy_of(alloc: Global, bytes: &[u8]) -> Result<Vec<u8>, AllocError>
     Ok(copy)
 }
 
-/// These bytes, copied as they stand, into the room of other data where there are some; None where they are more than 4,096. The one error is want
-/// of memory. They go with the call, so it does not pay to look for a stretch of one byte among them, as `Data::of` does.
-fn copied(alloc: Global, spare: Option<Data>, bytes: &[u8]) -> Result<Option<Data>, AllocError>
+/// These bytes, copied as they stand; None where they are more than 4,096. The one error is want of memory. They go with the call, so it does not pay
+/// to look for a stretch of one byte among them, as `Data::of` does.
+fn copied(alloc: Global, bytes: &[u8]) -> Result<Option<Data>, AllocError>
     ensures valid { IfOk result (λ found. IsSome found ↔ (length bytes.now ≤ DATA_BYTES)) }
     ensures value { IfOk result (λ found. IfSome found (λ carried. carried ≡ bytes.now)) }
 {
-    if let Some(data) = spare {
-        return data.refilled(bytes);
-    }
     if bytes.len() > DATA_BYTES {
         return Ok(None);
     }
     Data::of_vec(alloc, copy_of(alloc, bytes)?)
 }
 
-/// A change of a block by these bytes, in the room of other data where there are some. `Invalid` where they are too many.
-fn logged(
-    alloc: Global,
-    from: RequestWords,
-    bytes: &[u8],
-    spare: Option<Data>,
-) -> Result<Request, Errno>
+/// A change of a block by these bytes. `Invalid` where they are too many.
+fn logged(alloc: Global, from: RequestWords, bytes: &[u8]) -> Result<Request, Errno>
     ensures ok { IfOk result (λ request. logged from bytes.now ≡ Some request) }
     ensures err { IfErr result (λ errno. ((errno ≡ Invalid) × (logged from bytes.now ≡ None)) ⊎ (errno ≡ NoMemory)) }
 {
-    match copied(alloc, spare, bytes) {
+    match copied(alloc, bytes) {
         Ok(Some(bytes)) => Ok(Request::Log {
             first: from.first,
             trans: TransNo(from.trans),
@@ -107,18 +99,13 @@ fn of_mount(from: RequestWords) -> Option<Request>
     }
 }
 
-/// The request that words spell, with the bytes of a change, which take the room of the spare data. `Invalid` where they spell none.
-pub fn request_of(
-    alloc: Global,
-    from: RequestWords,
-    bytes: &[u8],
-    spare: &mut Option<Data>,
-) -> Result<Request, Errno>
+/// The request that words spell, with the bytes of a change. `Invalid` where they spell none.
+pub fn request_of(alloc: Global, from: RequestWords, bytes: &[u8]) -> Result<Request, Errno>
     ensures ok { IfOk result (λ request. request_of from bytes.now ≡ Some request) }
     ensures err { IfErr result (λ errno. ((errno ≡ Invalid) × (request_of from bytes.now ≡ None)) ⊎ ((errno ≡ NoMemory) × ((from.word == 4) ≡ true))) }
 {
     if from.word == 4 {
-        return logged(alloc, from, bytes, spare.take());
+        return logged(alloc, from, bytes);
     }
     let found = if 0 < from.word && from.word < 11 {
         of_block(from)

@@ -7,7 +7,8 @@ use crate::kept::{KeptChunks, content_len};
 use crate::spares::SpareRooms;
 use std::alloc::{AllocError, Global};
 use std::marker::Model;
-use xt_base::content::{Content, Data};
+use xt_base::content::Content;
+use xt_base::data_ref::DataRef;
 
 /// The frame of a busy block: its bytes, and each chunk that a leg wrote, as it was. Clauses see the bytes, and the committed content,
 /// which is the bytes with the kept chunks put back.
@@ -55,7 +56,7 @@ impl Buf {
         spares: &mut SpareRooms,
         alloc: Global,
         first: u32,
-        bytes: &Data,
+        bytes: &DataRef<'_>,
     ) -> Result<(), AllocError>
         requires within { first + length bytes.now ≤ length self.old.edit }
         requires some { 0 < length bytes.now }

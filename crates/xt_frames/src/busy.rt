@@ -11,7 +11,8 @@ use crate::spares::SpareRooms;
 use slab::Slab;
 use std::alloc::{AllocError, Global};
 use std::marker::Model;
-use xt_base::content::{Content, Data};
+use xt_base::content::Content;
+use xt_base::data_ref::DataRef;
 use xt_base::map::NumberMap;
 use xt_base::sizes::ROOM;
 
@@ -159,7 +160,7 @@ impl BusyFrames {
         alloc: Global,
         block: u64,
         first: u32,
-        bytes: &Data,
+        bytes: &DataRef<'_>,
     ) -> Result<(), AllocError>
         requires there { is_in block self.old ≡ true }
         requires within { IfSome (at block self.old) (λ f. first + length bytes.now ≤ length f.edit) }

@@ -17,7 +17,8 @@ use crate::idle::IdleList;
 use crate::share::FrameShare;
 use std::alloc::{AllocError, Global};
 use std::marker::Model;
-use xt_base::content::{Content, Data};
+use xt_base::content::Content;
+use xt_base::data_ref::DataRef;
 use xt_base::names::Slot;
 use xt_base::sizes::{IDLE_BLOCKS, ROOM};
 
@@ -175,7 +176,7 @@ impl Frames {
         alloc: Global,
         block: u64,
         first: u32,
-        bytes: &Data,
+        bytes: &DataRef<'_>,
     ) -> Result<(), AllocError>
         requires there { is_in block self.old.frames ≡ true }
         requires within { IfSome (at block self.old.frames) (λ f. first + length bytes.now ≤ length f.edit) }

@@ -10,7 +10,8 @@ ghost use Rattle.xt_frames.specs.Kept.{none_kept, restored};
 use std::marker::Model;
 use std::mem::swap;
 use xt_base::chunks::Chunks;
-use xt_base::content::{Content, Data};
+use xt_base::content::Content;
+use xt_base::data_ref::DataRef;
 use xt_base::sizes::{BLOCK_BYTES, CHUNK_BYTES, CHUNKS};
 
 /// Which chunks of a block are kept, and their bytes, each at its own place of a room that is as long as the block's content. Clauses see both.
@@ -66,7 +67,7 @@ impl KeptChunks {
     }
 
     /// Keeps the chunks of some bytes of a content, and writes them. It takes no memory.
-    pub fn write(&mut self, content: &mut Content, first: u32, bytes: &Data)
+    pub fn write(&mut self, content: &mut Content, first: u32, bytes: &DataRef<'_>)
         requires alike { length self.old.bytes ≡ length content.old }
         requires within { first + length bytes.now ≤ length content.old }
         requires some { 0 < length bytes.now }
@@ -85,7 +86,7 @@ impl KeptChunks {
     }
 
     /// Writes a whole block, where no chunk is kept: the content goes into the room, and the bytes are written over what stood there.
-    fn write_whole(&mut self, content: &mut Content, bytes: &Data)
+    fn write_whole(&mut self, content: &mut Content, bytes: &DataRef<'_>)
         requires alike { length self.old.bytes ≡ length content.old }
         requires whole { length bytes.now ≡ length content.old }
         ensures content { content.new ≡ bytes.now }

@@ -17,7 +17,8 @@ use bytes::Bytes;
 use std::alloc::{AllocError, Global};
 use std::marker::Model;
 use xt_base::chunks::Chunks;
-use xt_base::content::{Content, Data};
+use xt_base::content::Content;
+use xt_base::data_ref::DataRef;
 use xt_base::form::Form;
 use xt_base::map::NumberMap;
 use xt_base::names::Slot;
@@ -182,7 +183,7 @@ impl Journal {
         alloc: Global,
         block: u64,
         first: u32,
-        bytes: &Data,
+        bytes: &DataRef<'_>,
     ) -> Result<(), AllocError>
         requires there { is_in block self.old.frames.frames ≡ true }
         requires within { IfSome (at block self.old.frames.frames) (λ f. first + length bytes.now ≤ length f.edit) }

@@ -15,7 +15,7 @@ ghost use Rattle.xt_resv.specs.Mounts.{grant_of, ledger};
 use crate::accounts::Accounts;
 use crate::open_trans::OpenTrans;
 use std::alloc::{AllocError, Global};
-use xt_base::content::Data;
+use xt_base::data_ref::DataRef;
 use xt_base::sizes::{BLOCK_BYTES, ROOM};
 use xt_trans::trans::TransRec;
 
@@ -56,7 +56,7 @@ impl Accounts {
         trans: u64,
         block: u64,
         first: u32,
-        bytes: &Data,
+        bytes: &DataRef<'_>,
     ) -> Result<(), AllocError>
         requires there { is_in trans self.old.transactions ≡ true }
         requires rising { IsRising self.old.transactions }

@@ -16,7 +16,7 @@ use crate::machine::Machine;
 use crate::opened::{LegSeen, Opened};
 use std::alloc::AllocError;
 use xt_base::chunks::Chunks;
-use xt_base::content::Data;
+use xt_base::data_ref::DataRef;
 use xt_base::names::{Block, TransNo};
 use xt_base::sizes::{BLOCK_BYTES, ROOM};
 use xt_base::steps::{Errno, Reply};
@@ -36,7 +36,7 @@ impl Machine {
         trans: TransNo,
         block: Block,
         first: u32,
-        bytes: &Data,
+        bytes: &DataRef<'_>,
     ) -> Option<Errno>
         ensures refusal { result ≡ first_of (log_refusals trans block first bytes.now opened.now (state_of self.now)) }
         ensures some { result ≡ None → 0 < length bytes.now }
@@ -70,7 +70,7 @@ impl Machine {
         trans: TransNo,
         block: Block,
         first: u32,
-        bytes: &Data,
+        bytes: &DataRef<'_>,
     ) -> Result<(), AllocError>
         requires there { is_in trans self.old.accounts.transactions ≡ true }
         requires rising { IsRising self.old.accounts.transactions }
@@ -96,7 +96,7 @@ impl Machine {
         trans: TransNo,
         block: Block,
         first: u32,
-        bytes: &Data,
+        bytes: &DataRef<'_>,
     ) -> Result<Reply, AllocError>
         requires sound { IsSound (state_of self.old) }
         requires sized { IsSized (state_of self.old) }

@@ -20,7 +20,8 @@ ghost use Rattle.xt_vectors.specs.Edits.{own_edit};
 use std::alloc::{AllocError, Global};
 use std::marker::Model;
 use xt_base::chunks::Chunks;
-use xt_base::content::{Content, Data};
+use xt_base::content::Content;
+use xt_base::data_ref::DataRef;
 use xt_base::form::Form;
 use xt_base::names::Block;
 use xt_base::newly::Newly;
@@ -120,7 +121,7 @@ impl OpenTrans {
         alloc: Global,
         block: u64,
         first: u32,
-        bytes: &Data,
+        bytes: &DataRef<'_>,
     ) -> Result<(), AllocError>
         requires few { is_in block self.old.leg.changes ≡ false → length self.old.leg.changes + length self.old.leg.holds < ROOM }
         requires fits { charge journal.old.form.ends (edited block [] (marks first (length bytes.now)) self.old.leg).changes ≤ self.old.unit }
@@ -161,7 +162,7 @@ impl OpenTrans {
     }
 
     /// Writes bytes over the leg's own bytes of a block. It takes no memory.
-    fn log_over(&mut self, journal: &Journal, block: u64, first: u32, bytes: &Data)
+    fn log_over(&mut self, journal: &Journal, block: u64, first: u32, bytes: &DataRef<'_>)
         requires own { is_some (own_edit (change_of block self.old.leg).edit) ≡ true }
         requires fits { charge journal.now.form.ends (edited block [] (marks first (length bytes.now)) self.old.leg).changes ≤ self.old.unit }
         requires within { first + length bytes.now ≤ length (unwrap_or (change_of block self.old.leg).edit []) }
@@ -183,7 +184,7 @@ impl OpenTrans {
         alloc: Global,
         block: u64,
         first: u32,
-        bytes: &Data,
+        bytes: &DataRef<'_>,
     ) -> Result<(), AllocError>
         requires none { is_some (own_edit (change_of block self.old.leg).edit) ≡ false }
         requires goes { goes_in_place block self.old.leg journal.old.frames ≡ true }
@@ -254,7 +255,7 @@ impl OpenTrans {
         alloc: Global,
         block: u64,
         first: u32,
-        bytes: &Data,
+        bytes: &DataRef<'_>,
     ) -> Result<(), AllocError>
         requires none { is_some (own_edit (change_of block self.old.leg).edit) ≡ false }
         requires goes { goes_in_place block self.old.leg journal.old.frames ≡ false }

@@ -40,7 +40,7 @@ impl Machine {
                 trans,
                 block,
                 bytes,
-            } => self.log(*trans, *block, *first, bytes),
+            } => self.log(*trans, *block, *first, &bytes.lent()),
             Request::Hold { trans, block } => Ok(self.hold(*trans, *block)),
             Request::Unhold { trans, block } => Ok(self.unhold(*trans, *block)),
             Request::Relse { trans, block } => Ok(self.relse(*trans, *block)),

@@ -100,7 +100,7 @@ fn has_frame(frames: &Frames, block: u64) -> bool
 fn write(alloc: Global, frames: &mut Frames, step: Step) -> Result<(), AllocError> {
     match step {
         Step::Log(block, first) if has_frame(frames, block) => {
-            frames.log(alloc, block, 0, &one_byte(alloc, first)?)
+            frames.log(alloc, block, 0, &one_byte(alloc, first)?.lent())
         }
         Step::Keep(block) if frames.frame(block).is_some() => {
             frames.keep(block);

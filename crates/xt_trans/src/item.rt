@@ -8,7 +8,8 @@ ghost use Rattle.xt_trans.specs.LegItems.{blank, change_in, no_change};
 ghost use Rattle.xt_vectors.specs.Edits.{is_in_place, own_edit};
 
 use xt_base::chunks::Chunks;
-use xt_base::content::{Content, Data};
+use xt_base::content::Content;
+use xt_base::data_ref::DataRef;
 use xt_base::marks::ItemMarks;
 use xt_vectors::edit::Edit;
 
@@ -110,7 +111,7 @@ pub(crate) fn marked_too(mut item: BufItem, marked: Chunks) -> BufItem
 }
 
 /// An entry over whose own bytes others are written from `first` on.
-pub(crate) fn written(mut item: BufItem, first: usize, bytes: &Data) -> BufItem
+pub(crate) fn written(mut item: BufItem, first: usize, bytes: &DataRef<'_>) -> BufItem
     requires own { is_some (own_edit item.edit) ≡ true }
     requires within { first + length bytes.now ≤ length (unwrap_or item.edit []) }
     ensures marks { result.marks ≡ item.marks }

@@ -21,7 +21,8 @@ use crate::item::{
 use std::alloc::{AllocError, Global};
 use std::marker::Model;
 use xt_base::chunks::Chunks;
-use xt_base::content::{Content, Data, HeldBlocks};
+use xt_base::content::{Content, HeldBlocks};
+use xt_base::data_ref::DataRef;
 use xt_base::form::Form;
 use xt_base::map::NumberMap;
 use xt_base::names::Block;
@@ -248,7 +249,7 @@ impl TransRec {
 
     /// Bytes are written from `first` on over the leg's own bytes of a block, and these chunks are marked and charged too. It takes
     /// no memory.
-    pub fn write(&mut self, block: u64, first: usize, bytes: &Data, marked: Chunks)
+    pub fn write(&mut self, block: u64, first: usize, bytes: &DataRef<'_>, marked: Chunks)
         requires own { is_some (own_edit (change_of block self.old).edit) ≡ true }
         requires within { first + length bytes.now ≤ length (unwrap_or (change_of block self.old).edit []) }
         ensures { self.new ≡ edited block (overwritten first bytes.now (unwrap_or (change_of block self.old).edit [])) marked self.old }

@@ -6,7 +6,8 @@ ghost use Rattle.xt_vectors.specs.Edits.{has_own, own_bytes};
 
 use crate::vector::{VectorRoom, content_len};
 use std::marker::Model;
-use xt_base::content::{Content, Data};
+use xt_base::content::Content;
+use xt_base::data_ref::DataRef;
 
 /// What a leg has of a block: bytes of its own, or none where the block is changed in place; with room for the log vector that its
 /// commit makes, so the commit takes no memory. Clauses see the bytes, which are none where it has none of its own.
@@ -52,7 +53,7 @@ impl Edit {
     }
 
     /// Writes bytes of its own from `first` on.
-    pub fn write(&mut self, first: usize, bytes: &Data)
+    pub fn write(&mut self, first: usize, bytes: &DataRef<'_>)
         requires own { has_own self.old ≡ true }
         requires within { first + length bytes.now ≤ length self.old }
         ensures { self.new ≡ overwritten first bytes.now self.old }

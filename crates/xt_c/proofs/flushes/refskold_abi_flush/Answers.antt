@@ -12,4 +12,4 @@ returns c =
     subst (λ (z : ℤ). IsWorked wants_none step (held c.args.handle.now) z (worked c.flush-status.new.reply (held c.put.new.self)) (worked c.args.reply.now (held c.args.handle.now)))
     (sym (to_z-of_z {w = w32} {z = c.flush-status.result} (search (rules, c.flush-status.type_inv))))
     (moved wants_none step (held c.args.handle.now) (held c.put.new.self) _ _ c.flush-status.result c.args.reply.now c.flush-status.new.reply
-    (c.in-Some.ensures.taken ∙ ap Some (sym c.deref_mut.ensures.value) ∙ ap Some (sym c.behind-holding.view_is)) c.put.ensures c.flush-status.ensures.flushed)
+    (c.in-Some.ensures.taken ∙ ap Some (sym c.deref_mut.ensures.value)) c.put.ensures c.flush-status.ensures.flushed)

@@ -11,8 +11,8 @@ use Rattle.std.proofs.Crossing as heap
 use Rattle.std_alloc.proofs.SendSync.{quiet, lies}
 use Rattle.std.proofs.alloc.Global.TheSendSync as allocator
 use Rattle.xt_c.specs.Owning.{owned_unless}
-use Rattle.xt_c.specs.contracts.held_mount.HeldMount as inner
-use Rattle.xt_c.proofs.held_mount.HeldMount.TheSendSync.{the_send as crosses}
+use Rattle.xt_mount.specs.contracts.mount.Mount as inner
+use Rattle.xt_mount.proofs.mount.Mount.TheSendSync.{the_send as crosses}
 use Rattle.xt_c.specs.contracts.handle.Handle.{the_row, the_type}
 
 unless_closed : (closed : Bool) (F : Fml) → Keyless F → Keyless (owned_unless closed F)

@@ -29,7 +29,7 @@ use Rattle.std.specs.contracts.alloc.Global.{the_row as A}
 use Rattle.std.proofs.alloc.Global.TheLaws as heap
 use Rattle.std.specs.contracts.impls.GlobalAllocator.TheImpl as allocates
 use Rattle.xt_c.proofs.LooseSteps.{both, Loose, al, loose_good, loose_out}
-use Rattle.xt_c.specs.contracts.held_mount.HeldMount.{the_row as R}
+use Rattle.xt_mount.specs.contracts.mount.Mount.{the_row as R}
 use Rattle.xt_c.specs.contracts.handle.Handle.{the_row as Handle, the_type as the_handle}
 use Rattle.xt_c.specs.declared.handle.Handle.{Handle as Held}
 use Rattle.xt_c.specs.contracts.handle.Handle.keep.{ended, clauses}

@@ -50,8 +50,8 @@ use Rattle.std.specs.contracts.impls.GlobalAllocator.TheImpl as allocates
 use Rattle.std.proofs.impls.GlobalAllocator.TheImpl.Met as allocates_met
 use Rattle.xt_base.specs.State.{State}
 use Rattle.xt_c.specs.Owning.{owned_unless}
-use Rattle.xt_c.specs.contracts.held_mount.HeldMount.{the_row as R}
-use Rattle.xt_c.proofs.held_mount.HeldMount.TheLaws as inner
+use Rattle.xt_mount.specs.contracts.mount.Mount.{the_row as R}
+use Rattle.xt_mount.proofs.mount.Mount.TheLaws as inner
 use Rattle.xt_c.specs.contracts.handle.Handle.{the_row as Handle, the_type as the_handle}
 use Rattle.xt_c.specs.declared.handle.Handle.{Handle as Held}
 use Rattle.xt_c.specs.contracts.handle.Handle.take_box.{ended, clauses}
