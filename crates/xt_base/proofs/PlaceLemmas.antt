@@ -147,6 +147,17 @@ module _ {V : Type 0} where
             (ap (λ xs. e ∷ xs) (put_absent k v es (place k es) refl (ap is_some (sym (at_later k e es (λ s. omega (arith, s, gt)))) ∙ h)) ∙ sym (put_more k v e es gt))
       ]
 
+  -- an entry whose place is behind all others
+  pub put_behind : (k : ℕ) (v : V) (m : List (ℕ × V)) (p : ℕ) → p ≡ place k m → is_in k m ≡ false → length m ≤ p → m ++ (k, v) ∷ [] ≡ put k v m
+  put_behind k v [] p is h le = refl
+  put_behind k v (e ∷ es) p is h le =
+      elim (cases_order k e.0) [
+        | inl same ↦ absurd (false≢true (sym h ∙ ap is_some (at_here k e es (sym same))))
+        | inr (inl lt) ↦ absurd (omega (arith, is, place_here k e es (omega arith), le))
+        | inr (inr gt) ↦ ap (λ xs. e ∷ xs) (put_behind k v es (place k es) refl (ap is_some (sym (at_later k e es (λ s. omega (arith, s, gt)))) ∙ h) (omega (arith, is, place_low k e es gt, le)))
+            ∙ sym (put_more k v e es gt)
+      ]
+
   -- a key that was taken away is not there
   pub absent_after : (n k : ℕ) (m : List (ℕ × V)) → RisesFrom n m → is_in k (without k m) ≡ false
   absent_after n k [] r = refl

@@ -131,6 +131,7 @@ impl<V> NumberMap<V> {
     }
 
     /// Puts a value at a key that it does not have, also one that can't be let go. It takes no memory.
+    #[inline(always)]
     pub fn put_new(&mut self, key: u64, value: V)
         requires absent { is_in key self.old ≡ false }
         requires room { length self.old < ROOM }
@@ -154,7 +155,27 @@ impl<V> NumberMap<V> {
     }
 
     /// Puts a value at a key that it does not have, where `find` said that it would stand. It takes no memory.
+    #[inline(always)]
     pub fn insert_at(&mut self, at: usize, key: u64, value: V)
+        requires place { at ≡ place key self.old }
+        requires absent { is_in key self.old ≡ false }
+        requires room { length self.old < ROOM }
+        ensures { self.new ≡ with_entry key value self.old }
+    {
+        // behind all others, as most are, it is made where it stays: a value that is handed to another function is copied there and again
+        if at < self.entries.len() {
+            self.insert_before(at, key, value);
+            return;
+        }
+        match self.entries.push((key, value)) {
+            Ok(()) => {}
+            Err(_) => unreachable!(),
+        }
+    }
+
+    /// The same before another entry.
+    #[inline(never)]
+    fn insert_before(&mut self, at: usize, key: u64, value: V)
         requires place { at ≡ place key self.old }
         requires absent { is_in key self.old ≡ false }
         requires room { length self.old < ROOM }

@@ -97,6 +97,7 @@ impl BusyFrames {
     }
 
     /// Brings a frame, and hands back the one that stood in its place. A new block needs room. It takes no memory.
+    #[inline(always)]
     pub fn exchange(&mut self, block: u64, frame: Buf) -> Option<Buf>
         requires { is_in block self.old ≡ false → length self.old < ROOM }
         ensures value { result ≡ at block self.old }

@@ -16,7 +16,7 @@ ghost use Rattle.xt_vectors.specs.Edits.{is_in_place, own_edit};
 use crate::costs::{gained_and_lost, standing};
 use crate::entries::{changes_of, drop_hold, first_dirty, held_blocks, take_dirty, take_item};
 use crate::item::{
-    BufItem, content_of, has_no_content, held, invalidated, logged, marked_too, written,
+    BufItem, blank_item, content_of, has_no_content, held, invalidated, logged, marked_too, written,
 };
 use std::alloc::{AllocError, Global};
 use std::marker::Model;
@@ -243,8 +243,17 @@ impl TransRec {
         requires { is_in block self.old.changes ≡ false → length self.old.changes + length self.old.holds < ROOM }
         ensures { self.new ≡ edited block edit marked self.old }
     {
-        let item = take_item(&mut self.items, block);
-        self.items.put(block, logged(item, edit, marked));
+        // the leg's first change of a block, as most are, is put where it stays, and not over another
+        match self.items.find(block) {
+            Err(place) => {
+                let item = logged(blank_item(), edit, marked);
+                self.items.insert_at(place, block, item);
+            }
+            Ok(_) => {
+                let item = take_item(&mut self.items, block);
+                self.items.put(block, logged(item, edit, marked));
+            }
+        }
     }
 
     /// Bytes are written from `first` on over the leg's own bytes of a block, and these chunks are marked and charged too. It takes
