@@ -47,14 +47,13 @@ static void checkpoint(void)
 /* Writes home what is on the log: how many blocks. */
 static unsigned flush(void)
 {
-    refskold_plan plan;
+    refskold_reply reply;
     uint64_t serial;
     unsigned blocks = 0;
     want(refskold_push(&mount) == 0, "push");
     while (refskold_take(&mount, REFSKOLD_FLUSH, &serial) == REFSKOLD_TAKEN) {
-        want(refskold_homes_mapped(&mount, &plan, home, BLOCKS * REFSKOLD_BLOCK) >= 0, "homes");
-        want(refskold_flush(&mount, serial, plan.count, (1u << plan.count) - 1, 1, NULL) == 0, "flush");
-        blocks += plan.count;
+        want(refskold_flush_mapped(&mount, serial, home, BLOCKS * REFSKOLD_BLOCK, &reply) == 0, "flush");
+        blocks += (unsigned)reply.number;
     }
     return blocks;
 }

@@ -240,6 +240,15 @@ int32_t refskold_abi_shut(refskold *mount);
 int32_t refskold_abi_call(refskold *mount, const refskold_request *request, const uint8_t *data, size_t data_len,
                           uint32_t answered, const uint8_t *content, size_t content_len, refskold_reply *reply,
                           uint8_t *room, size_t room_len);
+
+/* The requests of which most changes are made, by their own arguments: as refskold_abi_call serves them with no answer,
+ * but no reply is told. Alloc writes the number of the transaction where it returns 0. */
+int32_t refskold_abi_alloc(refskold *mount, uint32_t unit, uint32_t count, uint32_t perm, uint64_t *trans);
+int32_t refskold_abi_read(refskold *mount, uint64_t trans, uint64_t block);
+int32_t refskold_abi_log(refskold *mount, uint64_t trans, uint64_t block, uint32_t first, const uint8_t *data,
+                         size_t data_len);
+int32_t refskold_abi_commit(refskold *mount, uint64_t trans);
+
 int32_t refskold_abi_take(refskold *mount, uint32_t kind, uint64_t *serial);
 int32_t refskold_abi_begin(refskold *mount, uint64_t serial, refskold_reply *reply);
 int32_t refskold_abi_piece(refskold *mount, uint32_t index, uint8_t *room, size_t room_len);
@@ -252,9 +261,10 @@ int32_t refskold_abi_homes(refskold *mount, refskold_plan *plan, uint8_t *room, 
 int32_t refskold_abi_homes_mapped(refskold *mount, refskold_plan *plan, uint8_t *device, size_t device_len);
 int32_t refskold_abi_flush(refskold *mount, uint64_t serial, uint32_t count, uint32_t written, uint32_t synced,
                            refskold_reply *reply);
+int32_t refskold_abi_flush_mapped(refskold *mount, uint64_t serial, uint8_t *device, size_t device_len, refskold_reply *reply);
 
-/* The same with pointers that may be NULL: `data`, `content` and `room` where their length is 0, and `reply`. Other NULLs
- * are -EINVAL. The functions below are made of it. */
+/* refskold_abi_call with pointers that may be NULL: `data`, `content` and `room` where their length is 0, and `reply`. Other
+ * NULLs are -EINVAL. Most functions below are made of it. */
 static inline int refskold_call(refskold *mount, const refskold_request *request, const void *data, size_t data_len,
                                 uint32_t answered, const void *content, size_t content_len, refskold_reply *reply,
                                 void *room, size_t room_len)
@@ -349,16 +359,7 @@ static inline int refskold_shut(refskold *mount)
  * space, which asks a checkpoint and a flush: do the jobs that are owed, and try again. -ENOMEM. */
 static inline int refskold_alloc(refskold *mount, uint32_t unit, uint32_t count, int perm, uint64_t *trans)
 {
-    refskold_request request = refskold_request_of(REFSKOLD_ALLOC, 0, 0);
-    refskold_reply reply;
-    int status;
-    if (trans == NULL) return -EINVAL;
-    request.unit = unit;
-    request.count = count;
-    request.perm = perm != 0;
-    status = refskold_ask(mount, request, &reply);
-    if (status == 0) *trans = reply.number;
-    return status;
+    return mount == NULL || trans == NULL ? -EINVAL : refskold_abi_alloc(mount, unit, count, perm != 0, trans);
 }
 
 /* Locks a block for a transaction without its content: it shows zeros, and must first be written whole, unless its content
@@ -379,7 +380,7 @@ static inline int refskold_get(refskold *mount, uint64_t trans, uint64_t block)
  * -ENOBUFS: it would be the 65th busy block. -ENOMEM. */
 static inline int refskold_read(refskold *mount, uint64_t trans, uint64_t block)
 {
-    return refskold_ask_of(mount, REFSKOLD_READ, trans, block);
+    return mount == NULL ? -EINVAL : refskold_abi_read(mount, trans, block);
 }
 
 /* The same with the `size` bytes that the home device gave. -EINVAL also where it need not be asked, or a block of the mount
@@ -432,9 +433,9 @@ static inline int refskold_view(refskold *mount, uint64_t trans, uint64_t block,
 static inline int refskold_log(refskold *mount, uint64_t trans, uint64_t block, uint32_t first, const void *data,
                                size_t length)
 {
-    refskold_request request = refskold_request_of(REFSKOLD_LOG, trans, block);
-    request.first = first;
-    return refskold_call(mount, &request, data, length, REFSKOLD_UNASKED, NULL, 0, NULL, NULL, 0);
+    static const uint8_t none[1] = { 0 };
+    if (mount == NULL || (data == NULL && length != 0)) return -EINVAL;
+    return refskold_abi_log(mount, trans, block, first, data == NULL ? none : (const uint8_t *)data, length);
 }
 
 /* Lets a block stay locked when the leg ends, for a transaction to join; refskold_unhold takes that back.
@@ -491,6 +492,8 @@ static inline int refskold_inval(refskold *mount, uint64_t trans, uint64_t block
  * held. */
 static inline int refskold_commit(refskold *mount, uint64_t trans, refskold_reply *reply)
 {
+    if (mount == NULL) return -EINVAL;
+    if (reply == NULL) return refskold_abi_commit(mount, trans);
     return refskold_ask(mount, refskold_request_of(REFSKOLD_COMMIT, trans, 0), reply);
 }
 
@@ -679,6 +682,19 @@ static inline int refskold_flush(refskold *mount, uint64_t serial, uint32_t coun
     refskold_reply told;
     if (mount == NULL) return -EINVAL;
     return refskold_abi_flush(mount, serial, count, written, synced != 0, reply == NULL ? &told : reply);
+}
+
+/* Does a flush that was taken, and ends it, where your home device lies in memory and needs no sync, as a RAM disk, or a
+ * mapped file whose content need not outlive the machine: copies what is to be written of each block straight to its place
+ * in the device, as refskold_homes_mapped, and goes on as refskold_flush does where each write and the sync were good. The
+ * reply, which may be NULL, is as that of a flush.
+ *
+ * -EINVAL: no flush of this serial waits, or the device ends before one of its blocks does, and nothing is written. */
+static inline int refskold_flush_mapped(refskold *mount, uint64_t serial, void *device, size_t length, refskold_reply *reply)
+{
+    refskold_reply told;
+    if (mount == NULL || device == NULL) return -EINVAL;
+    return refskold_abi_flush_mapped(mount, serial, (uint8_t *)device, length, reply == NULL ? &told : reply);
 }
 
 /* ---- Logs ---------------------------------------------------------------------------------------------------------- */

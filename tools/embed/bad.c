@@ -81,6 +81,7 @@ static unsigned bad_jobs(refskold *mount, int wanted, struct rooms *rooms)
         failed += judge("a begin of no job", refskold_begin(mount, serials[k], &rooms->reply), wanted, rooms);
         failed += judge("an end of no job", refskold_end(mount, serials[k], 0, 1, &rooms->reply), wanted, rooms);
         failed += judge("a flush of no job", refskold_flush(mount, serials[k], 0, 0, 1, &rooms->reply), wanted, rooms);
+        failed += judge("a mapped flush of no job", refskold_flush_mapped(mount, serials[k], rooms->room, sizeof rooms->room, &rooms->reply), wanted, rooms);
     }
     failed += judge("a job of no kind", refskold_take(mount, 2, &rooms->number), wanted, rooms);
     failed += judge("the greatest kind", refskold_take(mount, UINT32_MAX, &rooms->number), wanted, rooms);
@@ -113,6 +114,10 @@ unsigned bad_calls(refskold *mount)
     failed += judge("a plan of no mount", refskold_flush_plan(mount, &rooms.plan), -ENODEV, &rooms);
     failed += judge("homes of no mount", refskold_homes(mount, &rooms.plan, rooms.room, sizeof rooms.room), -ENODEV, &rooms);
     failed += judge("mapped homes of no mount", refskold_homes_mapped(mount, &rooms.plan, rooms.room, sizeof rooms.room), -ENODEV, &rooms);
+    failed += judge("an alloc of no mount", refskold_alloc(mount, 1, 1, 0, &rooms.number), -ENODEV, &rooms);
+    failed += judge("a read of no mount", refskold_read(mount, 1, 7), -ENODEV, &rooms);
+    failed += judge("a log of no mount", refskold_log(mount, 1, 7, 0, given, 1), -ENODEV, &rooms);
+    failed += judge("a commit of no mount", refskold_commit(mount, 1, NULL), -ENODEV, &rooms);
     return failed + judge("a force of no mount", refskold_force(mount, &rooms.number), -ENODEV, &rooms);
 }
 
@@ -154,7 +159,7 @@ static unsigned null_requests(struct rooms *rooms)
         refskold_begin(NULL, 1, &rooms->reply), refskold_piece(NULL, 0, rooms->room, REFSKOLD_BLOCK), refskold_end(NULL, 1, 0, 0, &rooms->reply),
         refskold_flush_plan(NULL, &rooms->plan), refskold_home(NULL, 0, rooms->room),
         refskold_homes(NULL, &rooms->plan, rooms->room, REFSKOLD_BLOCK), refskold_homes_mapped(NULL, &rooms->plan, rooms->room, REFSKOLD_BLOCK),
-        refskold_flush(NULL, 1, 0, 0, 0, NULL), refskold_close(NULL),
+        refskold_flush(NULL, 1, 0, 0, 0, NULL), refskold_flush_mapped(NULL, 1, rooms->room, REFSKOLD_BLOCK, NULL), refskold_close(NULL),
     };
     unsigned failed = 0;
     for (size_t k = 0; k < sizeof statuses / sizeof *statuses; k++) failed += judge("no handle", statuses[k], -EINVAL, rooms);
@@ -171,6 +176,7 @@ unsigned null_pointers(refskold *mount)
         refskold_flush_plan(mount, NULL), refskold_home(mount, 0, NULL),
         refskold_homes(mount, NULL, rooms.room, REFSKOLD_BLOCK), refskold_homes(mount, &rooms.plan, NULL, REFSKOLD_BLOCK),
         refskold_homes_mapped(mount, NULL, rooms.room, REFSKOLD_BLOCK), refskold_homes_mapped(mount, &rooms.plan, NULL, REFSKOLD_BLOCK),
+        refskold_flush_mapped(mount, 1, NULL, REFSKOLD_BLOCK, NULL),
     };
     unsigned failed = null_requests(&rooms);
     for (size_t k = 0; k < sizeof statuses / sizeof *statuses; k++) failed += judge("a pointer that is NULL", statuses[k], -EINVAL, &rooms);

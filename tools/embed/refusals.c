@@ -179,6 +179,7 @@ static void bad_callers(void) {
     q.word = REFSKOLD_LOG, q.trans = trans, q.block = 7;
     wants("too many bytes", refskold_call(&m, &q, block, 4097, 0, NULL, 0, &reply, NULL, 0), -EINVAL), UNTOUCHED("too many bytes");
     wants("NULL with a length", refskold_call(&m, &q, NULL, 1, 0, NULL, 0, &reply, NULL, 0), -EINVAL), UNTOUCHED("NULL with a length");
+    wants("too many bytes of a log", refskold_log(&m, trans, 7, 0, block, 4097), -EINVAL);
     q.word = REFSKOLD_READ;
     wants("asks", refskold_call(&m, &q, NULL, 0, 0, NULL, 0, &reply, NULL, 0), REFSKOLD_ASKS), wants("asks for", (long)reply.number, 7);
     before = reply;
@@ -195,7 +196,10 @@ static void bad_callers(void) {
     wants("no such end", refskold_end(&m, 1, 0, 1, &reply), -EINVAL), UNTOUCHED("no such end");
     wants("no such flush", refskold_flush(&m, 1, 0, 0, 1, &reply), -EINVAL), UNTOUCHED("no such flush");
     wants("no such piece", refskold_piece(&m, 0, room, 4096), -EINVAL);
-    wants("log", refskold_log(&m, trans, 7, 0, "x", 1), 0), wants("commit", refskold_commit(&m, trans, &reply), 0);
+    q.word = REFSKOLD_LOG, q.first = 1;
+    wants("log by words", refskold_call(&m, &q, "y", 1, 0, NULL, 0, &reply, NULL, 0), 0), wants("its reply", (long)reply.word, REFSKOLD_OK);
+    wants("log", refskold_log(&m, trans, 7, 0, "x", 1), 0), wants("view", refskold_view(&m, trans, 7, room), 0), wants("both", memcmp(room, "xy", 2), 0);
+    wants("commit", refskold_commit(&m, trans, &reply), 0);
     wants("force", refskold_force(&m, &trans), 0);
     wants("take", refskold_take(&m, 0, &serial), REFSKOLD_TAKEN);
     wants("begin another", refskold_begin(&m, serial + 1, &reply), -EINVAL);
@@ -257,7 +261,16 @@ static void small_blocks(void) {
     wants("mapped homes there", refskold_homes_mapped(&m, &plan, device, sizeof device), 1);
     wants("its place", memcmp(device + 7 * SMALL, room, SMALL), 0);
     wants("before it", untouched(0, 7 * SMALL), 1), wants("behind it", untouched(8 * SMALL, sizeof device - 8 * SMALL), 1);
-    wants("flush there", refskold_flush(&m, serial, 1, 1, 1, &reply), 0), wants("unmount there", refskold_unmount(&m), 0);
+    memset(device, 0x5a, sizeof device), memset(&reply, 0x5a, sizeof reply);
+    wants("a flush into 7", refskold_flush_mapped(&m, serial, device, 8 * SMALL - 1, &reply), -EINVAL);
+    wants("a flush of another serial", refskold_flush_mapped(&m, serial + 1, device, sizeof device, &reply), -EINVAL);
+    wants("device untouched", untouched(0, sizeof device), 1), wants("reply untouched", reply.word, 0x5a5a5a5a);
+    wants("flush there", refskold_flush_mapped(&m, serial, device, 8 * SMALL, &reply), 0);
+    wants("flushed", reply.word, REFSKOLD_FLUSHED), wants("one block", (long)reply.number, 1);
+    wants("its place", memcmp(device + 7 * SMALL, room, SMALL), 0);
+    wants("before it", untouched(0, 7 * SMALL), 1), wants("behind it", untouched(8 * SMALL, sizeof device - 8 * SMALL), 1);
+    wants("flushed twice", refskold_flush_mapped(&m, serial, device, sizeof device, NULL), -EINVAL);
+    wants("unmount there", refskold_unmount(&m), 0);
 }
 
 int main(void) {

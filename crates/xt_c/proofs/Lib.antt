@@ -1,3 +1,4 @@
+pub mod ChangeLemmas
 pub mod ElementLemmas
 pub mod HomeLemmas
 mod LooseSteps

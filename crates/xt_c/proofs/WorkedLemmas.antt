@@ -1,5 +1,5 @@
 -- Job steps: which one is due, and what a handle makes of one.
-use Rattle.std.proofs.Common.{Bool, None, Option, Some, [], ap, cond, eq-eqb, inl, length, subst, sym, true, ℕ, ℤ, ◌∙◌, ◌≡◌, refl}
+use Rattle.std.proofs.Common.{Bool, None, Option, Some, [], ap, cond, eq-eqb, inl, length, subst, sym, true, ℕ, ℤ, ◌&&◌, ◌/◌, ◌∙◌, ◌≡◌, refl}
 use Rattle.xt_base.specs.Calls.{Outcome, gives}
 use Rattle.xt_base.specs.Jobs.{flush, flush_plan, is_waiting}
 use Rattle.xt_base.specs.State.{State}
@@ -7,7 +7,7 @@ use Rattle.xt_base.specs.declared.names.JobKind.TheVariants.{Flush}
 use Rattle.xt_base.specs.declared.steps.Reply.{Reply}
 use Rattle.xt_c.specs.Replies.{Shows}
 use Rattle.xt_c.specs.Status.{status_of}
-use Rattle.xt_c.specs.Working.{IsStep, IsWorked, flush_by, flush_of, home_answers, name_in, worked}
+use Rattle.xt_c.specs.Working.{IsStep, IsWorked, flush_by, flush_into, flush_of, home_answers, lie_below, name_in, worked}
 use Rattle.xt_c.specs.declared.words.ReplyWords.{ReplyWords}
 
 -- a step that was taken is told
@@ -22,6 +22,13 @@ pub due : (serial count written synced : ℕ) (m : State) → is_waiting (name_i
 due serial count written synced m waits same =
     ap (λ b. cond b (flush_by count written synced (flush_plan m) m) None) waits
     ∙ ap (λ b. cond b (Some (flush [] (home_answers (length (flush_plan m)) written synced) m)) None) (eq-eqb count (length (flush_plan m)) same)
+
+-- the flush of a job that waits, of blocks that are all whole within a device
+pub due_into : (serial bytes : ℕ) (m : State) → is_waiting (name_in Flush serial m) m ≡ true → lie_below (bytes / m.form.size) (flush_plan m) ≡ true
+    → flush_into serial bytes m ≡ Some (flush [] (home_answers (length (flush_plan m)) 255 1) m)
+due_into serial bytes m waits within =
+    ap (λ b. cond (b && lie_below (bytes / m.form.size) (flush_plan m)) (Some (flush [] (home_answers (length (flush_plan m)) 255 1) m)) None) waits
+    ∙ ap (λ b. cond b (Some (flush [] (home_answers (length (flush_plan m)) 255 1) m)) None) within
 
 -- a step of a mount is one of the handle that holds it
 pub moved : (wants : Reply → Bool) (step : State → Option Outcome) (old new : Option State) (m m' : State) (status : ℤ) (w w' : ReplyWords)

@@ -29,10 +29,11 @@ abbrev pub IsMade : Option Errno → State → ℤ → Option State → Option S
 IsMade (Some e) made status new old = (status ≡ refusal e) × (new ≡ old)
 IsMade None made status new old = (status ≡ pos 0) × (new ≡ Some made)
 
--- an open: a new mount of the life after the last, with blocks of a size where one is said; or ENOMEM, and nothing is changed
+-- an open: a new mount of the life after the last, with blocks of a size where one is said; or, where nothing refuses it, ENOMEM, and nothing is changed
 abbrev pub IsOpened : ℕ → ℕ → ℕ → Option ℕ → ℤ → Option State → Option State → Type 0
 IsOpened last log_bytes blocks size status new old =
-    IsMade (open_refusal last log_bytes blocks size old) (mount_of 0 (last + 1) log_bytes blocks (form_of size)) status new old ⊎ ((status ≡ refusal NoMemory) × (new ≡ old))
+    IsMade (open_refusal last log_bytes blocks size old) (mount_of 0 (last + 1) log_bytes blocks (form_of size)) status new old
+    ⊎ ((open_refusal last log_bytes blocks size old ≡ None) × (status ≡ refusal NoMemory) × (new ≡ old))
 
 -- ---- a call
 -- what a call comes to before it is served: it is barred, the home device is to be asked for a block, or it is served with this answer

@@ -4,5 +4,6 @@ pub mod Status
 pub mod Requests
 pub mod Replies
 pub mod Calling
+pub mod Changing
 pub mod Working
 pub mod Verdicts

@@ -1,6 +1,6 @@
 -- What becomes of a mount whose jobs a caller does.
 use Rattle.std.specs.List.{list_all}
-use Rattle.std.specs.Prelude.{Bool, List, MatchBool, None, Option, Some, [], bit_and, drop, false, flat_map, fold, if◌then◌else◌, length, nat_le, nat_lt, not, pos, slice_get, take, true, unwrap_or, ℕ, ℤ, ◌*◌, ◌++◌, ◌+◌, ◌/◌, ◌==◌, ◌∷◌, ◌≡◌, ◌⊎◌}
+use Rattle.std.specs.Prelude.{Bool, List, MatchBool, None, Option, Some, [], bit_and, drop, false, flat_map, fold, if◌then◌else◌, length, nat_le, nat_lt, not, pos, slice_get, take, true, unwrap_or, ℕ, ℤ, ◌&&◌, ◌*◌, ◌++◌, ◌+◌, ◌/◌, ◌==◌, ◌∷◌, ◌≡◌, ◌⊎◌}
 use Rattle.xt_base.specs.Calls.{Outcome, gives}
 use Rattle.xt_base.specs.Jobs.{begin, end, flight_pieces, flush, flush_plan, is_begun, is_waiting, posted}
 use Rattle.xt_base.specs.Maps.{at}
@@ -186,3 +186,23 @@ flush_by count written synced plan m = if count == length plan then Some (flush 
 -- the flush of a job that waits
 abbrev pub flush_of : ℕ → ℕ → ℕ → ℕ → State → Option Outcome
 flush_of serial count written synced m = if is_waiting (name_in Flush serial m) m then flush_by count written synced (flush_plan m) m else None
+
+-- ---- a flush straight into memory
+-- the flush of a job that waits, where its blocks are all whole within a home device of so many: each write was good, and the sync
+abbrev pub flush_within : ℕ → ℕ → State → Option Outcome
+flush_within serial blocks m =
+    if is_waiting (name_in Flush serial m) m && lie_below blocks (flush_plan m) then Some (flush [] (home_answers (length (flush_plan m)) 255 1) m) else None
+
+-- the same of a device of so many bytes
+abbrev pub flush_into : ℕ → ℕ → State → Option Outcome
+flush_into serial bytes m = flush_within serial (bytes / m.form.size) m
+
+-- a device after a flush, if there was one: with the contents of its blocks, each at its own place
+abbrev pub written_by : Option Outcome → State → List ℕ → List ℕ
+written_by None m device = device
+written_by (Some o) m device = with_homes m (flush_plan m) device
+
+-- the same of a handle, which may hold no mount
+abbrev pub written_into : ℕ → Option State → List ℕ → List ℕ
+written_into serial None device = device
+written_into serial (Some m) device = written_by (flush_into serial (length device) m) m device

@@ -22,7 +22,7 @@ use xt_base::steps::{Answer, Errno, Reply, Request};
 use xt_mount::mount::Mount;
 
 /// What a call returns where the home device must be asked.
-const ASKS: i32 = 1;
+pub(crate) const ASKS: i32 = 1;
 
 /// Why a request is not served yet.
 enum Unserved {

@@ -194,7 +194,7 @@ fn has_bit(bits: u32, bit: u32) -> bool
 }
 
 /// What the home device answered to so many writes: bit k for the write k, and to the sync.
-fn home_answers(count: u8, written: u32, synced: u32) -> HomeAnswers
+pub fn home_answers(count: u8, written: u32, synced: u32) -> HomeAnswers
     ensures { result ≡ home_answers count written synced }
 {
     HomeAnswers {

@@ -5,6 +5,7 @@
 #![tactic(auto)]
 
 mod calls;
+mod changes;
 mod checkpoints;
 mod flushes;
 mod handle;

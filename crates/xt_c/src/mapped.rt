@@ -3,15 +3,17 @@
 ghost use Rattle.std.specs.Prelude.{◌≡◌, ◌<◌, ◌*◌, ◌/◌, All, Some, length, true};
 ghost use Rattle.xt_base.specs.Maps.{is_in};
 ghost use Rattle.xt_c.specs.Holding.{held};
-ghost use Rattle.xt_c.specs.Working.{AreMappedHomesOf, lie_below, with_home, with_homes};
+ghost use Rattle.xt_c.specs.Working.{AreMappedHomesOf, IsWorked, flush_into, lie_below, wants_none, with_home, with_homes, worked, written_into};
 ghost use Rattle.xt_mount.specs.Accounts.{IsUnchanged};
 
-use crate::flushes::{content_of, put_content_at, put_plan};
+use crate::flushes::{content_of, home_answers, put_content_at, put_plan};
 use crate::handle::Handle;
-use crate::status::refusal;
-use crate::words::PlanWords;
+use crate::jobs::waiting;
+use crate::replies::put_reply;
+use crate::status::{refusal, status_of};
+use crate::words::{PlanWords, ReplyWords};
 use std::alloc::Global;
-use xt_base::names::Block;
+use xt_base::names::{Block, JobKind};
 use xt_base::steps::Errno;
 use xt_mount::mount::Mount;
 
@@ -80,6 +82,53 @@ pub extern "C" fn refskold_abi_homes_mapped(
         return refusal(Errno::NoDevice);
     };
     let status = homes_mapped(&mount, plan, device);
+    handle.put(mount);
+    status
+}
+
+/// Every write of a flush was good: a bit for each.
+const ALL_WRITTEN: u32 = 255;
+
+/// Ends a flush that waits: the contents of its blocks are copied each to its own place in a device, and each write was good.
+fn flush_into(mount: &mut Mount, serial: u64, device: &mut [u8], reply: &mut ReplyWords) -> i32
+    requires { mount.old.slot ≡ 0 }
+    ensures flushed { IsWorked wants_none (flush_into serial (length device.old)) (Some mount.old) result (worked reply.new (Some mount.new)) (worked reply.old (Some mount.old)) }
+    ensures device { device.new ≡ written_into serial (Some mount.old) device.old }
+    ensures slot { mount.new.slot ≡ 0 }
+{
+    let Some(name) = waiting(mount, JobKind::Flush, serial) else {
+        return refusal(Errno::Invalid);
+    };
+    let Ok(plan) = mount.flush_plan() else {
+        unreachable!();
+    };
+    let count = device.len() / mount.form().block_bytes();
+    if !lie_below(count, plan.blocks()) {
+        return refusal(Errno::Invalid);
+    }
+    put_homes(mount, plan.blocks(), device);
+    let told = mount.flush_planned(name, &plan, home_answers(plan.count(), ALL_WRITTEN, 1));
+    put_reply(reply, &told);
+    status_of(&told)
+}
+
+/// Ends a flush of a home device that lies in memory and needs no sync: what is written of each block is copied to its own place, and the reply is
+/// written. EINVAL where no such flush waits, or the device is too short for one of its blocks, and nothing is changed.
+#[unsafe(no_mangle)]
+pub extern "C" fn refskold_abi_flush_mapped(
+    alloc: Global,
+    handle: &mut Handle,
+    serial: u64,
+    device: &mut [u8],
+    reply: &mut ReplyWords,
+) -> i32
+    ensures flushed { IsWorked wants_none (flush_into serial (length device.old)) (held handle.old) result (worked reply.new (held handle.new)) (worked reply.old (held handle.old)) }
+    ensures device { device.new ≡ written_into serial (held handle.old) device.old }
+{
+    let Some(mut mount) = handle.take(alloc) else {
+        return refusal(Errno::NoDevice);
+    };
+    let status = flush_into(&mut mount, serial, device, reply);
     handle.put(mount);
     status
 }

@@ -63,8 +63,12 @@ pub fn new_mount(
     size: Option<u32>,
 ) -> Result<Box<Mount>, Errno>
     ensures ok { IfOk result (λ mount. (first_of (new_refusals last log_bytes blocks size) ≡ None) × (mount.value ≡ mount_of 0 (last + 1) log_bytes blocks (form_of size))) }
-    ensures err { IfErr result (λ errno. (first_of (new_refusals last log_bytes blocks size) ≡ Some errno) ⊎ (errno ≡ NoMemory)) }
+    ensures err { IfErr result (λ errno. (first_of (new_refusals last log_bytes blocks size) ≡ Some errno) ⊎ ((first_of (new_refusals last log_bytes blocks size) ≡ None) × (errno ≡ NoMemory))) }
 {
+    // before any memory is asked for, so that no refusal hides behind want of it
+    if let Some(errno) = Mount::refusal(Life(last), log_bytes, blocks, size) {
+        return Err(errno);
+    }
     let share = share_of_one(alloc)?;
     match Mount::new(alloc, share, Life(last), log_bytes, blocks, size) {
         Ok(mount) => match Box::new(alloc, mount) {

@@ -41,6 +41,7 @@ impl Machine {
 
     /// Opens a transaction of `count` legs of `unit` log bytes. Where no space is left, a checkpoint and a
     /// flush are asked.
+    #[inline(always)]
     pub fn alloc(&mut self, unit: u32, count: u32, perm: bool) -> Result<Reply, AllocError>
         requires { IsSound (state_of self.old) }
         ensures ok { IfOk result (λ reply. gives reply (state_of self.new) ≡ alloc_step unit count perm (state_of self.old)) }

@@ -35,6 +35,7 @@ impl Machine {
 
     /// Ends a transaction. Its changes are committed under the open number; on a shut mount a dirty leg is
     /// given up, which is EIO. The one error is want of memory to name the held blocks, and then nothing changes.
+    #[inline(always)]
     pub fn commit(&mut self, trans: TransNo) -> Result<Reply, AllocError>
         requires sound { IsSound (state_of self.old) }
         requires sized { IsSized (state_of self.old) }

@@ -91,6 +91,7 @@ impl Machine {
 
     /// Writes bytes in the leg of a transaction, from `first` on, and marks their chunks. The room for the log vector that a commit makes of
     /// them is taken here, so that a commit takes none.
+    #[inline(always)]
     pub fn log(
         &mut self,
         trans: TransNo,

@@ -10,6 +10,7 @@ ghost use Rattle.xt_base.specs.Order.{has_size, is_there};
 ghost use Rattle.xt_base.specs.State.{mount_of};
 ghost use Rattle.xt_base.specs.declared.steps.Answer.TheVariants as Answered;
 ghost use Rattle.xt_base.specs.declared.steps.Errno.TheVariants.{NoMemory};
+ghost use Rattle.xt_base.specs.declared.steps.Request.TheVariants.{Alloc, Commit, Log, Read};
 ghost use Rattle.xt_frames.specs.Shares.{no_contents};
 ghost use Rattle.xt_mount.specs.Accounts.{IsUnchanged};
 ghost use Rattle.xt_mount.specs.Come.{new_refusals, owed_name, read_block, spent_log as spent_log_of};
@@ -21,8 +22,9 @@ use crate::state::State;
 use bytes::Bytes;
 use std::alloc::Global;
 use std::marker::Model;
+use xt_base::data_ref::DataRef;
 use xt_base::form::Form;
-use xt_base::names::{Block, JobKind, JobName, Life};
+use xt_base::names::{Block, JobKind, JobName, Life, TransNo};
 use xt_base::sizes::{LEAST_LOG, MOST_BLOCKS, MOST_LOG, PIECE_BYTES, TEXT_PIECES};
 use xt_base::steps::{Answer, Errno, HomeAnswers, LogAnswers, Reason, Reply, Request};
 use xt_frames::share::FrameShare;
@@ -80,19 +82,32 @@ impl Mount {
         ensures err { IfErr result (λ refused. (first_of (new_refusals last log_bytes blocks size) ≡ Some refused.0) ⊎ ((first_of (new_refusals last log_bytes blocks size) ≡ None) × (refused.0 ≡ NoMemory))) }
         ensures back { IfErr result (λ refused. refused.1 ≡ share) }
     {
-        if log_bytes < LEAST_LOG || log_bytes > MOST_LOG || blocks == 0 || blocks > MOST_BLOCKS {
-            return Err((Errno::Invalid, share));
+        if let Some(errno) = Mount::refusal(last, log_bytes, blocks, size) {
+            return Err((errno, share));
         }
         let Some(form) = Form::of(size) else {
-            return Err((Errno::Invalid, share));
+            unreachable!();
         };
-        if last.0 == u32::MAX {
-            return Err((Errno::NoSpace, share));
-        }
         match Machine::new(alloc, form, share, Life(last.0 + 1), log_bytes, blocks) {
             Ok(machine) => Ok(Mount { machine }),
             Err(share) => Err((Errno::NoMemory, share)),
         }
+    }
+
+    /// What refuses a new mount: `Invalid` where a size is outside its range, `NoSpace` where the last life is the greatest.
+    pub fn refusal(last: Life, log_bytes: u32, blocks: u64, size: Option<u32>) -> Option<Errno>
+        ensures { result ≡ first_of (new_refusals last log_bytes blocks size) }
+    {
+        if log_bytes < LEAST_LOG || log_bytes > MOST_LOG || blocks == 0 || blocks > MOST_BLOCKS {
+            return Some(Errno::Invalid);
+        }
+        if Form::of(size).is_none() {
+            return Some(Errno::Invalid);
+        }
+        if last.0 == u32::MAX {
+            return Some(Errno::NoSpace);
+        }
+        None
     }
 
     /// Ends the mount: the share of its slot, without contents, for the next life. What is idle in one life is no part of the next. It
@@ -201,6 +216,55 @@ impl Mount {
         match request {
             Request::Read { trans, block } => self.machine.try_read(*trans, *block),
             _ => Ok(self.serve(request, &Answer::None)),
+        }
+    }
+
+    /// Opens a transaction, as `serve` does, by its own arguments.
+    #[inline(always)]
+    pub fn alloc(&mut self, unit: u32, count: u32, perm: bool) -> Reply
+        ensures served { IsCallUnlessMemory (may_want_memory (Alloc unit count perm)) (alone_with [] (Alloc unit count perm) Answered.None self.old) result self.new self.old }
+        ensures same { IsSameMount self.new self.old }
+    {
+        match self.machine.alloc(unit, count, perm) {
+            Ok(reply) => reply,
+            Err(_) => Reply::Refused(Errno::NoMemory),
+        }
+    }
+
+    /// Locks a block with its content, as `try_serve` does, by its own arguments.
+    #[inline(always)]
+    pub fn try_read(&mut self, trans: TransNo, block: Block) -> Result<Reply, Block>
+        ensures unasked { IfOk result (λ _. asks (Read trans block) self.old ≡ false) }
+        ensures asked { IfErr result (λ _. asks (Read trans block) self.old ≡ true) }
+        ensures block { IfErr result (λ asked. asked ≡ block) }
+        ensures served { IfOk result (λ reply. gives reply self.new ≡ alone_with [] (Read trans block) Answered.None self.old) }
+        ensures kept { IfErr result (λ _. self.new ≡ self.old) }
+        ensures same { IsSameMount self.new self.old }
+    {
+        self.machine.try_read(trans, block)
+    }
+
+    /// Writes bytes of a block, as `serve` does, that are borrowed: they are copied once, to where they are kept.
+    #[inline(always)]
+    pub fn log(&mut self, trans: TransNo, block: Block, first: u32, bytes: &DataRef<'_>) -> Reply
+        ensures served { IsCallUnlessMemory (may_want_memory (Log first trans block bytes.now)) (alone_with [] (Log first trans block bytes.now) Answered.None self.old) result self.new self.old }
+        ensures same { IsSameMount self.new self.old }
+    {
+        match self.machine.log(trans, block, first, bytes) {
+            Ok(reply) => reply,
+            Err(_) => Reply::Refused(Errno::NoMemory),
+        }
+    }
+
+    /// Ends a transaction, as `serve` does, by its number.
+    #[inline(always)]
+    pub fn commit(&mut self, trans: TransNo) -> Reply
+        ensures served { IsCallUnlessMemory (may_want_memory (Commit trans)) (alone_with [] (Commit trans) Answered.None self.old) result self.new self.old }
+        ensures same { IsSameMount self.new self.old }
+    {
+        match self.machine.commit(trans) {
+            Ok(reply) => reply,
+            Err(_) => Reply::Refused(Errno::NoMemory),
         }
     }
 

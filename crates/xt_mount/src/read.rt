@@ -151,6 +151,7 @@ impl Machine {
 
     /// Locks a block with its content where that asks no home device; else nothing changes, and the device is to be asked for the block
     /// first. It takes no memory.
+    #[inline(always)]
     pub fn try_read(&mut self, trans: TransNo, block: Block) -> Result<Reply, Block>
         requires { IsSound (state_of self.old) }
         ensures served { IfOk result (λ reply. gives reply (state_of self.new) ≡ with_trans (at trans self.old.accounts.transactions) (state_of self.old) (read_step trans block Answered.None (state_of self.old))) }
