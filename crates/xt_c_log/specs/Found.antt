@@ -19,10 +19,11 @@ pub record HasFound (input : List ℕ) (told : FoundWords) : Type 0 where
   pub begins : Begins input checkpoint len
   pub found : IsFound checkpoint len told
 
--- a reading: 1 found; 0 the input ends within a field, and no text begins it; 2 the first field that breaks its rule is at the byte that is told; ENOMEM
-abbrev pub IsRead : List ℕ → ℤ → FoundWords → Type 0
-IsRead input status told =
+-- a reading: 1 found; 0 the input ends within a field, and no text begins it; 2 the first field that breaks its rule is at the byte that is told, and that
+-- is all that is told; ENOMEM. Of 0 and ENOMEM nothing is told
+abbrev pub IsRead : List ℕ → ℤ → FoundWords → FoundWords → Type 0
+IsRead input status told before =
     ((status ≡ pos 1) × HasFound input told)
-    ⊎ ((status ≡ pos 0) × BeginsNoText input × IsUnfinished input)
-    ⊎ ((status ≡ pos 2) × IsFaultAt told.bytes input)
-    ⊎ (status ≡ negsuc 11)
+    ⊎ ((status ≡ pos 0) × BeginsNoText input × IsUnfinished input × (told ≡ before))
+    ⊎ ((status ≡ pos 2) × IsFaultAt told.bytes input × (told ≡ record before { bytes = told.bytes }))
+    ⊎ ((status ≡ negsuc 11) × (told ≡ before))

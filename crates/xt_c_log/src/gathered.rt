@@ -1,9 +1,9 @@
 //! What the texts of a log say.
 
 ghost use Rattle.std.specs.BTreeMap.{keys};
-ghost use Rattle.std.specs.Prelude.{◌≡◌, IfErr, IfOk, Some, slice_get};
+ghost use Rattle.std.specs.Prelude.{◌≡◌, IfErr, IfOk, List, Some, slice_get, ℕ};
 ghost use Rattle.xt_c_log.specs.Texts.{IsOf};
-ghost use Rattle.xt_c_log.specs.Told.{IsBlock, IsBlockOf, IsLaid, IsOpen, IsRefused};
+ghost use Rattle.xt_c_log.specs.Told.{IsBlock, IsBlockOf, IsLaid, IsRefused, IsTold};
 ghost use Rattle.xt_recover.specs.Gathering.{IsWhyLog};
 
 use crate::reading::size_of;
@@ -45,7 +45,7 @@ fn blocks_of(alloc: Global, overlay: &Overlay) -> Result<Vec<u64>, AllocError>
 }
 
 /// Gathers the texts of a log.
-fn gather_texts(alloc: Global, log: &[u8]) -> Result<Gathered, LogFault>
+pub fn gather_texts(alloc: Global, log: &[u8]) -> Result<Gathered, LogFault>
     ensures ok { IfOk result (λ gathered. IsOf log.now gathered) }
     ensures why { IfErr result (λ fault. IsWhyLog log.now fault) }
 {
@@ -61,29 +61,36 @@ fn gather_texts(alloc: Global, log: &[u8]) -> Result<Gathered, LogFault>
     })
 }
 
-/// Gathers the texts of a log, and writes what is told of it. Else what is to be returned: 1, and the field at the byte that is written breaks its rule; 2,
+impl Gathered {
+    /// What is told of a log that was gathered, beside what stands in these words.
+    pub fn told(&self, before: &LogWords) -> LogWords
+        ensures { IsTold result before.now self.now }
+    {
+        LogWords {
+            texts: self.counts.texts,
+            rest: self.counts.rest,
+            blocks: self.blocks.len() as u64,
+            size: size_of(self.overlay.size()),
+            at: before.at,
+        }
+    }
+}
+
+/// Writes what is told of a log that could not be gathered, and what is to be returned: 1, and the field at the byte that is written breaks its rule; 2,
 /// and the text that begins there says something else of the size of a block than those before it; ENOMEM.
-pub fn read_log(alloc: Global, log: &[u8], told: &mut LogWords) -> Result<Gathered, i32>
-    ensures ok { IfOk result (λ gathered. IsOpen log.now told.new gathered) }
-    ensures refused { IfErr result (λ status. IsRefused log.now status told.new) }
+pub fn put_fault(fault: LogFault, told: &mut LogWords) -> i32
+    ensures { (log : List ℕ) → IsWhyLog log fault → IsRefused log result told.new told.old }
 {
-    match gather_texts(alloc, log) {
-        Ok(gathered) => {
-            told.texts = gathered.counts.texts;
-            told.rest = gathered.counts.rest;
-            told.blocks = gathered.blocks.len() as u64;
-            told.size = size_of(gathered.overlay.size());
-            Ok(gathered)
-        }
-        Err(LogFault::Broken(at)) => {
+    match fault {
+        LogFault::Broken(at) => {
             told.at = at;
-            Err(BROKEN)
+            BROKEN
         }
-        Err(LogFault::Mixed(at)) => {
+        LogFault::Mixed(at) => {
             told.at = at;
-            Err(MIXED)
+            MIXED
         }
-        Err(_) => Err(NO_MEMORY),
+        _ => NO_MEMORY,
     }
 }
 

@@ -4,7 +4,7 @@ ghost use Rattle.std.specs.Prelude.{◌≡◌, IfErr, IfOk, IsSomeAnd, Some};
 ghost use Rattle.xt_c_log.specs.Logs.{Bytes, bytes_of, texts_of};
 ghost use Rattle.xt_c_log.specs.Told.{IsBlockOf, IsEnded, IsFed, IsLaid, IsOpen, IsRefused};
 
-use crate::gathered::{Gathered, read_log};
+use crate::gathered::{Gathered, gather_texts, put_fault};
 use crate::status::{BUSY, NO_DEVICE, NO_MEMORY};
 use crate::words::LogWords;
 use std::alloc::{AllocError, Global};
@@ -46,12 +46,20 @@ impl HeldLog {
 
     /// A log that came whole, read, in a box; else what is to be returned.
     pub fn of_texts(alloc: Global, bytes: &[u8], told: &mut LogWords) -> Result<Box<HeldLog>, i32>
-        ensures ok { IfOk result (λ log. IsSomeAnd (texts_of (Some log.value)) (IsOpen bytes.now told.new)) }
-        ensures refused { IfErr result (λ status. IsRefused bytes.now status told.new) }
+        ensures ok { IfOk result (λ log. IsSomeAnd (texts_of (Some log.value)) (IsOpen bytes.now told.new told.old)) }
+        ensures refused { IfErr result (λ status. IsRefused bytes.now status told.new told.old) }
     {
-        let state = State::Read(read_log(alloc, bytes, told)?);
+        let gathered = match gather_texts(alloc, bytes) {
+            Ok(gathered) => gathered,
+            Err(fault) => return Err(put_fault(fault, told)),
+        };
+        let words = gathered.told(told);
+        let state = State::Read(gathered);
         match Box::new(alloc, HeldLog { state }) {
-            Ok(log) => Ok(log),
+            Ok(log) => {
+                *told = words;
+                Ok(log)
+            }
             Err(_) => Err(NO_MEMORY),
         }
     }
@@ -71,17 +79,18 @@ impl HeldLog {
 
     /// Reads the texts of the bytes that came, which it holds no more then. EBUSY where they were read.
     pub fn end(&mut self, alloc: Global, told: &mut LogWords) -> i32
-        ensures { IsEnded (bytes_of (Some self.old)) result told.new (Some self.new) (Some self.old) }
+        ensures { IsEnded (bytes_of (Some self.old)) result told.new told.old (Some self.new) (Some self.old) }
     {
         let State::Came(bytes) = &self.state else {
             return BUSY;
         };
-        match read_log(alloc, bytes, told) {
+        match gather_texts(alloc, bytes) {
             Ok(gathered) => {
+                *told = gathered.told(told);
                 self.state = State::Read(gathered);
                 0
             }
-            Err(status) => status,
+            Err(fault) => put_fault(fault, told),
         }
     }
 

@@ -14,7 +14,7 @@ use std::alloc::Global;
 /// Gathers the texts of a log, which a handle that holds nothing then holds.
 fn open(alloc: Global, handle: &mut Handle, log: &[u8], told: &mut LogWords) -> i32
     requires closed { held handle.old ≡ None }
-    ensures { IsGathering log.now result told.new (held handle.new) (held handle.old) }
+    ensures { IsGathering log.now result told.new told.old (held handle.new) (held handle.old) }
 {
     match HeldLog::of_texts(alloc, log, told) {
         Ok(read) => {
@@ -34,7 +34,7 @@ pub extern "C" fn refskold_abi_log_open(
     log: &[u8],
     told: &mut LogWords,
 ) -> i32
-    ensures { IsOpened result log.now told.new (held handle.new) (held handle.old) }
+    ensures { IsOpened result log.now told.new told.old (held handle.new) (held handle.old) }
 {
     if let Some(held) = handle.take(alloc) {
         handle.put(held);
@@ -70,7 +70,7 @@ pub extern "C" fn refskold_abi_log_end(
     handle: &mut Handle,
     told: &mut LogWords,
 ) -> i32
-    ensures { IsEnded (bytes_of (held handle.old)) result told.new (held handle.new) (held handle.old) }
+    ensures { IsEnded (bytes_of (held handle.old)) result told.new told.old (held handle.new) (held handle.old) }
 {
     if let Some(mut held) = handle.take(alloc) {
         let status = held.end(alloc, told);

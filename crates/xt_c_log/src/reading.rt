@@ -42,7 +42,7 @@ pub extern "C" fn refskold_abi_read_checkpoint(
     input: &[u8],
     found: &mut FoundWords,
 ) -> i32
-    ensures { IsRead input.now result found.new }
+    ensures { IsRead input.now result found.new found.old }
 {
     match read_checkpoint(alloc, input) {
         Ok(Some((checkpoint, bytes))) => {
