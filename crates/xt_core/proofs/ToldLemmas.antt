@@ -1,24 +1,17 @@
 -- What steps told one after another is what a run of them tells.
-use Rattle.std.proofs.Common.{◌≡◌, ◌∙◌, ◌+◌, ◌<◌, ◌≤◌, ◌++◌, ◌∷◌, List, Option, [], ap, append_assoc, drop, false, get_or, inl, inr, length, refl, subst, suc, sym, take, true≢false, zero, ℕ}
+use Rattle.std.proofs.Common.{◌≡◌, ◌∙◌, ◌+◌, ◌<◌, ◌≤◌, ◌++◌, ◌∷◌, List, Option, [], ap, false, get_or, inl, inr, length, refl, subst, sym, take, true≢false, ℕ}
 use Rattle.std.proofs.lemmas.Bool.{cases_Bool}
-use Rattle.std.proofs.lemmas.List.{append-nil, take-append-drop, take_all, take_more}
+use Rattle.std.proofs.lemmas.List.{take_all, take_more}
 use Rattle.std.proofs.lemmas.Option.{get_or_from_slice_get}
 use Rattle.std.specs.Prelude.{Err, IfOk, MatchResult, Ok, Result, if◌then◌else◌, is_ok}
 use Rattle.xt_base.specs.Alone.{Said, reason_of}
-use Rattle.xt_base.specs.Isolation.{BreaksAt, Tells, Told, events, is_no_memory, told_refused, told_taken, told_then, untold}
-use Rattle.xt_base.specs.Order.{Event}
-use Rattle.xt_base.specs.Sound.{Each}
-use Rattle.xt_base.specs.State.{Lone}
+use Rattle.xt_base.specs.Isolation.{BreaksAt, Tells, Told, is_no_memory, told_refused, told_taken, told_then, untold}
 use Rattle.xt_base.specs.Steps.{slot_of}
-use Rattle.xt_base.specs.declared.names.JobName.{JobName}
 use Rattle.xt_base.specs.declared.outcomes.RunFault.TheVariants.{Disorder}
-use Rattle.xt_base.specs.declared.steps.Errno.TheVariants.{NoMemory}
 use Rattle.xt_base.specs.declared.steps.Reason.{Reason}
-use Rattle.xt_base.specs.declared.steps.Reply.TheVariants.{Refused}
 use Rattle.xt_base.specs.declared.steps.Step.{Step}
 use Rattle.xt_core.proofs.HostRunLemmas.{IsHostRun, end_tells, go_on, host_more, host_none, stop}
-use Rattle.xt_core.proofs.RunLemmas.{IsAfter, after_refused, after_tells}
-use Rattle.xt_core.specs.Host.{Host, IsNew, hand_at, lone_of, may_come}
+use Rattle.xt_core.specs.Host.{Host, IsNew, lone_of, may_come}
 use Rattle.xt_core.specs.Runs.{AreTurnsOf, IsBarred, IsMore, IsSaid, IsToldBy}
 
 -- a run told these turns, and led to a host
@@ -98,30 +91,3 @@ module _ (steps : List Step) (at : ℕ) (o : Told) (host : Host) (a : IsRunSoFar
     -- the step there may not come
     pub stop_barred : may_come host x ≡ false → IsBarred steps (Disorder at o)
     stop_barred cannot = (host, (a.told, λ y there. ap (may_come host) (sym (is ∙ get_or_from_slice_get steps at y x there)) ∙ cannot))
-
--- ---- a beginning of a run
--- a step was refused memory
-abbrev unserved : Step → Said
-unserved x = record { slot = slot_of x; reply = Refused NoMemory; log = []; home = [] }
-
--- a run in which all further steps are refused memory goes on with these turns
-go_unserved : (rest done : List Step) (h : List Event) (o : Told) (queue : List JobName) (hand : ℕ → Option JobName) (lone : ℕ → Lone) → IsAfter done h o queue hand lone → Each (λ x. slot_of x < 16) rest
-    → (p : Told) × ((more : List Said) × ((p.turns ≡ o.turns ++ more) × Tells (done ++ rest) p))
-go_unserved [] done h o queue hand lone a small =
-    (o, ([], (sym (append-nil o.turns), subst (λ xs. Tells xs o) (sym (append-nil done)) (after_tells done h o queue hand lone a))))
-go_unserved (x ∷ xs) done h o queue hand lone a small =
-    let why : Option Reason = reason_of (lone (slot_of x)).mounted in
-    let next = go_unserved xs (done ++ x ∷ []) h (told_refused o (unserved x) why) queue hand lone (after_refused done h o queue hand lone x a (unserved x) why small.0 refl hand refl (λ w. refl) refl) small.1 in
-    (next.0, (unserved x ∷ next.1.0, (next.1.1.0 ∙ append_assoc o.turns (unserved x ∷ []) next.1.0, subst (λ ys. Tells ys next.0) (append_assoc done (x ∷ []) xs) next.1.1.1)))
-
-each_drop : (steps : List Step) (at : ℕ) → Each (λ x. slot_of x < 16) steps → Each (λ x. slot_of x < 16) (drop at steps)
-each_drop steps zero small = small
-each_drop [] (suc at) small = tt
-each_drop (x ∷ xs) (suc at) small = each_drop xs at small.1
-
--- what some first steps told is the beginning of what a run of all tells
-pub told_begins : (steps : List Step) (at : ℕ) (turns : List Said) (host : Host) → Each (λ x. slot_of x < 16) steps → IsToldBy (take at steps) turns host → (o : Told) × ((more : List Said) × ((o.turns ≡ turns ++ more) × Tells steps o))
-told_begins steps at turns host small told =
-    let r : IsRunOf (take at steps) turns host = run_of told in
-    let e = go_unserved (drop at steps) (take at steps) (events (take at steps) r.0.turns) r.0 host.queue (hand_at host) (lone_of host) r.1.1.run (each_drop steps at small) in
-    (e.0, (e.1.0, (e.1.1.0 ∙ ap (λ l. l ++ e.1.0) r.1.0, subst (λ xs. Tells xs e.0) (take-append-drop at steps) e.1.1.1)))

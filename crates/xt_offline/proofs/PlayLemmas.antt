@@ -2,19 +2,21 @@
 use Rattle.std.proofs.Common.{◌≡◌, ◌∙◌, ◌+◌, ◌++◌, ◌∷◌, ◌≤◌, ◌<◌, ℕ, List, [], ap, append_assoc, append-nil, cond, get_or, length, take, Option, Some, None, false, inl, inr, refl, subst, sym, true, true≢false}
 use Rattle.std.proofs.lemmas.Bool.{cases_Bool}
 use Rattle.std.proofs.lemmas.Grind.{flat_map-append}
+use Rattle.std.proofs.lemmas.List.{take_all}
 use Rattle.std.proofs.lemmas.List.Concat.{flat_map-cons}
+use Rattle.std.proofs.lemmas.Option.{get_or_from_slice_get}
 use Rattle.std.specs.Prelude.{Err, IfErr, IfOk, IfSome, MatchResult, Ok, OnErr, OnOk, Result, is_ok, ◌==◌}
 use Rattle.std.specs.Io.KnownBytes.{Appends, Keeps}
 use Rattle.xt_base.specs.Alone.{Said}
 use Rattle.xt_base.specs.Isolation.{BreaksAt, Tells, Told}
 use Rattle.xt_base.specs.Sound.{Each}
 use Rattle.xt_base.specs.Steps.{slot_of, strike}
+use Rattle.xt_base.specs.declared.outcomes.RunFault.TheVariants.{Disorder}
 use Rattle.xt_base.specs.declared.steps.Step.{Step}
-use Rattle.xt_base.specs.declared.steps.Step.TheVariants.{Begin, Call, End, Flush, Mount, Peek, Post, Show, Take}
-use Rattle.xt_core.proofs.ToldLemmas.{told_all, told_before, told_begins, told_next}
+use Rattle.xt_core.proofs.ToldLemmas.{told_all, told_before, told_next}
 use Rattle.xt_core.specs.Host.{Host, IsNew, may_come}
-use Rattle.xt_core.specs.Runs.{IsToldBy}
-use Rattle.xt_offline.proofs.AppendLemmas.{appends_kept, appends_more, appends_none, begins_all, begins_longer, begins_same, begins_then, keeps_same}
+use Rattle.xt_core.specs.Runs.{AreTurnsOf, IsBarred, IsToldBy}
+use Rattle.xt_offline.proofs.AppendLemmas.{appends_kept, appends_more, appends_none, begins_all, begins_same, begins_then, keeps_same}
 use Rattle.xt_offline.specs.Printing.{Begins, disorder_text, turn_text, turns_text}
 use Rattle.xt_offline.specs.Script.{is_of_script, picked, status_of, IsBegun, IsCutShort, IsFault, IsFaultIn, IsOutput, IsPlayed, IsPrinted, IsPutBehind, IsReported, IsRun, IsScript}
 use Rattle.xt_offline.specs.declared.fault.ScriptFault.{ScriptFault}
@@ -42,12 +44,12 @@ if_ok (Ok y) q x Q P got cases is held = subst P (ap (value x) (sym cases ∙ go
 if_ok (Err e) q x Q P got cases is held = absurd (true≢false is)
 
 -- what all steps said is what a run of them prints
-pub output_all : (steps : List Step) (told : Told) → Tells steps told → IsOutput steps (turns_text told.turns) 0
-output_all steps told tells = inl (refl, (told, (tells, refl)))
+pub output_all : (steps : List Step) (told : Told) → Tells steps told → AreTurnsOf steps told → IsOutput steps (turns_text told.turns) 0
+output_all steps told tells are = inl (refl, (told, (tells, (are, refl))))
 
 -- what the steps before one that breaks order said, and its place, is what a run of them prints
-pub output_up_to : (steps : List Step) (at : ℕ) (told : Told) → BreaksAt at steps told → IsOutput steps (turns_text told.turns ++ disorder_text at) 3
-output_up_to steps at told breaks = inr (refl, (at, (told, (breaks, refl))))
+pub output_up_to : (steps : List Step) (at : ℕ) (told : Told) → BreaksAt at steps told → IsBarred steps (Disorder at told) → IsOutput steps (turns_text told.turns ++ disorder_text at) 3
+output_up_to steps at told breaks barred = inr (refl, (at, (told, (breaks, (barred, refl)))))
 
 -- ---- step by step
 -- steps led to a host, and what they told was written, but for lines that wait
@@ -82,41 +84,23 @@ way_written done host lines none old now new way more is = record {
   text = way.text ∙ sym (append-nil (way.written ++ lines)) ∙ ap (λ l. (way.written ++ lines) ++ l) (sym is);
 }
 
--- each step names one of sixteen slots
-slot_small : (x : Step) → IsStep x → slot_of x < 16
-slot_small (Mount slot log_bytes blocks size) is = is.0
-slot_small (Call slot life request answer) is = is.0
-slot_small (Post name) is = is.0
-slot_small (Take worker name) is = is.1.0
-slot_small (Begin worker name) is = is.1.0
-slot_small (End worker name answers) is = is.1.0
-slot_small (Flush worker name answers) is = is.1.0
-slot_small (Show slot) is = is
-slot_small (Peek slot) is = is
-
-slots_small : (steps : List Step) → Each IsStep steps → Each (λ x. slot_of x < 16) steps
-slots_small [] is = tt
-slots_small (x ∷ xs) is = (slot_small x is.0, slots_small xs is.1)
-
 module _ (steps : List Step) (at : ℕ) (host : Host) (lines : List ℕ) (old now : Option (List ℕ)) (way : HasPrinted (take at steps) host lines old now) where
   -- all steps were run, and the lines that waited were written
   pub way_all : (new : Option (List ℕ)) → length steps ≤ at → Appends now new lines → IsPrinted steps old new 0
   way_all new over more =
       let told = told_all steps at way.turns host over way.told in
       let text : turns_text told.0.turns ≡ way.written ++ lines = ap turns_text told.1.0 ∙ way.text in
-      (turns_text told.0.turns, (output_all steps told.0 told.1.1, subst (Appends old new) (sym text) (appends_more old now new way.written lines way.appended more)))
+      let are : AreTurnsOf steps told.0 = (host, subst (λ l. IsToldBy steps l host) (sym told.1.0) (subst (λ xs. IsToldBy xs way.turns host) (take_all at steps over) way.told)) in
+      (turns_text told.0.turns, (output_all steps told.0 told.1.1 are, subst (Appends old new) (sym text) (appends_more old now new way.written lines way.appended more)))
 
-  -- a beginning of what the steps say was written
-  pub way_begun : (new : Option (List ℕ)) → Each IsStep steps → Begins now new lines → IsCutShort steps old new
-  way_begun new are begun =
-      let told = told_begins steps at way.turns host (slots_small steps are) way.told in
-      let text : turns_text told.0.turns ≡ way.written ++ (lines ++ turns_text told.1.0) =
-      ap turns_text told.1.1.0 ∙ turns_then way.turns told.1.0 ∙ ap (λ l. l ++ turns_text told.1.0) way.text ∙ append_assoc way.written lines (turns_text told.1.0) in
-      inr (turns_text told.0.turns, (0, (output_all steps told.0 told.1.1.1, subst (Begins old new) (sym text) (begins_then old now new way.written (lines ++ turns_text told.1.0) way.appended (begins_longer now new lines (turns_text told.1.0) begun)))))
+  -- a beginning of what they told was written
+  pub way_begun : (new : Option (List ℕ)) → Begins now new lines → IsCutShort steps old new
+  way_begun new begun =
+      inr (turns_text way.turns, (inl (at, (host, (way.turns, (way.told, refl)))), subst (Begins old new) (sym way.text) (begins_then old now new way.written lines way.appended begun)))
 
   -- and of the lines that wait nothing
-  pub way_cut : Each IsStep steps → IsCutShort steps old now
-  way_cut are = way_begun now are (begins_same now lines)
+  pub way_cut : IsCutShort steps old now
+  way_cut = way_begun now (begins_same now lines)
 
   module _ (x : Step) (within : at < length steps) (is : x ≡ get_or steps at x) where
     -- one more step was taken, and what it said waits
@@ -132,17 +116,22 @@ module _ (steps : List Step) (at : ℕ) (host : Host) (lines : List ℕ) (old no
     broken : (o : Told) → o.turns ≡ way.turns → turns_text o.turns ++ disorder_text at ≡ way.written ++ (lines ++ disorder_text at)
     broken o same = ap (λ l. l ++ disorder_text at) (ap turns_text same ∙ way.text) ∙ append_assoc way.written lines (disorder_text at)
 
+    -- it may not come where the steps before it led
+    barred : may_come host x ≡ false → (o : Told) → o.turns ≡ way.turns → IsBarred steps (Disorder at o)
+    barred cannot o same =
+        (host, (subst (λ l. IsToldBy (take at steps) l host) (sym same) way.told, λ y there. ap (may_come host) (sym (is ∙ get_or_from_slice_get steps at y x there)) ∙ cannot))
+
     -- a step breaks order, and the lines that waited and its place were written
     pub way_stop : (new : Option (List ℕ)) → may_come host x ≡ false → Appends now new (lines ++ disorder_text at) → IsPrinted steps old new 3
     way_stop new cannot more =
         let told = told_before steps at way.turns x host within is way.told cannot in
-        (turns_text told.0.turns ++ disorder_text at, (output_up_to steps at told.0 told.1.1, subst (Appends old new) (sym (broken told.0 told.1.0)) (appends_more old now new way.written (lines ++ disorder_text at) way.appended more)))
+        (turns_text told.0.turns ++ disorder_text at, (output_up_to steps at told.0 told.1.1 (barred cannot told.0 told.1.0), subst (Appends old new) (sym (broken told.0 told.1.0)) (appends_more old now new way.written (lines ++ disorder_text at) way.appended more)))
 
     -- the same, and only a beginning of them was written
     pub stop_cut : (new : Option (List ℕ)) → may_come host x ≡ false → Begins now new (lines ++ disorder_text at) → IsCutShort steps old new
     stop_cut new cannot begun =
         let told = told_before steps at way.turns x host within is way.told cannot in
-        inr (turns_text told.0.turns ++ disorder_text at, (3, (output_up_to steps at told.0 told.1.1, subst (Begins old new) (sym (broken told.0 told.1.0)) (begins_then old now new way.written (lines ++ disorder_text at) way.appended begun))))
+        inr (turns_text told.0.turns ++ disorder_text at, (inr (3, output_up_to steps at told.0 told.1.1 (barred cannot told.0 told.1.0)), subst (Begins old new) (sym (broken told.0 told.1.0)) (begins_then old now new way.written (lines ++ disorder_text at) way.appended begun)))
 
 -- each of the steps of one slot is a step, as all are
 pub picked_steps : (only : Option ℕ) (steps : List Step) → Each IsStep steps → Each IsStep (picked only steps)
@@ -164,7 +153,7 @@ printed_kept steps old between new status printed kept = (printed.0, (printed.1.
 
 -- what was printed is a beginning of itself
 pub cut_last : (steps : List Step) (old between new : Option (List ℕ)) (status : ℕ) → IsPrinted steps old between status → Keeps between new → IsCutShort steps old new
-cut_last steps old between new status printed kept = inr (printed.0, (status, (printed.1.0, begins_all old new printed.0 (appends_kept old between new printed.0 printed.1.1 kept))))
+cut_last steps old between new status printed kept = inr (printed.0, (inr (status, printed.1.0), begins_all old new printed.0 (appends_kept old between new printed.0 printed.1.1 kept)))
 
 -- a script was played
 pub played : (left : Option (List ℕ)) (only : Option ℕ) (script : List ℕ) (steps chosen : List Step) (old new : Option (List ℕ)) (status : ℕ) → IfSome left (λ bytes. script ≡ bytes) → length script ≤ 16777216 → IsScript script steps → chosen ≡ picked only steps → IsPrinted chosen old new status → IfSome left (λ bytes. IsPlayed only bytes old new status)

@@ -1,5 +1,5 @@
 -- What a script says, and what is printed of its run.
-use Rattle.std.specs.Prelude.{Bool, List, Option, None, Some, [], false, flat_map, length, not, true, ℕ, ◌+◌, ◌++◌, ◌≡◌, ◌≢◌, ◌∷◌, ◌==◌, ◌<◌, ◌≤◌, ◌⊎◌}
+use Rattle.std.specs.Prelude.{Bool, List, Option, None, Some, [], false, flat_map, length, not, take, true, ℕ, ◌+◌, ◌++◌, ◌≡◌, ◌≢◌, ◌∷◌, ◌==◌, ◌<◌, ◌≤◌, ◌⊎◌}
 use Rattle.std.specs.List.{list_all}
 use Rattle.std.specs.Io.KnownBytes.{Appends, Keeps}
 use Rattle.xt_base.specs.Alone.{Said}
@@ -8,7 +8,8 @@ use Rattle.xt_base.specs.Sound.{Each}
 use Rattle.xt_base.specs.Steps.{strike}
 use Rattle.xt_base.specs.declared.steps.Step.{Step}
 use Rattle.xt_core.specs.Host.{Host}
-use Rattle.xt_core.specs.Runs.{IsToldBy}
+use Rattle.xt_base.specs.declared.outcomes.RunFault.TheVariants.{Disorder}
+use Rattle.xt_core.specs.Runs.{AreTurnsOf, IsBarred, IsToldBy}
 use Rattle.xt_offline.specs.declared.fault.ScriptFault.{ScriptFault}
 use Rattle.xt_offline.specs.declared.fault.ScriptFault.TheVariants.{BadLine, TooLong}
 use Rattle.xt_offline.specs.Printing.{Begins, bad_line_text, disorder_text, ended, too_long_text, turn_text, turns_text}
@@ -57,10 +58,15 @@ picked (Some slot) steps = strike steps slot
 abbrev pub IsTold : Step → Said → Host → Host → Type 0
 IsTold x t new old = (xs : List Step) (turns : List Said) → IsToldBy xs turns old → IsToldBy (xs ++ x ∷ []) (turns ++ t ∷ []) new
 
--- what a run of these steps prints, whole, and its status: 0 where all were run, 3 where one breaks order
+-- what a run of these steps prints, whole, and its status: 0 where all were run, and each turn is its step's in the host that those before it led to; 3
+-- where one breaks order, which may not come in the host that those before it led to
 abbrev pub IsOutput : List Step → List ℕ → ℕ → Type 0
-IsOutput steps text status = ((status ≡ 0) × ((told : Told) × (Tells steps told × (text ≡ turns_text told.turns))))
-    ⊎ ((status ≡ 3) × ((at : ℕ) × ((told : Told) × (BreaksAt at steps told × (text ≡ turns_text told.turns ++ disorder_text at)))))
+IsOutput steps text status = ((status ≡ 0) × ((told : Told) × (Tells steps told × (AreTurnsOf steps told × (text ≡ turns_text told.turns)))))
+    ⊎ ((status ≡ 3) × ((at : ℕ) × ((told : Told) × (BreaksAt at steps told × (IsBarred steps (Disorder at told) × (text ≡ turns_text told.turns ++ disorder_text at))))))
+
+-- the lines of what the first of these steps told, up to some place
+abbrev pub AreLinesOf : List Step → List ℕ → Type 0
+AreLinesOf steps text = (at : ℕ) × ((host : Host) × ((turns : List Said) × (IsToldBy (take at steps) turns host × (text ≡ turns_text turns))))
 
 -- a step led from a host to another, and what it said was put behind these lines
 abbrev pub IsPutBehind : Step → Host → Host → List ℕ → List ℕ → Type 0
@@ -70,9 +76,9 @@ IsPutBehind x new old lines_new lines_old = (t : Said) × (IsTold x t new old ×
 abbrev pub IsPrinted : List Step → Option (List ℕ) → Option (List ℕ) → ℕ → Type 0
 IsPrinted steps old new status = (text : List ℕ) × (IsOutput steps text status × Appends old new text)
 
--- a beginning of what a run of these steps prints was written
+-- a beginning of what a run of these steps prints was written, or of what the first of them told
 abbrev pub IsBegun : List Step → Option (List ℕ) → Option (List ℕ) → Type 0
-IsBegun steps old new = (text : List ℕ) × ((status : ℕ) × (IsOutput steps text status × Begins old new text))
+IsBegun steps old new = (text : List ℕ) × ((AreLinesOf steps text ⊎ ((status : ℕ) × IsOutput steps text status)) × Begins old new text)
 
 -- a run of these steps was cut short: nothing was written, or a beginning of what it prints
 abbrev pub IsCutShort : List Step → Option (List ℕ) → Option (List ℕ) → Type 0

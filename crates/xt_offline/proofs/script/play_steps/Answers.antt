@@ -30,14 +30,14 @@ returns-in-Err-Disorder-clause-printed g c =
 
 pub returns-in-Err-Memory-clause-cut : goal.returns-in-Err-Memory-clause-cut
 returns-in-Err-Memory-clause-cut g c =
-    way_cut c.args.steps.now c.loop-at.at c.loop-at.host c.loop-at.waiting (g.W.Write.contents c.args.writer.now) (g.W.Write.contents c.loop-at.writer) c.loop-at.invariant c.requires
+    way_cut c.args.steps.now c.loop-at.at c.loop-at.host c.loop-at.waiting (g.W.Write.contents c.args.writer.now) (g.W.Write.contents c.loop-at.writer) c.loop-at.invariant
 
 pub returns-in_err-map_err-clause-cut : goal.returns-in_err-map_err-clause-cut
 returns-in_err-map_err-clause-cut g c =
     on_err _ _ (way_begun c.args.steps.now (c.loop-at.at + 1) c.put_step.new.host c.put_step.new.waiting (g.W.Write.contents c.args.writer.now) (g.W.Write.contents c.loop-at.writer)
     (way_more c.args.steps.now c.loop-at.at c.loop-at.host c.loop-at.waiting (g.W.Write.contents c.args.writer.now) (g.W.Write.contents c.loop-at.writer) c.loop-at.invariant
     c.index-steps-at.result c.loop-at-test.true c.index-steps-at.is c.put_step.new.host c.put_step.new.waiting c.in-Ok.ensures.put)
-    (g.W.Write.contents c.write.new.writer) c.requires c.write.ensures.part)
+    (g.W.Write.contents c.write.new.writer) c.write.ensures.part)
 
 pub loop-at-preserved : goal.loop-at-preserved
 loop-at-preserved g c =
@@ -54,7 +54,7 @@ loop-at-preserved g c =
 
 pub returns-in_err-map_err-2-clause-cut : goal.returns-in_err-map_err-2-clause-cut
 returns-in_err-map_err-2-clause-cut g c =
-    on_err _ _ (way_begun c.args.steps.now c.loop-at.at c.loop-at.host c.loop-at.waiting (g.W.Write.contents c.args.writer.now) (g.W.Write.contents c.loop-at.writer) c.loop-at.invariant (g.W.Write.contents c.write-2.new.writer) c.requires
+    on_err _ _ (way_begun c.args.steps.now c.loop-at.at c.loop-at.host c.loop-at.waiting (g.W.Write.contents c.args.writer.now) (g.W.Write.contents c.loop-at.writer) c.loop-at.invariant (g.W.Write.contents c.write-2.new.writer)
     c.write-2.ensures.part)
 
 pub returns-clause-printed : goal.returns-clause-printed
