@@ -2,6 +2,7 @@
 
 ghost use Rattle.std.specs.Prelude.{◌≡◌, ◌<◌, ◌++◌, ◌∷◌, [], IfErr, IfOk, IfSome, MatchOption, None, OnErr, OnOk, Some, false, slice_index, true};
 ghost use Rattle.std.specs.Arc.{arc_value};
+ghost use Rattle.xt_base.specs.declared.sizes.TheConstants.{SLOTS};
 ghost use Rattle.xt_base.specs.Calls.{is_unmount};
 ghost use Rattle.xt_base.specs.Isolation.{is_no_memory};
 ghost use Rattle.xt_base.specs.Jobs.{is_ckpt};
@@ -15,6 +16,8 @@ ghost use Rattle.xt_base.specs.declared.steps.Step.{Step as AStep};
 ghost use Rattle.xt_cell.specs.HostSeats.{IsSameSeat, Shows};
 ghost use Rattle.xt_receipts.specs.Calls.{Receives};
 ghost use Rattle.xt_queue.specs.Boards.{Rises};
+ghost use Rattle.xt_queue.specs.Passes.{of_work};
+ghost use Rattle.xt_queue.specs.Queues.{Takes};
 ghost use Rattle.xt_queue.specs.Words.{word_of};
 
 use crate::host::Host;
@@ -66,6 +69,8 @@ impl<H: House, D> Host<H, D> {
         ensures queue { pass.new.queue ≡ pass.old.queue }
         ensures worker { pass.new.worker ≡ pass.old.worker }
         ensures taken { MatchOption result (pass.new.taken ≡ pass.old.taken) (λ name. pass.new.taken ≡ pass.old.taken ++ name ∷ []) }
+        ensures slot { IfSome result (λ name. name.slot < SLOTS) }
+        ensures rule { IfSome result (λ name. Takes (of_work pass.old) name (of_work pass.new)) }
     {
         self.queue.take(rt, pass)
     }
