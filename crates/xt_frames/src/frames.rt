@@ -273,7 +273,7 @@ impl Frames {
     pub fn settle_block(&mut self, block: u64, stays: bool, is_kept: bool)
         ensures { (busy : ℕ → Bool) → stays ≡ busy block → AreOthersBusy busy block (contents_of self.old) → self.new ≡ bufs_settled_by busy is_kept self.old }
     {
-        self.is_short();
+        self.idle_is_short();
         if !stays {
             self.frames_rise();
             self.leave(block, is_kept);
@@ -281,7 +281,7 @@ impl Frames {
     }
 
     /// At most 64 blocks are idle: for a proof, at run time nothing.
-    fn is_short(&self)
+    pub fn idle_is_short(&self)
         ensures { length self.now.idle ≤ IDLE_BLOCKS }
     {
         self.idle.is_short();

@@ -92,6 +92,7 @@ impl IdleList {
 }
 
 /// Where the content of a block stands, if it is idle.
+#[inline(never)]
 fn place_of(contents: &[(u64, Content)], block: u64) -> Option<usize>
     ensures none { IfNone result (at block contents.now ≡ None) }
     ensures found { IfSome result (IsAt block contents.now) }

@@ -22,7 +22,8 @@ use Rattle.xt_frames.specs.Settling.{AreOthersBusy}
 use Rattle.xt_items.specs.Lists.{flight_number}
 use Rattle.xt_mount.proofs.EndLemmas.{some_if}
 use Rattle.xt_mount.specs.Accounts.{AccountsState, landed_in}
-use Rattle.xt_mount.specs.Settling.{has_cancel, has_unchanged, has_unchanged_beside, is_busy_in}
+use Rattle.xt_mount.specs.Settling.{OfRest, has_cancel, has_unchanged, has_unchanged_beside, is_busy_in}
+use Rattle.xt_mount.specs.declared.settle.MayRest.{MayRest}
 use Rattle.xt_base.proofs.MapLemmas.{some_same}
 
 -- ---- tests that no element passes
@@ -254,13 +255,18 @@ module _ (s new : State) (t : ℕ) (trans : Transaction) (rest : Transaction →
   new_is : new ≡ rest trans (ended t trans.leg s)
   new_is = some_if (at t s.transactions) (λ u. new ≡ rest u (ended t u.leg s)) trans there ends
 
-  -- each block that has a content is busy, but perhaps the one that is said
-  pub others_committed : (only : Option ℕ) → ((b : ℕ) (u : Transaction) (x : State) → AreOthersBusy (is_busy x) b x.frames → AreOthersBusy (is_busy (rest u x)) b (rest u x).frames)
-      → IfSome only (λ b. IfSome (at t s.transactions) (λ u. has_unchanged_beside b t u.leg s.owners ≡ false)) → IfSome only (λ b. AreOthersBusy (is_busy new) b new.frames)
-  others_committed None keeps tells = tt
-  others_committed (Some b) keeps tells =
+  others_but : (b : ℕ) → ((b : ℕ) (u : Transaction) (x : State) → AreOthersBusy (is_busy x) b x.frames → AreOthersBusy (is_busy (rest u x)) b (rest u x).frames)
+      → IfSome (at t s.transactions) (λ u. has_unchanged_beside b t u.leg s.owners ≡ false) → AreOthersBusy (is_busy new) b new.frames
+  others_but b keeps tells =
       let changed : has_unchanged_beside b t trans.leg s.owners ≡ false = some_if (at t s.transactions) (λ u. has_unchanged_beside b t u.leg s.owners ≡ false) trans there tells in
       subst (λ (x : State). AreOthersBusy (is_busy x) b x.frames) (sym new_is) (keeps b trans (ended t trans.leg s) (others_ended s t b trans sound (sym there) changed))
+
+  -- each block that has a content is busy, but perhaps the one that is said
+  pub others_committed : (only : MayRest) → ((b : ℕ) (u : Transaction) (x : State) → AreOthersBusy (is_busy x) b x.frames → AreOthersBusy (is_busy (rest u x)) b (rest u x).frames)
+      → OfRest only (λ b. IfSome (at t s.transactions) (λ u. has_unchanged_beside b t u.leg s.owners ≡ false)) → OfRest only (λ b. AreOthersBusy (is_busy new) b new.frames)
+  others_committed MayRest.Each keeps tells = tt
+  others_committed (MayRest.One b) keeps tells = others_but b keeps tells
+  others_committed MayRest.Nothing keeps tells = λ b. others_but b keeps (tells b)
 
   -- the contents rise
   pub rising_committed : ((u : Transaction) (x : State) → (rest u x).frames ≡ x.frames) → IsRising new.frames.committed
@@ -325,14 +331,18 @@ module _ (s new : State) (t : ℕ) (trans : Transaction) (sound : IsSound s) (th
   given_up : new ≡ closed t (aborted t trans.leg s)
   given_up = some_if (at t s.transactions) (λ u. new ≡ closed t (aborted t u.leg s)) trans there ends
 
-  -- each block that has a content is busy, but perhaps the one that is said
-  pub others_cancelled : (only : Option ℕ) → IfSome only (λ b. IfSome (at t s.transactions) (λ u. is_dirty u.leg ≡ false)) → IfSome only (λ b. IfSome (at t s.transactions) (λ u. has_unchanged_beside b t u.leg s.owners ≡ false))
-      → IfSome only (λ b. AreOthersBusy (is_busy new) b new.frames)
-  others_cancelled None clean lone = tt
-  others_cancelled (Some b) clean lone =
+  alone_but : (b : ℕ) → IfSome (at t s.transactions) (λ u. is_dirty u.leg ≡ false) → IfSome (at t s.transactions) (λ u. has_unchanged_beside b t u.leg s.owners ≡ false) → AreOthersBusy (is_busy new) b new.frames
+  alone_but b clean lone =
       subst (λ (x : State). AreOthersBusy (is_busy x) b x.frames) (sym given_up)
       (others_aborted s t b trans sound (sym there) (some_if (at t s.transactions) (λ u. is_dirty u.leg ≡ false) trans there clean)
       (some_if (at t s.transactions) (λ u. has_unchanged_beside b t u.leg s.owners ≡ false) trans there lone))
+
+  -- each block that has a content is busy, but perhaps the one that is said
+  pub others_cancelled : (only : MayRest) → OfRest only (λ b. IfSome (at t s.transactions) (λ u. is_dirty u.leg ≡ false)) → OfRest only (λ b. IfSome (at t s.transactions) (λ u. has_unchanged_beside b t u.leg s.owners ≡ false))
+      → OfRest only (λ b. AreOthersBusy (is_busy new) b new.frames)
+  others_cancelled MayRest.Each clean lone = tt
+  others_cancelled (MayRest.One b) clean lone = alone_but b clean lone
+  others_cancelled MayRest.Nothing clean lone = λ b. alone_but b (clean b) (lone b)
 
   -- the contents rise
   pub rising_cancelled : IsRising new.frames.committed

@@ -1,12 +1,13 @@
 //! The contents in the accounts of a mount: what a block has, what a leg sees of it, and when it comes and settles.
 
 ghost use Rattle.std.specs.Bool.{OnFalse, OnTrue};
-ghost use Rattle.std.specs.Prelude.{◌≡◌, ◌<◌, false, true, is_none, length, IfOk, IfSome, option_copied, ◌||◌};
+ghost use Rattle.std.specs.Prelude.{◌≡◌, ◌<◌, ◌≤◌, false, true, is_none, length, IfOk, IfSome, option_copied, ◌||◌};
 ghost use Rattle.xt_base.specs.Calls.{seen};
 ghost use Rattle.xt_base.specs.Legs.{is_stale};
 ghost use Rattle.xt_base.specs.Maps.{at, has, is_in, put, without, without_member};
 ghost use Rattle.xt_base.specs.Sound.{IsRising};
 ghost use Rattle.xt_base.specs.Text.{content_at};
+ghost use Rattle.xt_base.specs.declared.sizes.TheConstants.{IDLE_BLOCKS};
 ghost use Rattle.xt_frames.specs.Busy.{committed_of};
 ghost use Rattle.xt_frames.specs.Contents.{brought_in, contents_of};
 ghost use Rattle.xt_frames.specs.Settling.{AreOthersBusy, settled_by};
@@ -130,6 +131,13 @@ impl Accounts {
         ensures { self.new ≡ record self.old { frames = settled_by (is_busy_in locks.now self.old.items) (is_none self.old.shut) self.old.frames } }
     {
         self.journal.settle(locks);
+    }
+
+    /// At most 64 blocks are idle: for a proof, at run time nothing.
+    pub fn idle_is_short(&self)
+        ensures { length self.now.frames.idle ≤ IDLE_BLOCKS }
+    {
+        self.journal.frames().idle_is_short();
     }
 
     /// The same where only one block may not be busy any more: nothing is asked of the others.

@@ -22,6 +22,7 @@ use xt_trans::trans::TransRec;
 impl Accounts {
     /// Opens a transaction of `count` legs of `unit` log bytes under a number above those that are open. The one error is want
     /// of memory, and then nothing changes.
+    #[inline(always)]
     pub fn begin(
         &mut self,
         alloc: Global,

@@ -17,6 +17,7 @@ use xt_locks::locks::Locks;
 
 impl Machine {
     /// A transaction ends, and its leg is committed. It takes no memory.
+    #[inline(always)]
     pub fn close(&mut self, trans: TransNo)
         requires sound { IsSound (state_of self.old) }
         requires sized { IsSized (state_of self.old) }
@@ -107,6 +108,7 @@ fn owner_kept(leg: &LegSeen<'_>, block: u64) -> Option<Owner>
 }
 
 /// The blocks of a leg that was committed pass on.
+#[inline(always)]
 fn pass_on(locks: &mut Locks, trans: TransNo, leg: &LegSeen<'_>, number: CkptNo)
     ensures { locks.new ≡ filter_map (owner_after trans leg.now number) locks.old }
 {

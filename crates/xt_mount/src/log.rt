@@ -30,6 +30,7 @@ impl Machine {
     }
 
     /// What refuses a log request.
+    #[inline(always)]
     fn log_refusal(
         &self,
         opened: &Opened<'_>,
@@ -65,6 +66,7 @@ impl Machine {
 
     /// Bytes are written in a transaction's leg of a block, which is fresh no more. The one error is want of memory, and then nothing
     /// changes.
+    #[inline(always)]
     fn keep_edit(
         &mut self,
         trans: TransNo,

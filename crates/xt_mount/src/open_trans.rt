@@ -287,6 +287,7 @@ impl OpenTrans {
     }
 
     /// A block has these bytes in the leg, and these chunks are marked and charged too. It takes no memory.
+    #[inline(always)]
     fn keep_edit(&mut self, form: Form, block: u64, edit: Edit, marked: Chunks)
         requires few { is_in block self.old.leg.changes ≡ false → length self.old.leg.changes + length self.old.leg.holds < ROOM }
         requires fits { charge form.ends (edited block [] marked self.old.leg).changes ≤ self.old.unit }
@@ -381,6 +382,7 @@ impl OpenTrans {
 }
 
 /// Charges a ticket, whose unit has the room, these chunks of a block of a leg.
+#[inline(always)]
 fn pay_logged(form: Form, ticket: &mut Ticket, leg: &TransRec, block: u64, marked: Chunks)
     requires charged { ticket.old.charged ≡ sum_by change_cost leg.now.changes }
     requires fits { charge form.ends (edited block [] marked leg.now).changes ≤ ticket.old.unit }

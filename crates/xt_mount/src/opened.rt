@@ -168,6 +168,7 @@ impl<'a> LegSeen<'a> {
 
     /// The blocks with the hold mark, ascending, if there are some; where there is none it takes no memory. The one error is
     /// want of memory.
+    #[inline(always)]
     pub fn held(&self, alloc: Global) -> Result<Option<HeldBlocks>, AllocError>
         requires { length self.now.holds ≤ BUSY_BLOCKS }
         ensures ok { IfOk result (λ blocks. blocks ≡ held_of self.now.holds) }

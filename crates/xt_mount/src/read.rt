@@ -32,6 +32,7 @@ impl Machine {
     }
 
     /// What refuses a read before its device is asked.
+    #[inline(always)]
     fn read_refusal(&self, leg: &LegSeen<'_>, trans: TransNo, block: Block) -> Option<Errno>
         ensures refusal { result ≡ first_of (read_refusals trans block leg.now (state_of self.now)) }
         ensures room { result ≡ None → at_end (own_count trans (at block self.now.locks)) ≡ false }
@@ -126,6 +127,7 @@ impl Machine {
     }
 
     /// Locks a block that is the transaction's own or resident, and says whether it is. One that is neither is left as it is.
+    #[inline(always)]
     fn lock_resident(&mut self, trans: TransNo, block: Block) -> bool
         requires sound { IsSound (state_of self.old) }
         requires room { at_end (own_count trans (at block self.old.locks)) ≡ false }

@@ -1,15 +1,26 @@
 //! Blocks that are no longer busy leave the frames.
 
-ghost use Rattle.std.specs.Prelude.{◌≡◌, [], IfSome, true};
+ghost use Rattle.std.specs.Prelude.{ℕ, ◌≡◌, [], true};
 ghost use Rattle.xt_base.specs.Settle.{settled};
 ghost use Rattle.xt_base.specs.Sound.{IsRising};
 ghost use Rattle.xt_base.specs.Space.{is_busy};
 ghost use Rattle.xt_frames.specs.Settling.{AreOthersBusy};
 ghost use Rattle.xt_mount.specs.Machines.{state_of};
-ghost use Rattle.xt_mount.specs.Settling.{AreChangedBusy, is_busy_in};
+ghost use Rattle.xt_mount.specs.Settling.{AreChangedBusy, OfRest, is_busy_in};
 
 use crate::machine::Machine;
 use xt_base::names::Block;
+
+/// Which blocks may not be busy any more.
+#[derive(Clone, Copy, Debug)]
+pub enum MayRest {
+    /// Each.
+    Each,
+    /// This one alone.
+    One(Block),
+    /// None: all stay busy.
+    Nothing,
+}
 
 impl Machine {
     /// Contents of blocks that are no longer busy go, on a live mount to the front of the idle list,
@@ -31,16 +42,25 @@ impl Machine {
         self.accounts.settle_block(&self.locks, block.0);
     }
 
-    /// The same where it may be known of which block alone it must be asked whether it stays busy.
-    pub fn settle_but(&mut self, only: Option<Block>)
+    /// Nothing settles where each block stays busy: for a proof, at run time nothing.
+    fn nothing_settles(&self)
+        requires { (block : ℕ) → AreOthersBusy (is_busy (state_of self.now)) block (state_of self.now).frames }
+        ensures { state_of self.now ≡ settled [] (state_of self.now) }
+    {
+        self.accounts.idle_is_short();
+    }
+
+    /// The same where it may be known which blocks may not be busy any more.
+    pub fn settle_but(&mut self, rest: MayRest)
         requires rising { IsRising (state_of self.old).frames.committed }
-        requires others { IfSome only (λ block. AreOthersBusy (is_busy (state_of self.old)) block (state_of self.old).frames) }
+        requires others { OfRest rest (λ block. AreOthersBusy (is_busy (state_of self.old)) block (state_of self.old).frames) }
         requires changed { AreChangedBusy (is_busy (state_of self.old)) (state_of self.old).transactions }
         ensures { state_of self.new ≡ settled [] (state_of self.old) }
     {
-        match only {
-            Some(block) => self.settle_block(block),
-            None => self.settle(),
+        match rest {
+            MayRest::Each => self.settle(),
+            MayRest::One(block) => self.settle_block(block),
+            MayRest::Nothing => self.nothing_settles(),
         }
     }
 

@@ -5,10 +5,11 @@ ghost use Rattle.xt_base.specs.Legs.{is_dirty, owned_by};
 ghost use Rattle.xt_base.specs.Maps.{at};
 ghost use Rattle.xt_base.specs.Space.{flight_items};
 ghost use Rattle.xt_mount.specs.Machines.{state_of};
-ghost use Rattle.xt_mount.specs.Settling.{has_cancel, has_unchanged, has_unchanged_beside};
+ghost use Rattle.xt_mount.specs.Settling.{OfRest, has_cancel, has_unchanged, has_unchanged_beside};
 
 use crate::machine::Machine;
 use crate::opened::LegSeen;
+use crate::settle::MayRest;
 use xt_base::chunks::Chunks;
 use xt_base::names::{Block, TransNo};
 use xt_base::steps::Owner;
@@ -55,36 +56,37 @@ fn has_cancel(items: &[(u64, Chunks)]) -> bool
 }
 
 impl Machine {
-    /// The only block of a transaction that may be free once its leg is committed: its leg changed each other one that it has, and those
-    /// are listed then. Any block where it changed all of them, none where it did not change several.
-    pub fn only_unchanged(&self, trans: TransNo) -> Option<Block>
-        ensures { IfSome result (λ block. IfSome (at trans self.now.accounts.transactions) (λ t. has_unchanged_beside block trans t.leg self.now.locks ≡ false)) }
+    /// Which blocks of a transaction may be free once its leg is committed: its leg changed the others that it has, and those are listed then.
+    #[inline(always)]
+    pub fn only_unchanged(&self, trans: TransNo) -> MayRest
+        ensures { OfRest result (λ block. IfSome (at trans self.now.accounts.transactions) (λ t. has_unchanged_beside block trans t.leg self.now.locks ≡ false)) }
     {
         let Some(opened) = self.accounts.get(trans.0) else {
-            return None;
+            return MayRest::Each;
         };
         let leg = opened.leg();
         if !has_unchanged(&self.locks, trans, &leg) {
-            return Some(Block(0));
+            return MayRest::Nothing;
         }
-        let block = some_unchanged(&self.locks, trans, &leg)?;
+        let Some(block) = some_unchanged(&self.locks, trans, &leg) else {
+            return MayRest::Each;
+        };
         if has_unchanged_beside(&self.locks, trans, &leg, block) {
-            return None;
+            return MayRest::Each;
         }
-        Some(Block(block))
+        MayRest::One(Block(block))
     }
 
-    /// The only block of a transaction that may be free once its leg is given up, where that is clean: it has no other. Any block where it
-    /// has none, none where it has several or the leg is dirty.
-    pub fn only_clean(&self, trans: TransNo) -> Option<Block>
-        ensures clean { IfSome result (λ _. IfSome (at trans self.now.accounts.transactions) (λ t. is_dirty t.leg ≡ false)) }
-        ensures others { IfSome result (λ block. IfSome (at trans self.now.accounts.transactions) (λ t. has_unchanged_beside block trans t.leg self.now.locks ≡ false)) }
+    /// Which blocks of a transaction may be free once its leg is given up, where that is clean: it has no other. Each where the leg is dirty.
+    pub fn only_clean(&self, trans: TransNo) -> MayRest
+        ensures clean { OfRest result (λ _. IfSome (at trans self.now.accounts.transactions) (λ t. is_dirty t.leg ≡ false)) }
+        ensures others { OfRest result (λ block. IfSome (at trans self.now.accounts.transactions) (λ t. has_unchanged_beside block trans t.leg self.now.locks ≡ false)) }
     {
         let Some(opened) = self.accounts.get(trans.0) else {
-            return None;
+            return MayRest::Each;
         };
         if opened.leg().is_dirty() {
-            return None;
+            return MayRest::Each;
         }
         self.only_unchanged(trans)
     }

@@ -10,4 +10,4 @@ returns-then-not-stays c = λ busy same others.
 pub returns-else-not-stays : goal.returns-else-not-stays
 returns-else-not-stays c = λ busy same others.
     let stays : c.args.stays ≡ true = search rules in
-    all_stays busy c.args.block c.args.self.now others c.args.is_kept (sym stays ∙ same) c.is_short.ensures
+    all_stays busy c.args.block c.args.self.now others c.args.is_kept (sym stays ∙ same) c.idle_is_short.ensures
