@@ -71,6 +71,9 @@ unsafe extern "C" {
         mount: *mut Handle, request: *const Request, data: *const u8, data_len: usize, answered: u32, content: *const u8,
         content_len: usize, reply: *mut Reply, room: *mut u8, room_len: usize,
     ) -> i32;
+    fn refskold_abi_alloc(mount: *mut Handle, unit: u32, count: u32, perm: u32, trans: *mut u64) -> i32;
+    fn refskold_abi_read(mount: *mut Handle, trans: u64, block: u64) -> i32;
+    fn refskold_abi_log(mount: *mut Handle, trans: u64, block: u64, first: u32, data: *const u8, data_len: usize) -> i32;
     fn refskold_abi_take(mount: *mut Handle, kind: u32, serial: *mut u64) -> i32;
     fn refskold_abi_begin(mount: *mut Handle, serial: u64, reply: *mut Reply) -> i32;
     fn refskold_abi_piece(mount: *mut Handle, index: u32, room: *mut u8, room_len: usize) -> i32;
@@ -80,10 +83,8 @@ unsafe extern "C" {
     fn refskold_abi_flush(mount: *mut Handle, serial: u64, count: u32, written: u32, synced: u32, reply: *mut Reply) -> i32;
 }
 
-const ALLOC: u32 = 0;
 const READ: u32 = 2;
 const VIEW: u32 = 3;
-const LOG: u32 = 4;
 const COMMIT: u32 = 11;
 const CANCEL: u32 = 13;
 const FORCE: u32 = 14;
@@ -167,13 +168,15 @@ impl Mount {
 
     /// Opens a transaction: its number.
     pub fn alloc(&mut self, unit: u32, count: u32, perm: bool) -> Result<u64, Errno> {
-        Ok(self.ask(Request { word: ALLOC, unit, count, perm: perm.into(), ..Request::default() })?.number)
+        let mut trans = 0;
+        judged(unsafe { refskold_abi_alloc(&mut self.0, unit, count, perm.into(), &mut trans) })?;
+        Ok(trans)
     }
 
     /// Locks a block with its content, which is read where the mount needs it.
     pub fn read(&mut self, trans: u64, block: u64, devices: &mut impl Devices) -> Result<(), Errno> {
-        let request = Request { word: READ, trans, block, ..Request::default() };
-        if self.call(&request, &[], UNASKED, &[], &mut [])?.0 == ASKS {
+        if judged(unsafe { refskold_abi_read(&mut self.0, trans, block) })? == ASKS {
+            let request = Request { word: READ, trans, block, ..Request::default() };
             match devices.read(block) {
                 Some(content) => self.call(&request, &[], CONTENT, &content, &mut [])?,
                 None => self.call(&request, &[], FAILED, &[], &mut [])?,
@@ -184,7 +187,7 @@ impl Mount {
 
     /// Writes bytes in a block of the transaction.
     pub fn log(&mut self, trans: u64, block: u64, first: u32, data: &[u8]) -> Result<(), Errno> {
-        self.call(&Request { word: LOG, trans, block, first, ..Request::default() }, data, UNASKED, &[], &mut [])?;
+        judged(unsafe { refskold_abi_log(&mut self.0, trans, block, first, data.as_ptr(), data.len()) })?;
         Ok(())
     }
 
