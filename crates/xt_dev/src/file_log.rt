@@ -1,7 +1,9 @@
 //! A log in a file. It tells nothing: no clause can say what a file has.
 
 ghost use Rattle.std.specs.Prelude.{◌≡◌, ◌≤◌, [], false, is_ok, length, IfOk};
+ghost use Rattle.std.specs.Result.{result_err};
 ghost use Rattle.xt_dev.specs.Devices.{failures_after};
+ghost use Rattle.xt_dev.specs.Failed.{log_fault};
 
 use crate::failures::Failures;
 use crate::fault::{DevFault, FileFault};
@@ -27,7 +29,8 @@ pub struct FileLog {
     is_cut: bool,
     /// What a text ends with, where that waits until the bytes before it are safe.
     tail: Option<Tail>,
-    is_broken: bool,
+    /// What its last call came to, if that failed.
+    fault: Option<io::Error>,
     failures: Failures,
 }
 
@@ -46,7 +49,7 @@ impl FileLog {
             length: 0,
             is_cut: false,
             tail: None,
-            is_broken: false,
+            fault: None,
             failures: Failures::none(),
         })
     }
@@ -77,11 +80,29 @@ impl FileLog {
         self.length
     }
 
+    /// Why each call fails, since one did or a cut was not made safe; None where none failed yet.
+    pub fn fault(&self) -> Option<io::Error>
+        ensures { result ≡ log_fault self.now }
+    {
+        self.fault
+    }
+
+    /// Fails as the call before did, if that failed.
+    fn check(&self) -> io::Result<()>
+        ensures { result_err result ≡ log_fault self.now }
+    {
+        match self.fault {
+            None => Ok(()),
+            Some(error) => Err(error),
+        }
+    }
+
     /// Writes a piece; with a barrier all but the last bytes.
     fn write(&mut self, piece: &[u8]) -> io::Result<()>
         requires short { length piece.now ≤ PIECE_BYTES }
         ensures { self.new.failures ≡ self.old.failures }
     {
+        self.check()?;
         self.length = self.length.saturating_add(piece.len() as u64);
         match &mut self.tail {
             Some(tail) => tail.pass(&mut self.file, piece),
@@ -93,6 +114,7 @@ impl FileLog {
     fn make_safe(&mut self) -> io::Result<()>
         ensures { self.new.failures ≡ self.old.failures }
     {
+        self.check()?;
         self.file.sync_data()?;
         match &mut self.tail {
             Some(tail) => {
@@ -109,16 +131,18 @@ impl FileLog {
     {
         if self.file.set_len(0).is_ok() {
             self.length = 0;
-            self.is_broken = self.file.sync_data().is_err();
+            self.fault = self.file.sync_data().err();
         }
     }
 
-    /// What is answered to a call that succeeded or failed.
-    fn answer(&mut self, succeeded: bool) -> Result<(), DevFault>
-        ensures ok { is_ok result ≡ succeeded }
-        ensures count { self.new.failures.count ≡ failures_after succeeded self.old.failures.count }
+    /// What is answered to a call that came to this. Why it failed is kept.
+    fn answer(&mut self, outcome: io::Result<()>) -> Result<(), DevFault>
+        ensures ok { is_ok result ≡ is_ok outcome }
+        ensures count { self.new.failures.count ≡ failures_after (is_ok outcome) self.old.failures.count }
+        ensures fault { log_fault self.new ≡ result_err outcome }
     {
-        self.is_broken = !succeeded;
+        let succeeded = outcome.is_ok();
+        self.fault = outcome.err();
         self.failures.answer(succeeded)
     }
 }
@@ -131,17 +155,17 @@ impl LogDevice for FileLog {
     ghost log_failures = { λ d. d.failures.count };
 
     fn append(&mut self, piece: &[u8]) -> Result<(), DevFault> {
-        let succeeded = !self.is_broken && self.write(piece).is_ok();
-        self.answer(succeeded)
+        let written = self.write(piece);
+        self.answer(written)
     }
 
     fn sync(&mut self) -> Result<(), DevFault> {
-        let succeeded = !self.is_broken && self.make_safe().is_ok();
-        self.answer(succeeded)
+        let safe = self.make_safe();
+        self.answer(safe)
     }
 
     fn cut(&mut self, size: u32) {
-        if self.is_cut && !self.is_broken && self.length > LONG_LOGS * u64::from(size) {
+        if self.is_cut && self.fault.is_none() && self.length > LONG_LOGS * u64::from(size) {
             self.empty();
         }
     }

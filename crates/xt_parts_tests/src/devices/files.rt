@@ -262,3 +262,23 @@ fn doubts_of_another_size(rt: HostRuntime) -> Result<(), Fail> {
     assert!(rt; home_answers(&mut home, HOME));
     Ok(())
 }
+
+/// What was written before syncs that fail is counted by the sectors that there are, however often it is written: blocks 1 and 3 of 4,096 bytes have
+/// sectors 8 to 15 and 24 to 31, and of blocks of 512 bytes number 17 is one more, and number 9 lies in block 1.
+#[test]
+fn doubts_do_not_grow(rt: HostRuntime) -> Result<(), Fail> {
+    const HOME: &[Told] = &[
+        Told::Write(1, Some(7), false),
+        Told::Write(3, Some(7), false),
+        Told::Write(1, Some(9), false),
+        Told::SmallWrite(17, Some(7), false),
+        Told::SmallWrite(9, Some(7), false),
+        Told::Sync(false),
+    ];
+    let mut home = FileHome::open(&rt, rt.alloc(), FULL)?;
+    assert!(rt; home.sectors_in_doubt() == 0);
+    for _failed in 0..100 {
+        assert!(rt; home_answers(&mut home, HOME) && home.sectors_in_doubt() == 17);
+    }
+    Ok(())
+}
