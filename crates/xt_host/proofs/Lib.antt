@@ -1,4 +1,4 @@
 mod ServedLemmas
-mod WorkLemmas
+pub mod WorkLemmas
 mod WaitLemmas
 pub mod CrossLemmas

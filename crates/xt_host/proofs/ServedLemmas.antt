@@ -10,7 +10,7 @@ use Rattle.xt_base.specs.declared.steps.Step.TheVariants.{Call}
 use Rattle.xt_cell.specs.HostSeats.{HostSeatView, IsSameSeat}
 use Rattle.xt_cell.specs.declared.mount_ref.MountRef.{MountRef}
 use Rattle.xt_receipts.specs.Calls.{Receives}
-use Rattle.xt_receipts.specs.Tokens.{Served}
+use Rattle.xt_host.specs.Tokens.{Served}
 
 -- a device answered only where the request is a read
 pub served_of : (at : MountRef) (request : Request) (reply : Reply) (old new : HostSeatView) → (is_no_memory reply ≡ true → IsSameSeat old new)

@@ -9,7 +9,7 @@ use Rattle.xt_base.specs.declared.steps.Step.TheVariants.{Call}
 use Rattle.xt_cell.specs.HostSeats.{HostSeatView, receipt}
 use Rattle.xt_cell.specs.declared.mount_ref.MountRef.{MountRef}
 use Rattle.xt_host.proofs.WorkLemmas.{each_append}
-use Rattle.xt_receipts.specs.Tokens.{Served}
+use Rattle.xt_host.specs.Tokens.{Served}
 use Rattle.xt_receipts.specs.Again.{is_again}
 use Rattle.xt_host.specs.Waiting.{IsTryOf, Tried}
 use Rattle.xt_host.specs.Work.{counted_each}

@@ -1,9 +1,8 @@
+pub mod Held
 pub mod Making
+pub mod Tokens
 pub mod Waiting
 pub mod Work
 pub use Rattle.xt_receipts.specs.Again
 pub use Rattle.xt_receipts.specs.Calls
 pub use Rattle.xt_receipts.specs.Closing
-pub use Rattle.xt_receipts.specs.Held
-pub use Rattle.xt_receipts.specs.Tokens
-pub use Rattle.xt_slots.specs.Books

@@ -13,13 +13,13 @@ use Rattle.xt_cell.specs.HostSeats.{HostSeatView}
 use Rattle.xt_cell.specs.declared.mount_ref.MountRef.{MountRef}
 use Rattle.xt_cell.specs.declared.records.Receipt.{Receipt}
 use Rattle.xt_receipts.specs.Again.{is_again}
-use Rattle.xt_receipts.specs.Tokens.{Served}
+use Rattle.xt_host.specs.Tokens.{Served}
 use Rattle.xt_host.specs.Work.{counted_each}
 use Rattle.xt_host.specs.declared.attempt.Attempt.{Attempt}
 use Rattle.xt_host.specs.declared.attempt.Attempt.TheVariants as Try
-use Rattle.xt_receipts.specs.declared.outcomes.RollFault.{RollFault}
-use Rattle.xt_receipts.specs.declared.outcomes.RollFault.TheVariants as Rolling
-use Rattle.xt_receipts.specs.declared.tokens.Trans.{Trans}
+use Rattle.xt_host.specs.declared.outcomes.RollFault.{RollFault}
+use Rattle.xt_host.specs.declared.outcomes.RollFault.TheVariants as Rolling
+use Rattle.xt_host.specs.declared.tokens.Trans.{Trans}
 
 -- the request of a try
 abbrev pub request_of : Attempt → Request

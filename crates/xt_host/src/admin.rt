@@ -3,19 +3,19 @@
 ghost use Rattle.std.specs.Prelude.{◌≡◌, ◌<◌, IfErr, IfOk, None, OnOk, slice_index};
 ghost use Rattle.xt_base.specs.declared.steps.Reply.TheVariants as AReply;
 ghost use Rattle.xt_base.specs.declared.steps.Request.TheVariants as ARequest;
-ghost use Rattle.xt_receipts.specs.Tokens.{Served, forced};
+ghost use Rattle.xt_host.specs.Tokens.{Served, forced};
 ghost use Rattle.xt_queue.specs.Boards.{Rises};
 ghost use Rattle.xt_queue.specs.Words.{word_of};
 
 use crate::host::Host;
+use crate::outcomes::Forced;
+use crate::told::{force, okay};
 use std::sync::Wait;
 use xt_base::names::CkptNo;
 use xt_base::steps::{Errno, Request};
 use xt_cell::house::House;
 use xt_cell::mount_ref::MountRef;
 use xt_cell::seat::HostSeat;
-use xt_receipts::outcomes::Forced;
-use xt_receipts::told::{force, okay};
 use xt_slots::desk::Desk;
 
 impl<H: House, D> Host<H, D> {

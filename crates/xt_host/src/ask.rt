@@ -5,7 +5,7 @@ ghost use Rattle.xt_base.specs.Calls.{is_unmount};
 ghost use Rattle.xt_base.specs.Replies.{may_get};
 ghost use Rattle.xt_base.specs.declared.steps.Reply.TheVariants.{Okay};
 ghost use Rattle.xt_base.specs.declared.steps.Request.TheVariants as ARequest;
-ghost use Rattle.xt_receipts.specs.Tokens.{Served};
+ghost use Rattle.xt_host.specs.Tokens.{Served};
 ghost use Rattle.xt_queue.specs.Boards.{Rises};
 ghost use Rattle.xt_queue.specs.Words.{word_of};
 

@@ -2,7 +2,7 @@
 
 ghost use Rattle.std.specs.Prelude.{◌≡◌, true};
 ghost use Rattle.xt_base.specs.Replies.{may_get};
-ghost use Rattle.xt_receipts.specs.Tokens.{Served};
+ghost use Rattle.xt_host.specs.Tokens.{Served};
 ghost use Rattle.xt_host.specs.Waiting.{AtLast, request_of};
 ghost use Rattle.xt_queue.specs.Boards.{Rises};
 
@@ -13,7 +13,7 @@ use xt_base::steps::{Reply, Request};
 use xt_cell::house::House;
 use xt_cell::mount_ref::MountRef;
 use xt_cell::seat::HostSeat;
-use xt_receipts::told::asks_again;
+use xt_receipts::again::asks_again;
 use xt_slots::desk::Desk;
 
 /// What is tried: each try makes its request anew.

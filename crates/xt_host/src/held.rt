@@ -3,16 +3,16 @@
 ghost use Rattle.std.specs.Prelude.{◌≡◌, IfErr, OnOk};
 ghost use Rattle.xt_base.specs.declared.steps.Reply.TheVariants as AReply;
 ghost use Rattle.xt_base.specs.declared.steps.Request.TheVariants as ARequest;
-ghost use Rattle.xt_receipts.specs.Tokens.{Served};
+ghost use Rattle.xt_host.specs.Tokens.{Served};
 ghost use Rattle.xt_queue.specs.Boards.{Rises};
 
 use crate::host::Host;
+use crate::tokens::{HeldBuf, Trans};
+use crate::told::{let_go, okay};
 use std::sync::Wait;
 use xt_base::steps::{Errno, Request};
 use xt_cell::house::House;
 use xt_cell::seat::HostSeat;
-use xt_receipts::tokens::{HeldBuf, Trans};
-use xt_receipts::told::{let_go, okay};
 use xt_slots::desk::Desk;
 
 impl<H: House, D> Host<H, D> {

@@ -5,11 +5,10 @@ ghost use Rattle.std.specs.Arc.{arc_value};
 ghost use Rattle.xt_base.specs.declared.sizes.TheConstants.{SLOTS};
 ghost use Rattle.xt_base.specs.declared.steps.Errno.TheVariants.{NoSpace};
 ghost use Rattle.xt_cell.specs.HostSeats.{with_split};
-ghost use Rattle.xt_receipts.specs.Closing.{IsClosed};
+ghost use Rattle.xt_receipts.specs.Closing.{AreOwn, IsClosed};
 ghost use Rattle.xt_queue.specs.Boards.{Rises};
 ghost use Rattle.xt_queue.specs.Seats.{fresh_seat};
 ghost use Rattle.xt_queue.specs.Words.{word_of};
-ghost use Rattle.xt_slots.specs.Books.{AreOwn};
 
 use std::alloc::Global;
 use std::sync::{Arc, Mutex, Wait};
@@ -42,7 +41,7 @@ pub struct Host<H: House, D = Slots<H>> {
 
 impl<H: House, D> Host<H, D> {
     /// From how many entries on a book is folded: an event that finds so many folds them first, where there is memory for the state of
-    /// its slot.
+    /// its slot. Tests show that; clauses say what a fold makes of a book, and of the limit that it is the one that `new` was given.
     pub fn book_limit(&self) -> u64
         ensures { result ≡ self.now.book_limit }
     {

@@ -4,18 +4,18 @@ ghost use Rattle.std.specs.Prelude.{◌≡◌, IfErr, IfOk};
 ghost use Rattle.xt_base.specs.Calls.{committed_of, held_of, okay_of};
 ghost use Rattle.xt_base.specs.declared.steps.Reply.TheVariants as AReply;
 ghost use Rattle.xt_base.specs.declared.steps.Request.TheVariants as ARequest;
-ghost use Rattle.xt_receipts.specs.Tokens.{NotCommitted, NotRolled, Served};
+ghost use Rattle.xt_host.specs.Tokens.{NotCommitted, NotRolled, Served};
 ghost use Rattle.xt_queue.specs.Boards.{Rises};
 
 use crate::host::Host;
+use crate::outcomes::{CommitFault, RollFault};
+use crate::tokens::{HeldList, Trans};
+use crate::told::{LegFault, cancelled, ended, over};
 use std::sync::Wait;
 use xt_base::names::CkptNo;
 use xt_base::steps::{Errno, Request};
 use xt_cell::house::House;
 use xt_cell::seat::HostSeat;
-use xt_receipts::outcomes::{CommitFault, RollFault};
-use xt_receipts::tokens::{HeldList, Trans};
-use xt_receipts::told::{LegFault, cancelled, ended, over};
 use xt_slots::desk::Desk;
 
 impl<H: House, D> Host<H, D> {

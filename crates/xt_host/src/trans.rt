@@ -3,10 +3,13 @@
 ghost use Rattle.std.specs.Prelude.{◌≡◌, IfErr, IfOk, OnOk};
 ghost use Rattle.xt_base.specs.declared.steps.Reply.TheVariants as AReply;
 ghost use Rattle.xt_base.specs.declared.steps.Request.TheVariants as ARequest;
-ghost use Rattle.xt_receipts.specs.Tokens.{Served, released};
+ghost use Rattle.xt_host.specs.Tokens.{Served, released};
 ghost use Rattle.xt_queue.specs.Boards.{Rises};
 
 use crate::host::Host;
+use crate::outcomes::Relse;
+use crate::tokens::Trans;
+use crate::told::{okay, opened, relse, viewed};
 use std::sync::Wait;
 use xt_base::content::{Content, Data};
 use xt_base::names::Block;
@@ -14,9 +17,6 @@ use xt_base::steps::{Errno, Request};
 use xt_cell::house::House;
 use xt_cell::mount_ref::MountRef;
 use xt_cell::seat::HostSeat;
-use xt_receipts::outcomes::Relse;
-use xt_receipts::tokens::Trans;
-use xt_receipts::told::{okay, opened, relse, viewed};
 use xt_slots::desk::Desk;
 
 impl<H: House, D> Host<H, D> {

@@ -9,15 +9,15 @@ ghost use Rattle.xt_queue.specs.Boards.{Rises};
 
 use crate::attempt::Attempt;
 use crate::host::Host;
+use crate::outcomes::{Forced, RollFault};
+use crate::tokens::{HeldList, Trans};
+use crate::told::{LegFault, ended, force, okay, opened};
 use std::sync::Wait;
 use xt_base::names::{Block, CkptNo};
 use xt_base::steps::Errno;
 use xt_cell::house::House;
 use xt_cell::mount_ref::MountRef;
 use xt_cell::seat::HostSeat;
-use xt_receipts::outcomes::{Forced, RollFault};
-use xt_receipts::tokens::{HeldList, Trans};
-use xt_receipts::told::{LegFault, ended, force, okay, opened};
 use xt_slots::desk::Desk;
 
 impl<H: House, D> Host<H, D> {

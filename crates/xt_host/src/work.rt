@@ -11,6 +11,7 @@ ghost use Rattle.xt_queue.specs.Boards.{Rises};
 
 use crate::gate::Gate;
 use crate::host::Host;
+use crate::pause::Pause;
 use std::sync::Wait;
 use std::thread;
 use xt_base::names::{JobKind, JobName, Worker};
@@ -25,7 +26,7 @@ use xt_slots::desk::Slots;
 impl<H: House> Host<H, Slots<H>> {
     /// Takes names and does each of them to its end, until the gate does not go on, which it is asked each time no name waits. A
     /// checkpoint is begun and ended under its slot's lock, and run under none. A name that no longer waits in its slot is left. Where
-    /// memory is refused the same is tried again. None, unless the end of a job finds another flight, or none: then that job comes back.
+    /// memory is refused the same is tried again, after a pause. None, unless the end of a job finds another flight, or none: then that job comes back.
     pub fn work<R: Wait, G: Gate>(
         &self,
         rt: &R,
@@ -86,7 +87,7 @@ impl<H: House> Host<H, Slots<H>> {
         }
     }
 
-    /// Begins a checkpoint, again and again while memory is refused: the job, or None where there is nothing to write.
+    /// Begins a checkpoint, again and again while memory is refused, with pauses between: the job, or None where there is nothing to write.
     fn begun<R: Wait>(
         &self,
         rt: &R,
@@ -100,6 +101,7 @@ impl<H: House> Host<H, Slots<H>> {
         ensures worked { Worked worker (name.now ∷ []) seat.old seat.new }
         ensures named { IfSome result (λ job. (job.worker ≡ worker) × (job.name ≡ name.now)) }
     {
+        let mut pause = Pause::new();
         for _ in rt.forever() {
             let (reply, job) = self.begin(rt, seat, worker, name)?;
             if let Some(job) = job {
@@ -108,12 +110,13 @@ impl<H: House> Host<H, Slots<H>> {
             if !reply.is_no_memory() {
                 return None;
             }
-            thread::yield_now();
+            pause.wait(rt);
         }
         unreachable!()
     }
 
-    /// Ends a checkpoint, again and again while there is no memory for it: the job comes back where it is no slot's flight.
+    /// Ends a checkpoint, again and again while there is no memory for it, with pauses between: the job comes back where it is no slot's
+    /// flight.
     fn ended<R: Wait>(&self, rt: &R, seat: &mut HostSeat<H>, mut done: DoneJob) -> Option<DoneJob>
         requires board { seat.old.board.board ≡ self.now.board }
         ensures board { seat.new.board.board ≡ seat.old.board.board }
@@ -121,18 +124,19 @@ impl<H: House> Host<H, Slots<H>> {
         ensures worked { Worked done.worker (done.name ∷ []) seat.old seat.new }
         ensures back { IfSome result (λ back. back ≡ done) }
     {
+        let mut pause = Pause::new();
         for _ in rt.forever() {
             match self.end(rt, seat, done) {
                 Ok(_) => return None,
                 Err((back, EndFault::Stranger)) => return Some(back),
                 Err((back, EndFault::Memory)) => done = back,
             }
-            thread::yield_now();
+            pause.wait(rt);
         }
         unreachable!()
     }
 
-    /// Runs a flush, again and again while memory is refused.
+    /// Runs a flush, again and again while memory is refused, with pauses between.
     fn flushed<R: Wait>(&self, rt: &R, seat: &mut HostSeat<H>, worker: Worker, name: &JobName)
         requires board { seat.old.board.board ≡ self.now.board }
         requires kind { is_ckpt name.now.kind ≡ false }
@@ -140,6 +144,7 @@ impl<H: House> Host<H, Slots<H>> {
         ensures rises { Rises seat.old.board.seen seat.new.board.seen }
         ensures worked { Worked worker (name.now ∷ []) seat.old seat.new }
     {
+        let mut pause = Pause::new();
         for _ in rt.forever() {
             let Some(reply) = self.flush(rt, seat, worker, name) else {
                 return;
@@ -147,7 +152,7 @@ impl<H: House> Host<H, Slots<H>> {
             if !reply.is_no_memory() {
                 return;
             }
-            thread::yield_now();
+            pause.wait(rt);
         }
         unreachable!()
     }

@@ -3,6 +3,7 @@
 ghost use Rattle.std.specs.Prelude.{◌≡◌, ◌-◌, ◌^◌};
 ghost use Rattle.xt_cell.specs.Ledgers.{AreCut, AreNamed};
 
+mod booked;
 mod calls;
 mod door;
 mod example;

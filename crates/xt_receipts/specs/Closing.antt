@@ -97,6 +97,11 @@ abbrev pub IsAnswered : List AccountView → List HostSeatView → Result ⊤ Cl
 IsAnswered books seats (Ok _) = AreInOrder books seats × DoAgree books seats
 IsAnswered books seats (Err fault) = IsFound books seats fault
 
--- there are sixteen true books of which this was answered
+-- from this slot on, each book is that of its own slot
+abbrev pub AreOwn : ℕ → List AccountView → Type 0
+AreOwn slot [] = ⊤
+AreOwn slot (b ∷ bs) = (b.base.state.slot ≡ slot) × AreOwn (slot + 1) bs
+
+-- there are sixteen true books, each that of its own slot, of which this was answered
 abbrev pub IsClosed : List HostSeatView → Result ⊤ CloseFault → Type 0
-IsClosed seats answer = (books : List AccountView) × (length books ≡ SLOTS) × AreTrue books × IsAnswered books seats answer
+IsClosed seats answer = (books : List AccountView) × (length books ≡ SLOTS) × AreOwn 0 books × AreTrue books × IsAnswered books seats answer

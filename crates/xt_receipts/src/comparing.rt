@@ -2,7 +2,7 @@
 
 ghost use Rattle.std.specs.Prelude.{◌≡◌, ◌≤◌, ◌↔◌, IfErr, IsTrue, OnOk, length};
 ghost use Rattle.xt_base.specs.declared.sizes.TheConstants.{SLOTS};
-ghost use Rattle.xt_receipts.specs.Closing.{AreApart, AreInOrder, AreTrue, DoAgree, IsClosed, IsFound, IsFree};
+ghost use Rattle.xt_receipts.specs.Closing.{AreApart, AreInOrder, AreTrue, DoAgree, IsAnswered, IsFound, IsFree};
 
 use crate::counting::first_uneven;
 use crate::fault::CloseFault;
@@ -73,10 +73,11 @@ fn all_true(books: &[Account])
     }
 }
 
-/// The comparison of sixteen books, all of which are true ones.
+/// The comparison of sixteen books, all of which are true ones: what is answered is of these and of no other.
 pub fn compare_all<H: House>(books: &[Account], seats: &[HostSeat<H>]) -> Result<(), CloseFault>
     requires { length books.now ≡ SLOTS }
-    ensures { IsClosed seats.now result }
+    ensures all { AreTrue books.now }
+    ensures answered { IsAnswered books.now seats.now result }
 {
     all_true(books);
     compare(books, seats)

@@ -1,15 +1,11 @@
-//! What a caller of a host holds and is told, and how that is compared with the books at the end.
+//! The receipts that a call leaves with its caller, and how they are compared with the books at the end of a host.
 #![tactic(auto)]
 
+pub mod again;
 pub mod comparing;
 pub mod counting;
 pub mod fault;
-pub mod outcomes;
 pub mod receipts;
-pub mod tokens;
-pub mod told;
 
 pub use comparing::{compare, compare_all};
 pub use fault::CloseFault;
-pub use outcomes::{CommitFault, Forced, Relse, RollFault};
-pub use tokens::{HeldBuf, HeldList, Trans};

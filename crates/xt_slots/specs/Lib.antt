@@ -1,3 +1,2 @@
-pub mod Books
 pub mod Commands
 pub use Rattle.xt_receipts.specs.Calls

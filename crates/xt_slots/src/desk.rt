@@ -14,10 +14,10 @@ ghost use Rattle.xt_base.specs.declared.steps.Step.{Step as AStep};
 ghost use Rattle.xt_cell.specs.HostSeats.{IsSameSeat};
 ghost use Rattle.xt_cell.specs.Ledgers.{AreCut, AreNamed};
 ghost use Rattle.xt_receipts.specs.Calls.{Receives};
+ghost use Rattle.xt_receipts.specs.Closing.{AreOwn};
 ghost use Rattle.xt_queue.specs.Boards.{Rises};
 ghost use Rattle.xt_queue.specs.Passes.{fresh_posts};
 ghost use Rattle.xt_queue.specs.Words.{word_of};
-ghost use Rattle.xt_slots.specs.Books.{AreOwn};
 ghost use Rattle.xt_slots.specs.Commands.{Did, MayBe};
 
 use crate::commands::{Command, Outcome};

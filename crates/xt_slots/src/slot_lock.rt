@@ -26,7 +26,7 @@ use xt_cell::mount_ref::MountRef;
 use xt_cell::seat::HostSeat;
 use xt_cell::shares::{Counts, Shares};
 use xt_queue::board::Board;
-use xt_receipts::told::asks_again;
+use xt_receipts::again::asks_again;
 
 /// A slot behind its lock. Whoever waits for a change of it sleeps until the next command was done.
 #[derive(Drop)]

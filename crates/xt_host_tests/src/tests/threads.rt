@@ -12,7 +12,6 @@ use std::marker::Brand;
 use std::process::Abort;
 use std::rt::HostRuntime;
 use std::sync::Wait;
-use std::thread;
 use std::thread::{Threads, join};
 use xt_base::steps::Errno;
 use xt_cell::house::House;
@@ -25,6 +24,15 @@ use xt_host::fault::CloseFault;
 use xt_host::host::{BOOK_ENTRIES, Host};
 use xt_host::outcomes::Forced;
 use xt_queue::jobs::WorkPass;
+
+/// When the caller has the last name posted.
+#[derive(Clone, Copy)]
+enum Last {
+    /// While the worker looks for names.
+    Awaited,
+    /// Between a look of the worker that finds none, and its question whether to go on.
+    Unseen,
+}
 
 /// Works until a door is shut and no name waits.
 pub fn work_for<H: House, D: Workplace<H, R>, R: Abort + Wait>(
@@ -43,7 +51,7 @@ pub fn work_for<H: House, D: Workplace<H, R>, R: Abort + Wait>(
     seat
 }
 
-/// Forces the log of a mount, again and again until all is written.
+/// Forces the log of a mount, and waits until all is written.
 pub fn force_out<H: House, D: Desk<H, R>, R: Wait>(
     rt: &R,
     host: &Host<H, D>,
@@ -53,13 +61,10 @@ pub fn force_out<H: House, D: Desk<H, R>, R: Wait>(
     requires board { seat.old.board.board ≡ host.now.board }
     ensures board { seat.new.board.board ≡ seat.old.board.board }
 {
-    for _ in rt.forever() {
-        if host.force(rt, seat, *at)? == Forced::Done {
-            return Ok(());
-        }
-        thread::yield_now();
+    if let Forced::Wait(number) = host.force(rt, seat, *at)? {
+        host.force_wait(rt, seat, *at, number)?;
     }
-    unreachable!()
+    Ok(())
 }
 
 /// Changes a mount, has the log written, and asks that the block be.
@@ -78,7 +83,27 @@ fn write_out<H: House, D: Desk<H, R>, R: Abort + Wait>(
     host.push(rt, seat, *at)
 }
 
-/// Changes a mount, has the log written, asks for the block, and then shuts the door.
+/// Changes a mount while the worker waits at the door, having found no name, and asks that the log be written.
+fn write_unseen<H: House, D: Desk<H, R>, R: Abort + Wait>(
+    rt: &R,
+    alloc: Global,
+    host: &Host<H, D>,
+    seat: &mut HostSeat<H>,
+    at: &MountRef,
+    door: &Door,
+) -> Result<(), Errno>
+    requires board { seat.old.board.board ≡ host.now.board }
+    ensures board { seat.new.board.board ≡ host.now.board }
+{
+    if !door.is_asked_in_time() {
+        return Err(Errno::Again);
+    }
+    change(rt, alloc, host, seat, *at)?;
+    host.force(rt, seat, *at)?;
+    Ok(())
+}
+
+/// Changes a mount, asks for its log and its block, or for its log alone, and then shuts the door.
 fn change_out<H: House, D: Desk<H, R>, R: Abort + Wait>(
     rt: &R,
     alloc: Global,
@@ -86,12 +111,16 @@ fn change_out<H: House, D: Desk<H, R>, R: Abort + Wait>(
     seat: HostSeat<H>,
     at: &MountRef,
     door: &Door,
+    last: Last,
 ) -> (HostSeat<H>, Result<(), Errno>)
     requires board { seat.board.board ≡ host.now.board }
     ensures board { result.0.board.board ≡ host.now.board }
 {
     let mut seat = seat;
-    let told = write_out(rt, alloc, host, &mut seat, at);
+    let told = match last {
+        Last::Awaited => write_out(rt, alloc, host, &mut seat, at),
+        Last::Unseen => write_unseen(rt, alloc, host, &mut seat, at, door),
+    };
     door.shut();
     (seat, told)
 }
@@ -107,6 +136,7 @@ fn by_two<H: House + Send + Sync, D: Workplace<H, R> + Sync, R: Abort + Threads 
     pass: WorkPass,
     seats: (HostSeat<H>, HostSeat<H>),
     at: &MountRef,
+    last: Last,
 ) -> Both<H>
     requires queue { pass.queue ≡ arc_value host.now.queue }
     requires first { seats.0.board.board ≡ host.now.board }
@@ -114,7 +144,10 @@ fn by_two<H: House + Send + Sync, D: Workplace<H, R> + Sync, R: Abort + Threads 
     ensures board { result.0.board.board ≡ host.now.board }
 {
     let (first, second) = seats;
-    let open = Door::open();
+    let open = match last {
+        Last::Awaited => Door::open(),
+        Last::Unseen => Door::lingering(),
+    };
     let door = &open;
     let (worked, called) = join(
         rt,
@@ -124,20 +157,21 @@ fn by_two<H: House + Send + Sync, D: Workplace<H, R> + Sync, R: Abort + Threads 
         move || -> (HostSeat<H>, Result<(), Errno>)
             requires { first.board.board ≡ host.now.board }
             ensures { result.0.board.board ≡ host.entry.now.board }
-        { change_out(rt, alloc, host, first, at, door) },
+        { change_out(rt, alloc, host, first, at, door, last) },
     );
     (called.0, worked, called.1)
 }
 
-/// What the caller was told, and what the end of the host found.
-type Told = (Result<(), Errno>, Result<(), CloseFault>);
+/// What the caller was told, how far a force has come when the worker has gone, and what the end of the host found.
+type Told = (Result<(), Errno>, Forced, Result<(), CloseFault>);
 
-/// A change that a worker in a thread of its own writes, an unmount, and the end of the host.
+/// A change that a worker in a thread of its own writes, an unmount where the block was asked for too, and the end of the host.
 fn write_beside<H: House + Send + Sync, D: Place<H, R> + Sync, R: Abort + Threads + Wait + Sync>(
     rt: &R,
     alloc: Global,
     blanks: Blanks,
     devices: D::Devices,
+    last: Last,
 ) -> Result<Told, Errno>
     requires names { AreNamed H.names blanks }
     requires parts { AreCut H.all blanks }
@@ -145,10 +179,13 @@ fn write_beside<H: House + Send + Sync, D: Place<H, R> + Sync, R: Abort + Thread
 {
     let (host, mut seat, pass, at) = stand::<H, D, R>(rt, alloc, blanks, BOOK_ENTRIES, devices)?;
     let other = host.seat(rt, &mut seat)?;
-    let (mut seat, other, told) = by_two(rt, alloc, &host, pass, (seat, other), &at);
-    D::unmount(rt, &host, &mut seat, at)?;
+    let (mut seat, other, told) = by_two(rt, alloc, &host, pass, (seat, other), &at, last);
+    let forced = host.force(rt, &mut seat, at)?;
+    if let Last::Awaited = last {
+        D::unmount(rt, &host, &mut seat, at)?;
+    }
     let closed = end(alloc, host, vec![in alloc; seat, other].ok())?;
-    Ok((told, closed))
+    Ok((told, forced, closed))
 }
 
 /// The same on sixteen slots.
@@ -157,12 +194,13 @@ fn write_on_slots<H: House + Send + Sync, R: Abort + Threads + Wait + Sync>(
     alloc: Global,
     blanks: Blanks,
     devices: Devices,
+    last: Last,
 ) -> Result<Told, Errno>
     requires names { AreNamed H.names blanks }
     requires parts { AreCut H.all blanks }
     requires all { H.all ≡ 2 ^ 64 - 1 }
 {
-    write_beside::<H, Slots<H>, R>(rt, alloc, blanks, devices)
+    write_beside::<H, Slots<H>, R>(rt, alloc, blanks, devices, last)
 }
 
 /// The same over new ledgers.
@@ -170,17 +208,27 @@ fn writes_beside<R: Abort + Threads + Wait + Sync>(
     rt: &R,
     alloc: Global,
     blanks: Blanks,
+    last: Last,
 ) -> Result<Told, Errno>
     requires parts { AreCut (2 ^ 64 - 1) blanks }
 {
     let (home, log) = in_memory(alloc, Ok(MemHome::new(alloc)))?;
-    write_on_slots::<Brand, R>(rt, alloc, blanks, (home, log))
+    write_on_slots::<Brand, R>(rt, alloc, blanks, (home, log), last)
 }
 
 #[test]
 fn a_worker_of_its_own(rt: HostRuntime) {
     assert_eq!(rt;
-        writes_beside(&rt, rt.alloc(), Blanks::new()),
-        Ok((Ok(()), Ok(())))
+        writes_beside(&rt, rt.alloc(), Blanks::new(), Last::Awaited),
+        Ok((Ok(()), Forced::Done, Ok(())))
+    );
+}
+
+/// A name that is posted behind a worker's last look, before the door is shut, is done all the same.
+#[test]
+fn a_name_before_the_door_is_shut_is_done(rt: HostRuntime) {
+    assert_eq!(rt;
+        writes_beside(&rt, rt.alloc(), Blanks::new(), Last::Unseen),
+        Ok((Ok(()), Forced::Done, Ok(())))
     );
 }

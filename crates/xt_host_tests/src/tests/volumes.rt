@@ -13,7 +13,6 @@ use std::marker::Brand;
 use std::process::Abort;
 use std::rt::HostRuntime;
 use std::sync::{Arc, Wait};
-use std::thread;
 use std::thread::{Threads, join};
 use xt_base::content::Data;
 use xt_base::names::{Block, Slot};
@@ -101,7 +100,7 @@ fn help<H: House, D: Workplace<H, R>, R: Abort + Wait>(
     work_off(rt, host, &mut tenant.pass, &mut tenant.seat);
 }
 
-/// Forces the log, and works, until all is written.
+/// Forces the log, works until no name waits, and then waits until all is written: what is not, another thread has taken.
 fn force_out<H: House, D: Workplace<H, R>, R: Abort + Wait>(
     rt: &R,
     host: &Host<H, D>,
@@ -112,14 +111,11 @@ fn force_out<H: House, D: Workplace<H, R>, R: Abort + Wait>(
     ensures queue { tenant.new.pass.queue ≡ tenant.old.pass.queue }
     ensures board { tenant.new.seat.board.board ≡ tenant.old.seat.board.board }
 {
-    for _ in rt.forever() {
-        if host.force(rt, &mut tenant.seat, tenant.at)? == Forced::Done {
-            return Ok(());
-        }
+    if let Forced::Wait(number) = host.force(rt, &mut tenant.seat, tenant.at)? {
         help(rt, host, tenant);
-        thread::yield_now();
+        host.force_wait(rt, &mut tenant.seat, tenant.at, number)?;
     }
-    unreachable!()
+    Ok(())
 }
 
 /// One change, written to the log; by turns the blocks are written home.

@@ -4,6 +4,7 @@ ghost use Rattle.std.specs.Prelude.{◌≡◌, ◌-◌, ◌^◌, IfOk};
 ghost use Rattle.std.specs.Arc.{arc_value};
 ghost use Rattle.xt_cell.specs.Ledgers.{AreCut, AreNamed};
 
+use crate::tests::booked::{Booked, UNBOOKED, booked_for};
 use crate::tests::calls::{change, finish, give_up, roll_off};
 use crate::tests::door::Door;
 use crate::tests::place::{Devices, Place, Workplace, stand, work_off};
@@ -15,9 +16,8 @@ use std::sync::Wait;
 use std::thread;
 use std::thread::{Threads, join};
 use xt_base::content::Data;
-use xt_base::names::{Block, Caller, CkptNo, Slot};
-use xt_base::steps::{Errno, Reply, Step};
-use xt_cell::account::Account;
+use xt_base::names::{Block, CkptNo, Slot};
+use xt_base::steps::Errno;
 use xt_cell::house::House;
 use xt_cell::mount_ref::MountRef;
 use xt_cell::reserve::Blanks;
@@ -33,10 +33,16 @@ use xt_host::host::{BOOK_ENTRIES, Host};
 use xt_host::tokens::Trans;
 use xt_queue::jobs::WorkPass;
 
-/// How often a thread looks whether another one has called, and how often it lets others run between two looks.
+/// How often a thread looks at most whether another one has called, and how often where none is to.
 const LOOKS: u32 = 10_000;
 
+const FEW_LOOKS: u32 = 3;
+
+/// How often it lets others run between two looks: once more each time, up to this.
 const YIELDS: u32 = 1_000;
+
+/// No checkpoint has this number: a force of it is refused, and changes nothing.
+const NO_CKPT: CkptNo = CkptNo(0);
 
 /// How a wait for what another thread's transaction has comes to its end.
 #[derive(Clone, Copy)]
@@ -45,6 +51,15 @@ enum End {
     Commit,
     /// The mount is shut.
     Shutdown,
+}
+
+/// Whose force comes first: the job of the checkpoint is posted, and booked, for that one.
+#[derive(Clone, Copy)]
+enum First {
+    /// The thread that waits, which is the only one that forces.
+    Waiter,
+    /// The other one, which then looks for a while before the thread that waits may call.
+    Other,
 }
 
 /// What one thread waits for, and another one does.
@@ -60,8 +75,8 @@ enum Scene {
     Leg(End),
     /// A transaction of a mount that is frozen, until the other one thaws it.
     Thaw,
-    /// The first checkpoint, until the other one has written it.
-    Force,
+    /// The first checkpoint, which so was forced first, until the other one has written it.
+    Force(First),
 }
 
 /// What the other one's transaction has.
@@ -88,9 +103,9 @@ const LOG_SPACE: Stake = Stake {
     calls: 4,
 };
 
-/// Lets others run for a while.
-fn rest() {
-    for _ in 0..YIELDS {
+/// Lets others run for a while, longer the more looks there were.
+fn rest(looks: u32) {
+    for _ in 0..looks.min(YIELDS) {
         thread::yield_now();
     }
 }
@@ -175,34 +190,81 @@ fn waits<H: House, D: Desk<H, R>, R: Abort + Wait>(
             give_up(rt, host, seat, trans);
             Ok(())
         }
-        Scene::Force => host.force_wait(rt, seat, *at, CkptNo(1)),
+        Scene::Force(_) => host.force_wait(rt, seat, *at, CkptNo(1)),
     }
 }
 
-/// Calls a mount again and again, until so many events of other seats stand between its own: whether they came in time.
+/// Calls a mount again and again, so many times at most, until so many events of other seats stand between its own: whether they came. A
+/// call of it makes no job owed, so that none of its own posts stands between them too.
 fn sees_others<H: House, D: Desk<H, R>, R: Wait>(
     rt: &R,
     host: &Host<H, D>,
     seat: &mut HostSeat<H>,
     at: &MountRef,
     wanted: u64,
+    looks: u32,
 ) -> Result<bool, Errno>
     requires board { seat.old.board.board ≡ host.now.board }
     ensures board { seat.new.board.board ≡ seat.old.board.board }
 {
     let mut own: u64 = 0;
     let mut first = None;
-    for _ in 0..LOOKS {
-        host.force(rt, seat, *at)?;
+    for look in 0..looks {
+        match host.force_to(rt, seat, *at, NO_CKPT) {
+            Err(Errno::Invalid) => {}
+            told => {
+                told?;
+                return Ok(false);
+            }
+        }
         let number = seat.receipts().last().map_or(0, |receipt| receipt.number);
         let start = *first.get_or_insert(number);
         if number.saturating_sub(start).saturating_sub(own) >= wanted {
             return Ok(true);
         }
         own = own.saturating_add(1);
-        rest();
+        rest(look.saturating_add(1));
     }
     Ok(false)
+}
+
+/// Looks for other seats while none calls, forces, and looks again: whether it took an event of its own for one of theirs.
+fn sees_itself<H: House, D: Desk<H, R>, R: Wait>(
+    rt: &R,
+    host: &Host<H, D>,
+    seat: &mut HostSeat<H>,
+    at: &MountRef,
+) -> Result<bool, Errno>
+    requires board { seat.old.board.board ≡ host.now.board }
+    ensures board { seat.new.board.board ≡ seat.old.board.board }
+{
+    let before = sees_others(rt, host, seat, at, 1, FEW_LOOKS)?;
+    host.force(rt, seat, *at)?;
+    let after = sees_others(rt, host, seat, at, 1, FEW_LOOKS)?;
+    Ok(before || after)
+}
+
+/// Changes a mount, forces it where that is to come first, and opens the door: whether it then saw another seat call, and none before.
+fn force_beside<H: House, D: Desk<H, R>, R: Abort + Wait>(
+    rt: &R,
+    alloc: Global,
+    host: &Host<H, D>,
+    seat: &mut HostSeat<H>,
+    at: &MountRef,
+    door: &Door,
+    first: First,
+) -> Result<bool, Errno>
+    requires board { seat.old.board.board ≡ host.now.board }
+    ensures board { seat.new.board.board ≡ seat.old.board.board }
+{
+    change(rt, alloc, host, seat, *at)?;
+    let early = match first {
+        First::Waiter => false,
+        First::Other => sees_itself(rt, host, seat, at)?,
+    };
+    door.shut();
+    let seen = sees_others(rt, host, seat, at, 1, LOOKS)?;
+    Ok(seen && !early)
 }
 
 /// Takes log space and a block, opens the door, and lets go what another seat waits for once that has tried: whether it did. A commit on
@@ -222,7 +284,7 @@ fn let_go<H: House, D: Desk<H, R>, R: Abort + Wait>(
     let mut trans = host.begin_trans(rt, seat, *at, stake.unit, 1, false)?;
     let told = host.get(rt, seat, &mut trans, stake.block);
     door.shut();
-    let seen = sees_others(rt, host, seat, at, stake.calls);
+    let seen = sees_others(rt, host, seat, at, stake.calls, LOOKS);
     let shut = match end {
         End::Commit => Ok(()),
         End::Shutdown => host.shutdown(rt, seat, *at),
@@ -255,15 +317,11 @@ fn does<H: House, D: Desk<H, R>, R: Abort + Wait>(
         Scene::Thaw => {
             host.freeze(rt, seat, *at)?;
             door.shut();
-            let seen = sees_others(rt, host, seat, at, 1);
+            let seen = sees_others(rt, host, seat, at, 1, LOOKS);
             host.thaw(rt, seat, *at)?;
             seen
         }
-        Scene::Force => {
-            change(rt, alloc, host, seat, *at)?;
-            door.shut();
-            sees_others(rt, host, seat, at, 1)
-        }
+        Scene::Force(first) => force_beside(rt, alloc, host, seat, at, door, first),
     }
 }
 
@@ -347,27 +405,6 @@ fn by_two<H: House + Send + Sync, D: Workplace<H, R> + Sync, R: Abort + Threads 
     )
 }
 
-/// Whether a call was told to try again.
-fn is_told_again(reply: &Reply) -> bool {
-    matches!(reply, Reply::Refused(Errno::Again) | Reply::Wait(_))
-}
-
-/// How many calls of a caller a book has, and how many of them were told to try again. A job that one of them made owed is booked as
-/// posted for that caller, and is no call.
-fn tries_in(book: &Account, caller: Caller) -> (u64, u64) {
-    let mut calls: u64 = 0;
-    let mut tries: u64 = 0;
-    for entry in book.entries() {
-        if entry.caller == caller && !matches!(entry.step.get(), Step::Post(_)) {
-            calls = calls.saturating_add(1);
-            if is_told_again(entry.reply.get()) {
-                tries = tries.saturating_add(1);
-            }
-        }
-    }
-    (calls, tries)
-}
-
 /// What becomes of a scene.
 #[derive(Clone, Copy, Debug, PartialEq, Eq)]
 struct Told {
@@ -379,6 +416,8 @@ struct Told {
     settled: u64,
     /// Whether it made others, and its seat counted and kept each.
     counted: bool,
+    /// How many jobs were posted for it.
+    posts: u64,
     /// What the end of the host found.
     closed: Result<(), CloseFault>,
 }
@@ -393,9 +432,13 @@ fn ended<H: House, D: IntoBooks>(
     let (seat, told) = waited;
     let (other, seen) = did;
     let books = host.into_books();
-    let (calls, tries) = match books.get(slot.index()) {
-        Some(book) => tries_in(book, seat.caller()),
-        None => (0, 0),
+    let Booked {
+        calls,
+        tries,
+        posts,
+    } = match books.get(slot.index()) {
+        Some(book) => booked_for(book, seat.caller()),
+        None => UNBOOKED,
     };
     let kept = seat.receipts().len() as u64;
     let counted = tries > 0 && seat.count(slot) == calls && kept == calls;
@@ -405,6 +448,7 @@ fn ended<H: House, D: IntoBooks>(
         seen,
         settled: calls.saturating_sub(tries),
         counted,
+        posts,
         closed: compare_all(&books, &seats),
     }
 }
@@ -471,13 +515,15 @@ fn plays<R: Abort + Threads + Wait + Sync>(
     play_on_slots::<Brand, R>(rt, alloc, blanks, scene, (home, log))
 }
 
-/// What is to become of a scene, in which the thread that waits is told so at last, and so many calls are not told to try again.
-fn wanted(waited: Result<(), Errno>, settled: u64) -> Result<Told, Errno> {
+/// What is to become of a scene, in which the thread that waits is told so at last, so many calls are not told to try again, and so many jobs
+/// are posted for it.
+fn wanted(waited: Result<(), Errno>, settled: u64, posts: u64) -> Result<Told, Errno> {
     Ok(Told {
         waited,
         seen: Ok(true),
         settled,
         counted: true,
+        posts,
         closed: Ok(()),
     })
 }
@@ -487,7 +533,7 @@ fn wanted(waited: Result<(), Errno>, settled: u64) -> Result<Told, Errno> {
 fn a_commit_frees_a_lock(rt: HostRuntime) {
     assert_eq!(rt;
         plays(&rt, rt.alloc(), Blanks::new(), Scene::Lock),
-        wanted(Ok(()), 3)
+        wanted(Ok(()), 3, 0)
     );
 }
 
@@ -496,7 +542,7 @@ fn a_commit_frees_a_lock(rt: HostRuntime) {
 fn a_commit_frees_a_content(rt: HostRuntime) {
     assert_eq!(rt;
         plays(&rt, rt.alloc(), Blanks::new(), Scene::Content(End::Commit)),
-        wanted(Ok(()), 3)
+        wanted(Ok(()), 3, 0)
     );
 }
 
@@ -506,19 +552,19 @@ fn a_wait_for_a_content_fails(rt: HostRuntime) {
     for scene in [Scene::Content(End::Shutdown), Scene::FailedRead] {
         assert_eq!(rt;
             plays(&rt, rt.alloc(), Blanks::new(), scene),
-            wanted(Err(Errno::Io), 3)
+            wanted(Err(Errno::Io), 3, 0)
         );
     }
 }
 
 /// A roll whose leg was the last one, while another thread has the log space: beside the tries there are the alloc, the read, the log, the
-/// last roll, and the cancel. The roll is EIO where that thread shuts the mount.
+/// last roll, and the cancel. The roll is EIO where that thread shuts the mount. The first try asks for a flush, which is posted.
 #[test]
 fn a_roll_waits_for_log_space(rt: HostRuntime) {
     for (end, told) in [(End::Commit, Ok(())), (End::Shutdown, Err(Errno::Io))] {
         assert_eq!(rt;
             plays(&rt, rt.alloc(), Blanks::new(), Scene::Leg(end)),
-            wanted(told, 5)
+            wanted(told, 5, 1)
         );
     }
 }
@@ -528,15 +574,25 @@ fn a_roll_waits_for_log_space(rt: HostRuntime) {
 fn a_thaw_opens_a_mount(rt: HostRuntime) {
     assert_eq!(rt;
         plays(&rt, rt.alloc(), Blanks::new(), Scene::Thaw),
-        wanted(Ok(()), 2)
+        wanted(Ok(()), 2, 0)
     );
 }
 
-/// A checkpoint that a worker in another thread writes: beside the tries there is the last force.
+/// A checkpoint that the other thread forces, and then writes: beside the tries there is the last force. That thread looks for calls before
+/// there are any, and sees none.
 #[test]
 fn a_worker_ends_a_force(rt: HostRuntime) {
     assert_eq!(rt;
-        plays(&rt, rt.alloc(), Blanks::new(), Scene::Force),
-        wanted(Ok(()), 1)
+        plays(&rt, rt.alloc(), Blanks::new(), Scene::Force(First::Other)),
+        wanted(Ok(()), 1, 0)
+    );
+}
+
+/// The same where no other thread forces it: the first try asks for the checkpoint, which is posted.
+#[test]
+fn a_worker_ends_a_first_force(rt: HostRuntime) {
+    assert_eq!(rt;
+        plays(&rt, rt.alloc(), Blanks::new(), Scene::Force(First::Waiter)),
+        wanted(Ok(()), 1, 1)
     );
 }

@@ -82,7 +82,7 @@ pub struct HeldList {
 }
 
 impl Model for HeldList {
-    ghost use Rattle.xt_receipts.specs.Held.{HeldView, blocks_left};
+    ghost use Rattle.xt_host.specs.Held.{HeldView, blocks_left};
 
     ghost Value = { HeldView };
 

@@ -13,17 +13,17 @@ use Rattle.xt_base.specs.declared.steps.Step.TheVariants.{Call}
 use Rattle.xt_cell.specs.HostSeats.{HostSeatView, IsSameSeat}
 use Rattle.xt_cell.specs.declared.mount_ref.MountRef.{MountRef}
 use Rattle.xt_receipts.specs.Calls.{Receives}
-use Rattle.xt_receipts.specs.declared.outcomes.CommitFault.{CommitFault}
-use Rattle.xt_receipts.specs.declared.outcomes.CommitFault.TheVariants as Committing
-use Rattle.xt_receipts.specs.declared.outcomes.RollFault.{RollFault}
-use Rattle.xt_receipts.specs.declared.outcomes.RollFault.TheVariants as Rolling
-use Rattle.xt_receipts.specs.declared.told.LegFault.{LegFault}
-use Rattle.xt_receipts.specs.declared.told.LegFault.TheVariants as Ending
-use Rattle.xt_receipts.specs.declared.outcomes.Forced.{Forced}
-use Rattle.xt_receipts.specs.declared.outcomes.Forced.TheVariants as Forcing
-use Rattle.xt_receipts.specs.declared.outcomes.Relse.{Relse}
-use Rattle.xt_receipts.specs.declared.outcomes.Relse.TheVariants as Releasing
-use Rattle.xt_receipts.specs.declared.tokens.Trans.{Trans}
+use Rattle.xt_host.specs.declared.outcomes.CommitFault.{CommitFault}
+use Rattle.xt_host.specs.declared.outcomes.CommitFault.TheVariants as Committing
+use Rattle.xt_host.specs.declared.outcomes.RollFault.{RollFault}
+use Rattle.xt_host.specs.declared.outcomes.RollFault.TheVariants as Rolling
+use Rattle.xt_host.specs.declared.told.LegFault.{LegFault}
+use Rattle.xt_host.specs.declared.told.LegFault.TheVariants as Ending
+use Rattle.xt_host.specs.declared.outcomes.Forced.{Forced}
+use Rattle.xt_host.specs.declared.outcomes.Forced.TheVariants as Forcing
+use Rattle.xt_host.specs.declared.outcomes.Relse.{Relse}
+use Rattle.xt_host.specs.declared.outcomes.Relse.TheVariants as Releasing
+use Rattle.xt_host.specs.declared.tokens.Trans.{Trans}
 
 -- a request to a mount was told this: one receipt more, in which a device answered only if the request is a read; or memory was refused, and the seat is as it was
 pub record Served (at : MountRef) (request : Request) (reply : Reply) (old new : HostSeatView) : Type 0 where

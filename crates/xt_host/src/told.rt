@@ -1,13 +1,12 @@
-//! What a reply says, by the kind of request that it is of. Only the calls of a host use this module: tokens are made and spent here alone,
-//! each by the reply that opens or ends what it stands for.
+//! What a reply says, by the kind of request that it is of. Tokens are made and spent here alone, each by the reply that opens or ends what
+//! it stands for. Only the calls of a host reach this module, so nobody else can make a second token, or let one go.
 
 ghost use Rattle.std.specs.Prelude.{◌≡◌, ◌||◌, IfErr, IfOk, OnOk, true};
 ghost use Rattle.xt_base.specs.Alone.{carries_content, is_okay, is_refusal};
 ghost use Rattle.xt_base.specs.Calls.{committed_of, held_of, okay_of};
 ghost use Rattle.xt_base.specs.Replies.{is_cancel, is_commit, is_force, is_release, is_trans};
 ghost use Rattle.xt_base.specs.declared.steps.Reply.TheVariants as AReply;
-ghost use Rattle.xt_receipts.specs.Again.{is_again};
-ghost use Rattle.xt_receipts.specs.Tokens.{IsNotEnded, forced, released};
+ghost use Rattle.xt_host.specs.Tokens.{IsNotEnded, forced, released};
 
 use crate::outcomes::{Forced, Relse};
 use crate::tokens::{HeldBuf, HeldList, Trans};
@@ -24,15 +23,8 @@ pub enum LegFault {
     Aborted(HeldList),
 }
 
-/// Whether a reply asks that its request be tried again: EAGAIN, and a force that waits for a checkpoint.
-pub fn asks_again(reply: &Reply) -> bool
-    ensures { result ≡ is_again reply.now }
-{
-    matches!(reply, Reply::Refused(Errno::Again) | Reply::Wait(_))
-}
-
 /// Of a request that is told no more than ok.
-pub fn okay(reply: Reply) -> Result<(), Errno>
+pub(crate) fn okay(reply: Reply) -> Result<(), Errno>
     requires kind { (is_refusal reply || is_okay reply) ≡ true }
     ensures okay { OnOk result (reply ≡ AReply.Okay) }
     ensures refused { IfErr result (λ errno. reply ≡ AReply.Refused errno) }
@@ -45,7 +37,7 @@ pub fn okay(reply: Reply) -> Result<(), Errno>
 }
 
 /// Of an alloc of a mount: the new transaction.
-pub fn opened(at: MountRef, reply: Reply) -> Result<Trans, Errno>
+pub(crate) fn opened(at: MountRef, reply: Reply) -> Result<Trans, Errno>
     requires kind { (is_refusal reply || is_trans reply) ≡ true }
     ensures at { IfOk result (λ trans. trans.at ≡ at) }
     ensures opened { IfOk result (λ trans. reply ≡ AReply.Trans trans.number) }
@@ -59,7 +51,7 @@ pub fn opened(at: MountRef, reply: Reply) -> Result<Trans, Errno>
 }
 
 /// Of a view: what the transaction sees.
-pub fn viewed(reply: Reply) -> Result<Content, Errno>
+pub(crate) fn viewed(reply: Reply) -> Result<Content, Errno>
     requires kind { (is_refusal reply || carries_content reply) ≡ true }
     ensures viewed { IfOk result (λ content. reply ≡ AReply.Data content) }
     ensures refused { IfErr result (λ errno. reply ≡ AReply.Refused errno) }
@@ -72,7 +64,7 @@ pub fn viewed(reply: Reply) -> Result<Content, Errno>
 }
 
 /// Of a lock that was given back.
-pub fn relse(reply: Reply) -> Result<Relse, Errno>
+pub(crate) fn relse(reply: Reply) -> Result<Relse, Errno>
     requires kind { (is_refusal reply || is_release reply) ≡ true }
     ensures released { IfOk result (λ what. reply ≡ released what) }
     ensures refused { IfErr result (λ errno. reply ≡ AReply.Refused errno) }
@@ -86,7 +78,7 @@ pub fn relse(reply: Reply) -> Result<Relse, Errno>
 }
 
 /// Of a force.
-pub fn force(reply: Reply) -> Result<Forced, Errno>
+pub(crate) fn force(reply: Reply) -> Result<Forced, Errno>
     requires kind { (is_refusal reply || is_force reply) ≡ true }
     ensures forced { IfOk result (λ what. reply ≡ forced what) }
     ensures refused { IfErr result (λ errno. reply ≡ AReply.Refused errno) }
@@ -119,7 +111,7 @@ fn not_ended(at: MountRef, errno: Errno) -> LegFault
 }
 
 /// Of a commit or a roll of a mount.
-pub fn ended(at: MountRef, reply: Reply) -> Result<(CkptNo, HeldList), LegFault>
+pub(crate) fn ended(at: MountRef, reply: Reply) -> Result<(CkptNo, HeldList), LegFault>
     requires kind { (is_refusal reply || is_commit reply) ≡ true }
     ensures at { IfOk result (λ done. done.1.at ≡ at) }
     ensures committed { IfOk result (λ done. reply ≡ committed_of done.0 (held_of done.1.blocks)) }
@@ -135,7 +127,7 @@ pub fn ended(at: MountRef, reply: Reply) -> Result<(CkptNo, HeldList), LegFault>
 }
 
 /// Of a cancel of a mount.
-pub fn cancelled(at: MountRef, reply: Reply) -> Result<HeldList, Errno>
+pub(crate) fn cancelled(at: MountRef, reply: Reply) -> Result<HeldList, Errno>
     requires kind { (is_refusal reply || is_cancel reply) ≡ true }
     ensures at { IfOk result (λ held. held.at ≡ at) }
     ensures cancelled { IfOk result (λ held. reply ≡ okay_of (held_of held.blocks)) }
@@ -150,11 +142,11 @@ pub fn cancelled(at: MountRef, reply: Reply) -> Result<HeldList, Errno>
 }
 
 /// A transaction that was ended is over.
-pub fn over(trans: Trans) {
+pub(crate) fn over(trans: Trans) {
     trans.spend();
 }
 
 /// A held buffer that was joined or released is held no more.
-pub fn let_go(held: HeldBuf) {
+pub(crate) fn let_go(held: HeldBuf) {
     held.spend();
 }
