@@ -1,8 +1,11 @@
+pub mod AsideLemmas
 pub mod Captures
 pub mod HostChains
 pub mod HostCrossing
 pub mod HostLemmas
+pub mod JobLemmas
 pub mod SeatLemmas
 pub mod SplitLemmas
 pub mod TableLemmas
 pub mod UnmountLemmas
+pub mod WriteLemmas

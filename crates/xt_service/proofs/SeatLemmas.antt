@@ -1,20 +1,17 @@
 -- What becomes of a seat, one call or one job after another.
-use Rattle.std.proofs.Common.{Bool, List, [], All, ap, arith, false, refl, subst, sym, true, ℕ, ◌++◌, ◌≡◌, ◌∙◌, ◌∷◌}
-use Rattle.std.proofs.lemmas.List.{append_assoc}
-use Rattle.std.proofs.lemmas.List.Elements.{All-append, All-cons, All-nil, Contains-append_left, Contains-append_right}
+use Rattle.std.proofs.Common.{Bool, List, [], All, ap, arith, false, inl, inr, refl, subst, sym, true, ℕ, ◌++◌, ◌≡◌, ◌∙◌, ◌∷◌, ◌⊎◌}
+use Rattle.std.proofs.lemmas.List.Elements.{All-append, All-nil, Contains-append_left, Contains-push_cases}
 use Rattle.std.specs.List.{Contains}
 use Rattle.xt_base.specs.Isolation.{is_no_memory}
 use Rattle.xt_base.specs.declared.names.JobName.{JobName}
 use Rattle.xt_base.specs.declared.steps.Reply.{Reply}
 use Rattle.xt_base.specs.declared.steps.Request.{Request}
-use Rattle.xt_base.specs.declared.steps.Step.{Step}
 use Rattle.xt_cell.specs.Counting.{counted}
-use Rattle.xt_cell.specs.HostSeats.{HostSeatView, IsSameSeat, receipt}
+use Rattle.xt_cell.specs.HostSeats.{HostSeatView}
 use Rattle.xt_cell.specs.declared.mount_ref.MountRef.{MountRef}
 use Rattle.xt_cell.specs.declared.records.Receipt.{Receipt}
-use Rattle.xt_host.specs.Calls.{Receives}
 use Rattle.xt_host.specs.Tokens.{Served}
-use Rattle.xt_host.specs.Work.{IsJobStep, IsWorkOf, Worked, counted_each}
+use Rattle.xt_host.specs.Work.{IsWorkOf, Worked, counted_each}
 use Rattle.xt_queue.specs.Boards.{Rises}
 use Rattle.xt_queue.specs.Seats.{SeatView}
 use Rattle.xt_service.specs.Seats.{HasWorked, IsUsed}
@@ -53,6 +50,14 @@ each_append : (xs ys : List Receipt) (counts : List ℕ) → counted_each (xs ++
 each_append [] ys counts = refl
 each_append (x ∷ xs) ys counts = each_append xs ys (counted x.slot counts)
 
+-- the one name of a list of one
+one_of : (taken : List JobName) (name : JobName) → Contains taken name → (x : JobName) → Contains (name ∷ []) x → Contains taken x
+one_of taken name has x one = by (Contains-push_cases [] name x one)
+  where
+    by : Contains [] x ⊎ (name ≡ x) → Contains taken x
+    by (inl none) = let less = none.1 in let never : ⊥ = omega (arith, less) in absurd never
+    by (inr is) = subst (Contains taken) is has
+
 module _ (worker : ℕ) where
   -- steps of names among more names
   own_among : (xs ys : List JobName) (rs : List Receipt) → ((x : JobName) → Contains xs x → Contains ys x) → All (IsWorkOf worker xs) rs → All (IsWorkOf worker ys) rs
@@ -77,25 +82,37 @@ module _ (worker : ℕ) where
     });
   }
 
-  -- the work of more names
-  has_more : (taken names : List JobName) (a b c : HostSeatView) (xs ys : List Receipt) → All (IsWorkOf worker taken) xs → All (IsWorkOf worker names) ys → b.counts ≡ counted_each xs a.counts → c.counts ≡ counted_each ys b.counts
-      → IsUsed a b → IsUsed b c → HasWorked worker (taken ++ names) a c
-  has_more taken names a b c xs ys first second before after p q = record {
-    steps = xs ++ ys;
-    own = All-append (IsWorkOf worker (taken ++ names)) xs ys
-        (own_among taken (taken ++ names) xs (λ x has. Contains-append_left taken names x has) first)
-        (own_among names (taken ++ names) ys (λ x has. Contains-append_right taken names x has) second);
-    counts = after ∙ ap (counted_each ys) before ∙ sym (each_append xs ys a.counts);
-    used = used_both a b c p q;
+  -- more names were taken, and nothing of them was done
+  pub has_taken : (all taken names : List JobName) (a b : HostSeatView) → all ≡ taken ++ names → HasWorked worker taken a b → HasWorked worker all a b
+  has_taken all taken names a b has h = record {
+    steps = h.steps;
+    own = own_among taken all h.steps (λ x there. subst (λ ns. Contains ns x) (sym has) (Contains-append_left taken names x there)) h.own;
+    counts = h.counts;
+    used = h.used;
   }
 
-  -- the work of one name more, by whoever took it
-  pub has_next : (by : ℕ) (all taken : List JobName) (name : JobName) (a b c : HostSeatView) → by ≡ worker → all ≡ taken ++ name ∷ [] → HasWorked worker taken a b → Worked by (name ∷ []) b c
-      → c.board.board ≡ b.board.board → Rises b.board.seen c.board.seen → HasWorked worker all a c
-  has_next by all taken name a b c own has h p tied rises =
+  -- the work of one of the names that were taken, by whoever took it
+  pub has_tried : (by : ℕ) (taken : List JobName) (name : JobName) (a b c : HostSeatView) → by ≡ worker → Contains taken name → HasWorked worker taken a b → Worked by (name ∷ []) b c
+      → c.board.board ≡ b.board.board → Rises b.board.seen c.board.seen → HasWorked worker taken a c
+  has_tried by taken name a b c own has h p tied rises =
       let w = subst (λ x. Worked x (name ∷ []) b c) own p in
-      subst (λ names. HasWorked worker names a c) (sym has)
-      (has_more taken (name ∷ []) a b c h.steps w.gained h.own w.own h.counts w.counts h.used (record { caller = w.caller; board = tied; rises = rises; splits = w.splits; rank = w.rank }))
+      record {
+        steps = h.steps ++ w.gained;
+        own = All-append (IsWorkOf worker taken) h.steps w.gained h.own (own_among (name ∷ []) taken w.gained (one_of taken name has) w.own);
+        counts = w.counts ∙ ap (counted_each w.gained) h.counts ∙ sym (each_append h.steps w.gained a.counts);
+        used = used_both a b c h.used (record { caller = w.caller; board = tied; rises = rises; splits = w.splits; rank = w.rank });
+      }
+
+  -- its receipts were forgotten, and more names were taken, of which nothing was done
+  pub has_looked : (all taken names : List JobName) (a b c d : HostSeatView) → HasWorked worker taken a b → c.caller ≡ b.caller → c.counts ≡ b.counts → c.board ≡ b.board → all ≡ taken ++ names → d ≡ c → HasWorked worker all a d
+  has_looked all taken names a b c d h caller counts board has same =
+      subst (HasWorked worker all a) (sym same) (has_taken all taken names a c has (has_forgot taken a b c h caller counts board))
+
+  -- and then one of those that were taken was tried, by whoever took it
+  pub has_gone_on : (by : ℕ) (all taken names : List JobName) (name : JobName) (a b c d e : HostSeatView) → HasWorked worker taken a b → c.caller ≡ b.caller → c.counts ≡ b.counts → c.board ≡ b.board → all ≡ taken ++ names → d ≡ c
+      → by ≡ worker → Contains all name → Worked by (name ∷ []) d e → e.board.board ≡ d.board.board → Rises d.board.seen e.board.seen → HasWorked worker all a e
+  has_gone_on by all taken names name a b c d e h caller counts board has same own among p tied rises =
+      has_tried by all name a d e own among (has_looked all taken names a b c d h caller counts board has same) p tied rises
 
   -- the work of all names, after that of those that were taken first
   pub has_after : (all taken names : List JobName) (a b c : HostSeatView) → all ≡ taken ++ names → HasWorked worker taken a b → HasWorked worker all b c → HasWorked worker all a c
@@ -107,33 +124,3 @@ module _ (worker : ℕ) where
     counts = then.counts ∙ ap (counted_each then.steps) h.counts ∙ sym (each_append h.steps then.steps a.counts);
     used = used_both a b c h.used then.used;
   }
-
-  -- one step of a name, where nothing was done before
-  pub worked_one : (name : JobName) (step : Step) (reply : Reply) (a b c : HostSeatView) → IsSameSeat a b → IsJobStep worker name step → Receives name.slot step reply b c → Worked worker (name ∷ []) a c
-  worked_one name step reply a b c same is receives = record {
-    gained = receipt name.slot receives.number step reply ∷ [];
-    receipts = receives.receipts ∙ ap (λ rs. rs ++ receipt name.slot receives.number step reply ∷ []) same.receipts;
-    counts = receives.counts ∙ ap (counted name.slot) same.counts;
-    own = All-cons (IsWorkOf worker (name ∷ [])) (receipt name.slot receives.number step reply) [] (name, (0, omega arith, refl), refl, is) (All-nil (IsWorkOf worker (name ∷ [])));
-    caller = receives.caller ∙ same.caller;
-    splits = receives.splits ∙ ap (λ (x : SeatView). x.splits) same.board;
-    rank = receives.rank ∙ ap (λ (x : SeatView). x.rank) same.board;
-  }
-
-  -- the steps of a name, and then more of them
-  worked_both : (taken : List JobName) (a b c : HostSeatView) → Worked worker taken a b → Worked worker taken b c → Worked worker taken a c
-  worked_both taken a b c p q = record {
-    gained = p.gained ++ q.gained;
-    receipts = q.receipts ∙ ap (λ rs. rs ++ q.gained) p.receipts ∙ append_assoc a.receipts p.gained q.gained;
-    counts = q.counts ∙ ap (counted_each q.gained) p.counts ∙ sym (each_append p.gained q.gained a.counts);
-    own = All-append (IsWorkOf worker taken) p.gained q.gained p.own q.own;
-    caller = q.caller ∙ p.caller;
-    splits = q.splits ∙ p.splits;
-    rank = q.rank ∙ p.rank;
-  }
-
--- a job that came back was ended, after its name was done, by whoever began it
-pub worked_ended : (worker by : ℕ) (name of : JobName) (a b c : HostSeatView) → by ≡ worker → of ≡ name → Worked worker (name ∷ []) a b → Worked by (of ∷ []) b c → Worked worker (name ∷ []) a c
-worked_ended worker by name of a b c own same p q =
-    let second = subst (λ w. Worked w (of ∷ []) b c) own q in
-    worked_both worker (name ∷ []) a b c p (subst (λ x. Worked worker (x ∷ []) b c) same second)

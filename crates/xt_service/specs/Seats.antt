@@ -1,11 +1,14 @@
 -- What becomes of the seats of a service: of a session's, of a worker's, and of its own.
-use Rattle.std.specs.Prelude.{All, List, None, Option, Some, replicate, slice_set, ℕ, [], ◌++◌, ◌≡◌, ◌∷◌}
+use Rattle.std.specs.List.{Contains}
+use Rattle.std.specs.Prelude.{All, IfSome, List, None, Option, Some, replicate, slice_set, ℕ, [], ◌++◌, ◌≡◌, ◌⊎◌, ◌∷◌}
 use Rattle.xt_base.specs.declared.names.JobName.{JobName}
 use Rattle.xt_base.specs.declared.sizes.TheConstants.{SLOTS}
 use Rattle.xt_base.specs.declared.steps.Errno.{Errno}
 use Rattle.xt_base.specs.declared.steps.Reply.{Reply}
 use Rattle.xt_base.specs.declared.steps.Reply.TheVariants.{Okay, Refused}
-use Rattle.xt_base.specs.declared.steps.Request.TheVariants.{Unmount}
+use Rattle.xt_base.specs.declared.steps.Request.TheVariants.{Force, Push, Unmount}
+use Rattle.xt_base.specs.declared.steps.Step.{Step}
+use Rattle.xt_base.specs.declared.steps.Step.TheVariants.{Call}
 use Rattle.xt_cell.specs.HostSeats.{HostSeatView}
 use Rattle.xt_cell.specs.declared.mount_ref.MountRef.{MountRef}
 use Rattle.xt_cell.specs.declared.records.Receipt.{Receipt}
@@ -37,6 +40,28 @@ pub record HasWorked (worker : ℕ) (taken : List JobName) (old new : HostSeatVi
   pub own : All (IsWorkOf worker taken) steps
   pub counts : new.counts ≡ counted_each steps old.counts
   pub used : IsUsed old new
+
+-- a step asks that what a mount has committed be written to its log, or home
+abbrev pub IsWriteStep : MountRef → Step → Type 0
+IsWriteStep at (Call slot life Force answer) = (slot ≡ at.slot) × (life ≡ at.life)
+IsWriteStep at (Call slot life Push answer) = (slot ≡ at.slot) × (life ≡ at.life)
+IsWriteStep at other = ⊥
+
+-- a receipt is of such a step to one of some mounts, in the book of its slot
+abbrev pub IsWriteOf : List MountRef → Receipt → Type 0
+IsWriteOf mounts r = (at : MountRef) × Contains mounts at × (r.slot ≡ at.slot) × IsWriteStep at r.step
+
+-- a seat by which a worker worked and had mounts written out: it counted one event for each of some steps, and each of them is a step of its work, or asks that one of these
+-- mounts be written
+pub record HasWrittenOut (mounts : List MountRef) (worker : ℕ) (taken : List JobName) (old new : HostSeatView) : Type 0 where
+  pub steps : List Receipt
+  pub own : All (λ r. IsWorkOf worker taken r ⊎ IsWriteOf mounts r) steps
+  pub counts : new.counts ≡ counted_each steps old.counts
+  pub used : IsUsed old new
+
+-- each name that was put aside is one of those that were taken
+abbrev pub AreOf : List JobName → List (Option JobName) → Type 0
+AreOf taken places = All (λ place. IfSome place (λ name. Contains taken name)) places
 
 -- ---- the end of a service
 -- the reply to an unmount, by why the slot is mounted still, if it is

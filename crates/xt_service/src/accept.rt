@@ -6,8 +6,9 @@ ghost use Rattle.std.specs.Arc.{arc_value};
 
 use crate::door::Door;
 use crate::table::Table;
+use crate::tidings::Tidings;
 use std::alloc::Global;
-use std::io::{self, Eprint, ErrorKind};
+use std::io::{self, ErrorKind};
 use std::net::{TcpListener, TcpStream};
 use std::sync::{Arc, Wait};
 use std::thread;
@@ -23,14 +24,14 @@ const FIRST_REST_MILLIS: u64 = 1;
 /// How long it waits then at most: twice as long each time while no client comes, so that a service that nobody calls costs next to nothing.
 const LONGEST_REST_MILLIS: u64 = 64;
 
-/// How long it waits where a stream could not be accepted, in milliseconds: others may end meanwhile, and give theirs back.
+/// How long it waits where a stream could not be accepted, or its session had no thread, in milliseconds: others may end meanwhile, and give
+/// theirs back.
 const PAUSE_MILLIS: u64 = 100;
 
-/// A wait for a stream: how long it rests next, in milliseconds, and whether a fault was told.
+/// A wait for a stream: how long it rests next, in milliseconds.
 #[derive(Drop)]
 struct Waiting {
     rest: u64,
-    is_told: bool,
 }
 
 impl Waiting {
@@ -38,30 +39,27 @@ impl Waiting {
     fn new() -> Self {
         Waiting {
             rest: FIRST_REST_MILLIS,
-            is_told: false,
         }
     }
 
-    /// Waits before a stream is asked for again. The first of some faults in a row is told on standard error.
-    fn wait_after<R: Clock + Eprint>(&mut self, rt: &R, error: &io::Error) {
+    /// Waits before a stream is asked for again. The first fault of all is told.
+    fn wait_after<R: Wait + Clock>(&mut self, rt: &R, error: io::Error, tidings: &Tidings) {
         if error.kind() == ErrorKind::WouldBlock {
             thread::sleep(rt, Duration::from_millis(self.rest));
             self.rest = self.rest.saturating_mul(2).min(LONGEST_REST_MILLIS);
             return;
         }
-        if !self.is_told {
-            let _ = eprintln!(rt; "accept: {error}; it is tried again");
-        }
-        self.is_told = true;
+        tidings.note_fault(rt, error);
         thread::sleep(rt, Duration::from_millis(PAUSE_MILLIS));
     }
 }
 
 /// The next stream of a listener; None once the door is shut. A stream that could not be accepted, as where its client went away before, or
 /// where there are too many open files, is passed over.
-fn next_stream<R: Wait + Clock + Eprint>(
+fn next_stream<R: Wait + Clock>(
     rt: &R,
     listener: &TcpListener,
+    tidings: &Tidings,
     door: &Door,
 ) -> Option<TcpStream> {
     let mut waiting = Waiting::new();
@@ -71,8 +69,41 @@ fn next_stream<R: Wait + Clock + Eprint>(
         }
         match listener.accept() {
             Ok((stream, _client)) => return Some(stream),
-            Err(error) => waiting.wait_after(rt, &error),
+            Err(error) => waiting.wait_after(rt, error, tidings),
         }
+    }
+    unreachable!()
+}
+
+/// Begins one session more of a host: whether one has begun, or the door is shut. Where its thread is refused its client is sent away, and after
+/// a while the next one is accepted.
+fn begin_session<
+    H: House + Send + Sync + 'static,
+    D: Desk<H, R> + Drop + Send + Sync + 'static,
+    R: Threads + Wait + Clock + Copy + Send + 'static,
+>(
+    rt: R,
+    alloc: Global,
+    host: &Arc<Host<H, D>, Global>,
+    listener: &TcpListener,
+    table: &mut Table<H>,
+    tidings: &Tidings,
+    door: &Arc<Door, Global>,
+) -> bool
+    requires board { table.old.like.value.board.board ≡ (arc_value host.now).board }
+    ensures like { table.new.like ≡ table.old.like }
+    ensures places { slab_len table.new.sessions + vec_len table.new.free ≡ slab_len table.old.sessions + vec_len table.old.free }
+{
+    for _ in rt.forever() {
+        table.wait_for_seat(&rt);
+        let Some(stream) = next_stream(&rt, listener, tidings, door) else {
+            return false;
+        };
+        if table.open(rt, alloc, host, stream, door) {
+            return true;
+        }
+        tidings.note_sent_away();
+        thread::sleep(&rt, Duration::from_millis(PAUSE_MILLIS));
     }
     unreachable!()
 }
@@ -82,7 +113,7 @@ fn next_stream<R: Wait + Clock + Eprint>(
 pub fn accept_sessions<
     H: House + Send + Sync + 'static,
     D: Desk<H, R> + Drop + Send + Sync + 'static,
-    R: Threads + Wait + Clock + Eprint + Copy + Send + 'static,
+    R: Threads + Wait + Clock + Copy + Send + 'static,
 >(
     rt: R,
     alloc: Global,
@@ -90,6 +121,7 @@ pub fn accept_sessions<
     listener: &TcpListener,
     table: &mut Table<H>,
     count: u32,
+    tidings: &Tidings,
     door: &Arc<Door, Global>,
 )
     requires board { table.old.like.value.board.board ≡ (arc_value host.now).board }
@@ -97,10 +129,8 @@ pub fn accept_sessions<
     ensures places { slab_len table.new.sessions + vec_len table.new.free ≡ slab_len table.old.sessions + vec_len table.old.free }
 {
     for _ in 0..count {
-        table.wait_for_seat(&rt);
-        let Some(stream) = next_stream(&rt, listener, door) else {
+        if !begin_session(rt, alloc, host, listener, table, tidings, door) {
             return;
-        };
-        table.open(rt, alloc, host, stream, door);
+        }
     }
 }

@@ -3,6 +3,7 @@
 use crate::door::Door;
 use std::io::{self, ErrorKind, Read, Write};
 use std::net::TcpStream;
+use std::sync::atomic::{AtomicBool, Ordering};
 use std::time::Duration;
 
 /// After how long a client that says nothing, or takes no reply, is silent, in milliseconds.
@@ -11,11 +12,34 @@ const SILENCE_MILLIS: u64 = 100;
 /// How often a session reads once the door is shut, where its client is not silent.
 const LAST_READS: u32 = 100;
 
-/// Has a stream tell of silence. One that can't waits for its client as before.
-pub fn tell_silence(stream: &TcpStream) {
-    let silence = Some(Duration::from_millis(SILENCE_MILLIS));
-    let _ = stream.set_read_timeout(silence);
-    let _ = stream.set_write_timeout(silence);
+/// The stream of a client, and whether the client was sent away before its session began.
+#[derive(Drop)]
+pub struct Guest {
+    stream: TcpStream,
+    is_sent_away: AtomicBool,
+}
+
+impl Guest {
+    /// One that is to be served.
+    pub fn new(stream: TcpStream) -> Self {
+        Guest {
+            stream,
+            is_sent_away: AtomicBool::new(false),
+        }
+    }
+
+    /// Sends it away: nothing that it says is heard.
+    pub fn send_away(&self) {
+        self.is_sent_away.store(true, Ordering::SeqCst);
+    }
+
+    /// Has its stream pass on each reply at once, and tell of silence. One that can't waits for its client as before.
+    pub fn prepare(&self) {
+        let silence = Some(Duration::from_millis(SILENCE_MILLIS));
+        let _ = self.stream.set_nodelay(true);
+        let _ = self.stream.set_read_timeout(silence);
+        let _ = self.stream.set_write_timeout(silence);
+    }
 }
 
 /// What a fault of a stream is to its session: silence is none while the door is open, so the call is made again; then it is the end.
@@ -30,19 +54,20 @@ fn fault(error: io::Error, door: &Door) -> io::Error {
     }
 }
 
-/// What a client says. Once the door is shut it is read until the client is silent, and a hundred times at most.
+/// What a client says; nothing of one that was sent away. Once the door is shut it is read until the client is silent, and a hundred times at
+/// most.
 #[derive(Drop)]
 pub struct Hearing<'a> {
-    stream: &'a TcpStream,
+    guest: &'a Guest,
     door: &'a Door,
     last_reads: u32,
 }
 
 impl<'a> Hearing<'a> {
-    /// What the client of a stream says, up to its silence once the door is shut.
-    pub fn new(stream: &'a TcpStream, door: &'a Door) -> Self {
+    /// What a client says, up to its silence once the door is shut.
+    pub fn new(guest: &'a Guest, door: &'a Door) -> Self {
         Hearing {
-            stream,
+            guest,
             door,
             last_reads: LAST_READS,
         }
@@ -50,6 +75,9 @@ impl<'a> Hearing<'a> {
 
     /// Whether it is read again.
     fn goes_on(&mut self) -> bool {
+        if self.guest.is_sent_away.load(Ordering::SeqCst) {
+            return false;
+        }
         if !self.door.is_shut() {
             return true;
         }
@@ -64,7 +92,7 @@ impl<'a> Read for Hearing<'a> {
         if !self.goes_on() {
             return Err(io::Error::from(ErrorKind::TimedOut));
         }
-        let mut stream = self.stream;
+        let mut stream = &self.guest.stream;
         match stream.read(buf) {
             Ok(count) => Ok(count),
             Err(error) => Err(fault(error, self.door)),
@@ -75,20 +103,20 @@ impl<'a> Read for Hearing<'a> {
 /// What a client is told, up to its silence once the door is shut.
 #[derive(Drop)]
 pub struct Telling<'a> {
-    stream: &'a TcpStream,
+    guest: &'a Guest,
     door: &'a Door,
 }
 
 impl<'a> Telling<'a> {
-    /// What the client of a stream is told.
-    pub fn new(stream: &'a TcpStream, door: &'a Door) -> Self {
-        Telling { stream, door }
+    /// What a client is told.
+    pub fn new(guest: &'a Guest, door: &'a Door) -> Self {
+        Telling { guest, door }
     }
 }
 
 impl<'a> Write for Telling<'a> {
     fn write(&mut self, buf: &[u8]) -> io::Result<usize> {
-        let mut stream = self.stream;
+        let mut stream = &self.guest.stream;
         match stream.write(buf) {
             Ok(count) => Ok(count),
             Err(error) => Err(fault(error, self.door)),

@@ -13,7 +13,6 @@ use crate::names::{Name, has};
 use std::alloc::{AllocError, Global};
 use std::marker::Model;
 use std::sync::Wait;
-use std::thread;
 use xt_base::names::{Block, Slot, TransNo};
 use xt_base::sizes::BUSY_BLOCKS;
 use xt_base::steps::{Errno, Reply, Request};
@@ -22,6 +21,7 @@ use xt_cell::mount_ref::MountRef;
 use xt_cell::seat::HostSeat;
 use xt_host::desk::Desk;
 use xt_host::host::Host;
+use xt_host::pause::Pause;
 
 /// What one session has: its seat at the host, and the names of its transactions and of its held buffers, ascending.
 #[derive(Drop)]
@@ -181,18 +181,19 @@ impl<H: House> Holding<H> {
     }
 
     /// Gives all back: its transactions are cancelled, ascending, and then its held buffers are released, ascending. What finds no memory
-    /// is tried again.
+    /// is tried again, after a pause.
     pub(crate) fn give_back<D: Desk<H, T>, T: Wait>(&mut self, rt: &T, host: &Host<H, D>)
         requires board { self.old.seat.board.board ≡ host.now.board }
         ensures ends { Ends self.old self.new }
         ensures board { self.new.seat.board.board ≡ self.old.seat.board.board }
     {
+        let mut pause = Pause::new();
         for _ in rt.forever() {
             let Some((at, request)) = self.next_back() else {
                 return;
             };
             if self.ask(rt, host, &at, request).is_no_memory() {
-                thread::yield_now();
+                pause.wait(rt);
             }
         }
         unreachable!()

@@ -2,6 +2,7 @@
 #![tactic(auto)]
 
 pub mod accept;
+mod aside;
 pub mod bench;
 pub mod door;
 mod effect;
@@ -14,6 +15,7 @@ mod names;
 mod room;
 pub mod service;
 pub mod table;
+pub mod tidings;
 pub mod workplace;
 
 pub use host_calls::HostCalls;

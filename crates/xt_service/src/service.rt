@@ -1,12 +1,13 @@
 //! The life of a service over a host whose volumes are mounted: its workers, the sessions, and the end.
 
-ghost use Rattle.std.specs.Prelude.{◌≡◌, ◌≤◌, ◌+◌, ◌⊎◌, All, IfErr, IfOk, OnOk, vec_capacity, vec_len};
+ghost use Rattle.std.specs.Prelude.{◌≡◌, ◌≤◌, ◌+◌, ◌++◌, ◌⊎◌, All, List, IfErr, IfOk, OnOk, vec_capacity, vec_len};
 ghost use Rattle.std.specs.Arc.{arc_value};
 ghost use Rattle.slab.specs.Slab.{slab_len};
 ghost use Rattle.std.specs.List.{Contains};
+ghost use Rattle.xt_base.specs.declared.names.JobName.{JobName as AName};
 ghost use Rattle.xt_base.specs.declared.steps.Errno.TheVariants.{NoMemory, NoSpace};
 ghost use Rattle.xt_cell.specs.HostSeats.{HostSeatView as AHostSeat};
-ghost use Rattle.xt_service.specs.Seats.{HasWorked, IsSplitOff, IsUsed, Unmounts};
+ghost use Rattle.xt_service.specs.Seats.{HasWorked, HasWrittenOut, IsSplitOff, IsUsed, Unmounts};
 ghost use Rattle.xt_service.specs.declared.ended.TheConstants.{PLACES};
 
 use crate::accept::accept_sessions;
@@ -15,9 +16,9 @@ use crate::door::Door;
 use crate::ended::{Ended, PLACES};
 use crate::room::{Room, put_benches, put_seats};
 use crate::table::Table;
+use crate::tidings::Tidings;
 use crate::workplace::Workplace;
 use std::alloc::{AllocError, Global};
-use std::io::Eprint;
 use std::net::TcpListener;
 use std::snapshot::Snapshot;
 use std::sync::{Arc, Wait};
@@ -284,14 +285,16 @@ impl<H: House + Send + Sync + 'static> Service<H> {
 
     /// Serves so many sessions over the streams of a listener, at most sixteen at a time, and returns when the last has ended. Once the door
     /// is shut no more are served, and each ends where its client is silent; a listener that waits for a client finds that out only then,
-    /// so where the door may be shut it is to be one that does not block. What can't be accepted is told on standard error, and tried again.
-    pub fn serve<R: Threads + Wait + Clock + Eprint + Copy + Send + 'static>(
+    /// so where the door may be shut it is to be one that does not block. A stream that can't be accepted is noted as a tiding, and tried again;
+    /// a client whose session can't have a thread is noted too, and sent away.
+    pub fn serve<R: Threads + Wait + Clock + Copy + Send + 'static>(
         &mut self,
         rt: R,
         alloc: Global,
         host: &Arc<Host<H>, Global>,
         listener: &TcpListener,
         count: u32,
+        tidings: &Tidings,
         door: &Arc<Door, Global>,
     )
         requires board { self.old.own.board.board ≡ (arc_value host.now).board }
@@ -300,7 +303,16 @@ impl<H: House + Send + Sync + 'static> Service<H> {
         ensures running { slab_len self.new.table.sessions ≡ 0 }
         ensures places { slab_len self.new.table.sessions + vec_len self.new.table.free ≡ slab_len self.old.table.sessions + vec_len self.old.table.free }
     {
-        accept_sessions(rt, alloc, host, listener, &mut self.table, count, door);
+        accept_sessions(
+            rt,
+            alloc,
+            host,
+            listener,
+            &mut self.table,
+            count,
+            tidings,
+            door,
+        );
         self.table.wait_for_all(&rt);
     }
 }
@@ -316,6 +328,9 @@ fn write_out_each<H: House, D: Workplace<H, R>, R: Wait>(
     requires queue { bench.old.pass.queue ≡ arc_value host.now.queue }
     ensures board { bench.new.seat.board.board ≡ host.now.board }
     ensures queue { bench.new.pass.queue ≡ arc_value host.now.queue }
+    ensures worker { bench.new.pass.worker ≡ bench.old.pass.worker }
+    ensures taken { (names : List AName) × (bench.new.pass.taken ≡ bench.old.pass.taken ++ names) }
+    ensures written { HasWrittenOut mounts.now bench.old.pass.worker bench.new.pass.taken bench.old.seat bench.new.seat }
     ensures used { IsUsed bench.old.seat bench.new.seat }
 {
     for at in mounts {
@@ -334,6 +349,9 @@ fn write_out_all<H: House, D: Workplace<H, R>, R: Wait>(
     requires queue { bench.old.pass.queue ≡ arc_value host.now.queue }
     ensures board { bench.new.seat.board.board ≡ host.now.board }
     ensures queue { bench.new.pass.queue ≡ arc_value host.now.queue }
+    ensures worker { bench.new.pass.worker ≡ bench.old.pass.worker }
+    ensures taken { (names : List AName) × (bench.new.pass.taken ≡ bench.old.pass.taken ++ names) }
+    ensures written { HasWrittenOut mounts.now bench.old.pass.worker bench.new.pass.taken bench.old.seat bench.new.seat }
     ensures used { IsUsed bench.old.seat bench.new.seat }
 {
     for _ in 0..ROUNDS {

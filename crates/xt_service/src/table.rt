@@ -10,7 +10,7 @@ ghost use Rattle.xt_session.specs.declared.session_end.SessionEnd.{SessionEnd as
 
 use crate::door::Door;
 use crate::ended::{Ended, PLACES};
-use crate::guest::{Hearing, Telling, tell_silence};
+use crate::guest::{Guest, Hearing, Telling};
 use crate::host_session::host_session;
 use slab::Slab;
 use std::alloc::{AllocError, Global};
@@ -54,34 +54,34 @@ pub struct Table<H: House> {
     ghost promised_unsplit: { (number : ℕ) → ForSome (get sessions number) (λ session. session.promise.0.value.board.splits ≡ 0) },
 }
 
-/// Serves a session over a stream to its end, and closes the stream: the seat. Once the door is shut it ends where its client is silent.
-fn serve_stream<H: House, D: Desk<H, R>, R: Wait>(
+/// Serves a session of a client to its end: the seat. Of a client that was sent away no line is heard. Once the door is shut it ends where
+/// its client is silent.
+fn serve_guest<H: House, D: Desk<H, R>, R: Wait>(
     rt: &R,
     alloc: Global,
     host: &Host<H, D>,
     seat: HostSeat<H>,
-    stream: TcpStream,
+    guest: &Guest,
     door: &Door,
 ) -> HostSeat<H>
     requires board { seat.board.board ≡ host.now.board }
     ensures session { (end : AnEnd) × IsHostSession seat result None None None None end }
     ensures board { result.board.board ≡ host.now.board }
 {
-    let _ = stream.set_nodelay(true);
-    tell_silence(&stream);
-    let mut reader = Hearing::new(&stream, door);
-    let mut writer = Telling::new(&stream, door);
+    guest.prepare();
+    let mut reader = Hearing::new(guest, door);
+    let mut writer = Telling::new(guest, door);
     let (seat, _end) = host_session(rt, alloc, host, seat, &mut reader, &mut writer);
     seat
 }
 
-/// Serves a session over a stream, and then tells of its end under its number.
+/// Serves a session of a client, closes its stream, and then tells of its end under its number.
 fn serve_told<H: House, D: Desk<H, R> + Drop, R: Wait + Copy>(
     rt: R,
     alloc: Global,
     host: Arc<Host<H, D>, Global>,
     seat: HostSeat<H>,
-    stream: TcpStream,
+    guest: Arc<Guest, Global>,
     ended: Arc<Ended, Global>,
     number: usize,
     door: Arc<Door, Global>,
@@ -90,12 +90,14 @@ fn serve_told<H: House, D: Desk<H, R> + Drop, R: Wait + Copy>(
     ensures session { (end : AnEnd) × IsHostSession seat result None None None None end }
     ensures board { result.board.board ≡ (arc_value host).board }
 {
-    let seat = serve_stream(&rt, alloc, &host, seat, stream, &door);
+    let seat = serve_guest(&rt, alloc, &host, seat, &guest, &door);
+    drop(guest);
     ended.tell(&rt, number);
     seat
 }
 
-/// Serves a session in a thread of its own: its handle. Where no thread can be made it is served here: its seat, once it has ended.
+/// Serves a session of a client in a thread of its own: its handle. Where no thread can be made the client is sent away, and no line of it
+/// is heard: the seat.
 fn start<
     H: House + Send + Sync + 'static,
     D: Desk<H, R> + Drop + Send + Sync + 'static,
@@ -105,7 +107,7 @@ fn start<
     alloc: Global,
     host: &Arc<Host<H, D>, Global>,
     seat: HostSeat<H>,
-    stream: TcpStream,
+    guest: Arc<Guest, Global>,
     ended: &Arc<Ended, Global>,
     number: usize,
     door: &Arc<Door, Global>,
@@ -115,21 +117,27 @@ fn start<
     ensures ended { IfErr result (λ back. (end : AnEnd) × IsHostSession seat back None None None None end) }
     ensures seat { IfErr result (λ back. back.board.board ≡ (arc_value host.now).board) }
 {
-    let (Ok(theirs), Ok(told), Ok(shut)) = (
+    let (Ok(theirs), Ok(client), Ok(told), Ok(shut)) = (
         Arc::try_clone(host),
+        Arc::try_clone(&guest),
         Arc::try_clone(ended),
         Arc::try_clone(door),
     ) else {
-        return Err(serve_stream(&rt, alloc, host, seat, stream, door));
+        guest.send_away();
+        return Err(serve_guest(&rt, alloc, host, seat, &guest, door));
     };
     let promise = OneSession(Snapshot::of(&seat));
     let session = move || -> HostSeat<H>
         requires { seat.board.board ≡ (arc_value theirs).board }
         ensures { (end : AnEnd) × IsHostSession seat result None None None None end }
-    { serve_told(rt, alloc, theirs, seat, stream, told, number, shut) };
+    { serve_told(rt, alloc, theirs, seat, client, told, number, shut) };
     match thread::spawn_with(&rt, promise, session) {
         Ok(session) => Ok(session),
-        Err(refused) => Err((refused.value)()),
+        Err(refused) => {
+            // the seat is in the closure, which gives it back
+            guest.send_away();
+            Err((refused.value)())
+        }
     }
 }
 
@@ -235,8 +243,9 @@ impl<H: House> Table<H> {
 }
 
 impl<H: House + Send + Sync + 'static> Table<H> {
-    /// Serves a session of a host over a stream, in a thread of its own and by a free place. Where no thread can be made it is served
-    /// here, and this returns at its end. Once the door is shut the session ends where its client is silent.
+    /// Serves a session of a host over a stream, in a thread of its own and by a free place: whether one has begun. Where no thread can be made,
+    /// or no memory for one, the client is sent away: the stream is closed, and no line of it was heard. Once the door is shut the session ends
+    /// where its client is silent.
     pub fn open<
         D: Desk<H, R> + Drop + Send + Sync + 'static,
         R: Threads + Wait + Copy + Send + 'static,
@@ -247,23 +256,28 @@ impl<H: House + Send + Sync + 'static> Table<H> {
         host: &Arc<Host<H, D>, Global>,
         stream: TcpStream,
         door: &Arc<Door, Global>,
-    )
+    ) -> bool
         requires free { 0 < vec_len self.old.free }
         requires board { self.old.like.value.board.board ≡ (arc_value host.now).board }
         ensures like { self.new.like ≡ self.old.like }
         ensures places { slab_len self.new.sessions + vec_len self.new.free ≡ slab_len self.old.sessions + vec_len self.old.free }
     {
+        let Ok(guest) = Arc::new(alloc, Guest::new(stream)) else {
+            return false;
+        };
         let Some(seat) = self.free.pop() else {
             unreachable!()
         };
         let number = self.sessions.vacant_key();
-        match start(rt, alloc, host, seat, stream, &self.ended, number, door) {
+        match start(rt, alloc, host, seat, guest, &self.ended, number, door) {
             Ok(session) => {
                 self.sessions.insert_reserved(session);
+                true
             }
             Err(seat) => {
                 self.ended.forget(&rt, number);
                 self.free.push_reserved(seat);
+                false
             }
         }
     }

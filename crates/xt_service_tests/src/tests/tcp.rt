@@ -6,7 +6,7 @@ ghost use Rattle.xt_cell.specs.Ledgers.{AreCut, AreNamed};
 
 use crate::tests::stand::{Stand, in_memory, mounted, two_slots};
 use std::alloc::Global;
-use std::io::{Eprint, Read, Write};
+use std::io::{Read, Write};
 use std::marker::Brand;
 use std::net::{Net, Shutdown, SocketAddr, TcpListener, TcpStream};
 use std::process::Abort;
@@ -26,6 +26,7 @@ use xt_host::fault::CloseFault;
 use xt_host::host::Host;
 use xt_service::door::Door;
 use xt_service::service::{Service, ServiceEnd};
+use xt_service::tidings::Tidings;
 
 /// What the clients of a service do.
 #[derive(Clone, Copy)]
@@ -174,7 +175,6 @@ fn serve_clients<
         + Threads
         + Wait
         + Clock
-        + Eprint
         + Copy
         + Send
         + 'static,
@@ -195,7 +195,15 @@ fn serve_clients<
         return Err(Errno::NoMemory);
     };
     let clients = call_on(rt, alloc, &listener, visit)?;
-    service.serve(rt, alloc, host, &listener, visit.sessions(), &door);
+    service.serve(
+        rt,
+        alloc,
+        host,
+        &listener,
+        visit.sessions(),
+        &Tidings::new(),
+        &door,
+    );
     match clients.join(&rt) {
         Ok(told) => Ok(told),
         Err(_fault) => Err(Errno::Io),
@@ -233,7 +241,6 @@ fn serve<
         + Threads
         + Wait
         + Clock
-        + Eprint
         + Copy
         + Send
         + 'static,
@@ -265,7 +272,6 @@ fn serves<
         + Threads
         + Wait
         + Clock
-        + Eprint
         + Copy
         + Send
         + 'static,
@@ -282,7 +288,6 @@ fn is_told<
         + Threads
         + Wait
         + Clock
-        + Eprint
         + Copy
         + Send
         + 'static,

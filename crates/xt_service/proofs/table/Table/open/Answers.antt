@@ -17,8 +17,8 @@ invariant_of-self g c =
       room = search rules;
       seats = seats.0;
       unsplit = unsplit.0;
-      promised = placed (λ session. session.promise.0.value.board.board ≡ like) _ _ _ _ c.insert_reserved.ensures.updates (ap (λ (s : HostSeatView). s.board.board) c.in-Ok.ensures.session ∙ seats.1) c.args.self.now.promised;
-      promised_unsplit = placed (λ session. session.promise.0.value.board.splits ≡ 0) _ _ _ _ c.insert_reserved.ensures.updates (ap (λ (s : HostSeatView). s.board.splits) c.in-Ok.ensures.session ∙ unsplit.1) c.args.self.now.promised_unsplit;
+      promised = placed (λ session. session.promise.0.value.board.board ≡ like) _ _ _ _ c.insert_reserved.ensures.updates (ap (λ (s : HostSeatView). s.board.board) c.in-Ok-start.ensures.session ∙ seats.1) c.args.self.now.promised;
+      promised_unsplit = placed (λ session. session.promise.0.value.board.splits ≡ 0) _ _ _ _ c.insert_reserved.ensures.updates (ap (λ (s : HostSeatView). s.board.splits) c.in-Ok-start.ensures.session ∙ unsplit.1) c.args.self.now.promised_unsplit;
     }
 
 -- or the seat is back after a session that was served here

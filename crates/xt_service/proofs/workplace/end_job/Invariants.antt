@@ -1,6 +1,6 @@
 use Rattle.std.proofs.Common.{◌≡◌}
 use Rattle.xt_cell.specs.HostSeats.{IsSameSeat}
-use Rattle.xt_service.proofs.workplace.give_back.Given as goal
+use Rattle.xt_service.proofs.workplace.end_job.Given as goal
 
 -- no try has changed the seat or the job
 abbrev pub invariant-loop : goal.invariant-loop
