@@ -13,7 +13,7 @@ use Rattle.xt_recover.proofs.ReadLemmas.{length_bytes}
 use Rattle.xt_recover.proofs.SaidLemmas.{chunk_found}
 use Rattle.xt_recover.specs.Gathering.{IsGathered, IsWhyLog}
 use Rattle.xt_recover.specs.Overlaid.{Overlaid, nothing, overlaid_chunk}
-use Rattle.xt_recover.specs.Recovering.{AreAnswered, CanBreakOff, HaveBytes, IsCounted, IsTorn, IsWhy, MayLeave, TellsBrokenOff, TellsRecovered, with_block}
+use Rattle.xt_recover.specs.Recovering.{AreAnswered, CanBreakOff, HaveBytes, HaveNoSync, IsCounted, IsTorn, IsWhy, MayLeave, TellsBrokenOff, TellsRecovered, with_block}
 use Rattle.xt_recover.specs.declared.gather.LogCounts.{LogCounts}
 use Rattle.xt_recover.specs.declared.gather.LogFault.{LogFault}
 use Rattle.xt_recover.specs.declared.recovering.RecoverFault.{RecoverFault}
@@ -163,6 +163,11 @@ pub broken_off : (log : List ℕ) (counts : LogCounts) (l : Overlaid) (told tell
 broken_off log counts l told tell before after from stopped =
     record { size = l.size; texts = from.texts; read = from.read; calls = stopped.calls; bytes = have_bytes l stopped.calls (well_laid log counts l from) stopped.goes; tells = stopped.tells; again = can_break_off log counts l stopped.calls from stopped.goes }
 
+-- no block that is written asks for a sync
+no_sync : (l : Overlaid) (es : List (ℕ × List ℕ)) (calls : List HomeCall) → AreWritten l es calls → HaveNoSync calls
+no_sync l [] calls written = subst HaveNoSync (sym written) tt
+no_sync l (e ∷ es) calls written = subst HaveNoSync (sym written.4) (no_sync l es written.1 written.5)
+
 -- what was gathered of a log and written over a device
 pub recovered_tells : (log : List ℕ) (counts : LogCounts) (l : Overlaid) (told tell : Bool) (before after : List HomeCall) → IsGathered log counts l → TellsWritten l told before tell after → TellsRecovered log told before tell after
 recovered_tells log counts l told tell before after gathered written =
@@ -174,6 +179,7 @@ recovered_tells log counts l told tell before after gathered written =
       read = gathered.read;
       calls = written.calls;
       bytes = subst (HaveBytes (block_size l.size)) (append-nil written.calls) (have_bytes l (written.calls ++ []) kept goes);
+      unsynced = no_sync l l.contents written.calls written.written;
       tells = written.tells;
       image = λ old new answered b k less.
           image_written l 0 l.contents written.calls old new b k kept kept.contents_rise kept.whole written.written answered less

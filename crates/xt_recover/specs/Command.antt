@@ -31,6 +31,11 @@ abbrev pub IfStopped : CommandFault → (RecoverFault → Type 0) → Type 0
 IfStopped (CommandFault.Recover fault) P = P fault
 IfStopped (CommandFault.Empty error) P = Unit {0}
 
+-- where the log was not emptied, what was to be done before holds
+abbrev pub IfNotEmptied : CommandFault → Type 0 → Type 0
+IfNotEmptied (CommandFault.Recover fault) P = Unit {0}
+IfNotEmptied (CommandFault.Empty error) P = P
+
 -- all of a text was printed, and then this is the status; else it is 1
 abbrev pub IsPrintedOr1 : ℕ → List ℕ → Option (List ℕ) → Option (List ℕ) → ℕ → Type 0
 IsPrintedOr1 wanted text old new status = ((status ≡ wanted) × Appends old new text) ⊎ (status ≡ 1)

@@ -28,6 +28,13 @@ HaveBytes bytes (HomeCall.Read b (Some content) ∷ cs) = (length content ≡ by
 HaveBytes bytes (HomeCall.Offer (HomeOffer.Write b content ok) ∷ cs) = (length content ≡ bytes) × HaveBytes bytes cs
 HaveBytes bytes (HomeCall.Offer (HomeOffer.Sync ok) ∷ cs) = HaveBytes bytes cs
 
+-- none of these calls asks the device to make safe what was written
+abbrev pub HaveNoSync : List HomeCall → Type 0
+HaveNoSync [] = Unit {0}
+HaveNoSync (HomeCall.Read b content ∷ cs) = HaveNoSync cs
+HaveNoSync (HomeCall.Offer (HomeOffer.Write b content ok) ∷ cs) = HaveNoSync cs
+HaveNoSync (HomeCall.Offer (HomeOffer.Sync ok) ∷ cs) = ⊥
+
 -- calls that succeeded, answered as an image of blocks of so many bytes answers them: a read gives what it has, a write makes it have that
 abbrev pub AreAnswered : ℕ → List HomeCall → Image → Image → Type 0
 AreAnswered bytes [] old new = Agree bytes new old
@@ -52,14 +59,15 @@ MayLeave bytes (HomeCall.Offer (HomeOffer.Sync ok) ∷ cs) old left = MayLeave b
 abbrev pub CanBreakOff : ℕ → List (List Entry) → List HomeCall → Type 0
 CanBreakOff bytes texts calls = (n : ℕ) (old left : Image) → MayLeave bytes (take n calls) old left → Agree bytes (replayed_image (reverse texts) left) (replayed_image (reverse texts) old)
 
--- the device was told calls that end with a sync, of blocks of the size that the texts say, and if it answered them as an image does, its image is
--- the one that the texts of the log, laid over it the newest first, give
+-- the device was told calls that end with their one sync, of blocks of the size that the texts say, and if it answered them as an image does, its
+-- image is the one that the texts of the log, laid over it the newest first, give
 pub record TellsRecovered (log : List ℕ) (told : Bool) (before : List HomeCall) (tell : Bool) (after : List HomeCall) : Type 0 where
   pub size : Option ℕ
   pub texts : List (List Entry)
   pub read : ReadsAs size log texts
   pub calls : List HomeCall
   pub bytes : HaveBytes (block_size size) calls
+  pub unsynced : HaveNoSync calls
   pub tells : Tells told before (calls ++ HomeCall.Offer (HomeOffer.Sync true) ∷ []) tell after
   pub image : (old new : Image) → AreAnswered (block_size size) calls old new → Agree (block_size size) new (replayed_image (reverse texts) old)
   pub again : CanBreakOff (block_size size) texts calls

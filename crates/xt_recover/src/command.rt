@@ -5,7 +5,7 @@ ghost use Rattle.std.specs.Io.KnownBytes.{Appends};
 ghost use Rattle.xt_recover.specs.Reading.{IsStoppedAt};
 ghost use Rattle.xt_recover.specs.Recovering.{IsCounted, IsWhy, TellsRecovered, is_home_fault};
 ghost use Rattle.xt_recover.specs.declared.recovering.Recovered.{Recovered as ARecovered};
-ghost use Rattle.xt_recover.specs.Command.{IfStopped, IsCommandStatus, IsOutcomePrinted, fault_line, recovered_lines, rest_lines};
+ghost use Rattle.xt_recover.specs.Command.{IfNotEmptied, IfStopped, IsCommandStatus, IsOutcomePrinted, fault_line, recovered_lines, rest_lines};
 
 use crate::gather::LogFault;
 use crate::recovering::{RecoverFault, Recovered, recover};
@@ -49,6 +49,7 @@ pub fn recover_log<L: Read, C: Emptied, H: HomeDevice>(
     ensures why { IfErr result (λ fault. IfStopped fault (λ found. IfSome (L.remaining reader.old) (λ bytes. IsWhy bytes found))) }
     ensures untouched { IfErr result (λ fault. IfStopped fault (λ found. is_home_fault found ≡ false → home.new ≡ home.old)) }
     ensures order { IfErr result (λ fault. IfStopped fault (λ _. log.new ≡ log.old)) }
+    ensures before { IfErr result (λ fault. IfNotEmptied fault (IfSome (L.remaining reader.old) (λ bytes. TellsRecovered bytes (H.home_tells home.old) (H.home_taken home.old) (H.home_tells home.new) (H.home_taken home.new)))) }
     ensures safe { (log.new ≡ log.old) ⊎ IfSome (L.remaining reader.old) (λ bytes. TellsRecovered bytes (H.home_tells home.old) (H.home_taken home.old) (H.home_tells home.new) (H.home_taken home.new)) }
     ensures emptied { OnOk result (is_cut ≡ true → C.is_emptied log.new ≡ true) }
     ensures uncut { is_cut ≡ false → log.new ≡ log.old }
