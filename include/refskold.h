@@ -65,8 +65,8 @@
  *
  * Who owns what
  *
- *   A handle is yours: 16 bytes, all zeros where it holds no mount. Memory behind it is the library's, from malloc, and
- *   refskold_close gives it back. Do not copy a handle that holds a mount: of two copies only one may be used. What you
+ *   A handle is yours: 16 bytes, all zeros where it holds no mount, also once that has ended. Memory behind it is the
+ *   library's, from malloc, and refskold_close gives it back. Do not copy a handle that holds a mount: of two copies only one may be used. What you
  *   hand in is copied; the library keeps none of your pointers. In one call no two arguments may overlap.
  *
  * Threads, signals, forks
@@ -180,7 +180,8 @@ enum refskold_job { REFSKOLD_CHECKPOINT = 0, REFSKOLD_FLUSH = 1 };
 /* What the library exports: for bindings of other languages. In C use the functions below this part, which refuse NULL.
  *
  * Here no pointer may be NULL, also where its length is 0, and each is to as many bytes as is said. A function below says
- * what its export does, with the differences that are named here. */
+ * what its export does, with the differences that are named here. An export that ends what a handle holds sets `holds` to
+ * 0, and `at` then says nothing. */
 
 /* The words of requests, with the fields of a refskold_request that each reads. */
 enum refskold_word {
@@ -272,12 +273,15 @@ static inline int refskold_call(refskold *mount, const refskold_request *request
     static const uint8_t none[1] = { 0 };
     uint8_t no_room[1];
     refskold_reply told;
+    int status;
     if (mount == NULL || request == NULL) return -EINVAL;
     if ((data == NULL && data_len != 0) || (content == NULL && content_len != 0)) return -EINVAL;
     if (room == NULL && room_len != 0) return -EINVAL;
-    return refskold_abi_call(mount, request, data == NULL ? none : (const uint8_t *)data, data_len, answered,
-                             content == NULL ? none : (const uint8_t *)content, content_len, reply == NULL ? &told : reply,
-                             room == NULL ? no_room : (uint8_t *)room, room_len);
+    status = refskold_abi_call(mount, request, data == NULL ? none : (const uint8_t *)data, data_len, answered,
+                               content == NULL ? none : (const uint8_t *)content, content_len, reply == NULL ? &told : reply,
+                               room == NULL ? no_room : (uint8_t *)room, room_len);
+    if (mount->holds == 0) mount->at = NULL;
+    return status;
 }
 
 /* A request of this word, with no other field; and one of a block of a transaction. For the functions below. */
@@ -312,7 +316,8 @@ static inline uint32_t refskold_version(void)
 
 /* Makes a mount, which the handle then holds: with nothing committed, and over a home device that has all that earlier
  * lives committed. So after a crash first lay the log over the home device (refskold_recovery_open), and begin with an
- * empty log.
+ * empty log. That no second program has your devices is yours to see to: before you look at them, lock both files as `xth`
+ * does, by flock(LOCK_EX | LOCK_NB).
  *
  * `last` is the last life of this volume, 0 at first; the mount's own is one more. `log_bytes` is the space that the
  * log's checkpoints may take, REFSKOLD_LEAST_LOG to REFSKOLD_MOST_LOG: more than that is never in use, though the log
@@ -339,6 +344,7 @@ static inline int refskold_close(refskold *mount)
 {
     if (mount == NULL) return -EINVAL;
     refskold_abi_close(mount);
+    mount->at = NULL;
     return 0;
 }
 
@@ -712,7 +718,8 @@ typedef struct refskold_log_told {
     uint64_t rest;                /* bytes behind them, which are no whole text, as a crash leaves them */
     uint64_t blocks;              /* blocks of which the texts say something */
     uint64_t size;                /* of a block, where the texts say it; else 0, and a block has 4,096 bytes */
-    uint64_t at;                  /* where the log is broken: at which byte */
+    uint64_t at;                  /* -EILSEQ: at which byte the log is broken */
+    uint64_t end;                 /* how the log ends: enum refskold_log_end. The exports do not write it */
 } refskold_log_told;
 
 /* What is told of a checkpoint's text. */
@@ -723,13 +730,14 @@ typedef struct refskold_found {
     uint64_t size;                /* of a block, where the text says it; else 0, and a block has 4,096 bytes */
 } refskold_found;
 
-/* How a log or a text ends that is not as a checkpoint writes it. */
+/* How a log ends. */
 enum refskold_log_end {
+    REFSKOLD_WHOLE = 0,           /* as checkpoints write it, or as a crash leaves it */
     REFSKOLD_BROKEN = 1,          /* a field breaks its rule */
     REFSKOLD_MIXED = 2            /* a text says something else of the size of a block than those before it */
 };
 
-/* The struct form, as above. */
+/* The struct form, as above. Of a log that is broken open and end return its enum refskold_log_end, and write told->at alone. */
 int32_t refskold_abi_log_open(refskold_recovery *recovery, const uint8_t *log, size_t log_len, refskold_log_told *told);
 int32_t refskold_abi_log_feed(refskold_recovery *recovery, const uint8_t *piece, size_t piece_len);
 int32_t refskold_abi_log_end(refskold_recovery *recovery, refskold_log_told *told);
@@ -740,27 +748,39 @@ int32_t refskold_abi_log_lay(refskold_recovery *recovery, uint64_t block, uint8_
 /* 1 where a text was found, 0 where the input ends before it does, 2 where it is broken. */
 int32_t refskold_abi_read_checkpoint(const uint8_t *input, size_t input_len, refskold_found *found);
 
+/* What a gathering returned, told as an error where the log is broken. For the functions below. */
+static inline int refskold_gathered(int status, refskold_log_told *told)
+{
+    if (status < 0) return status;
+    told->end = (uint64_t)status;
+    if (status == REFSKOLD_WHOLE) return 0;
+    told->texts = told->rest = told->blocks = told->size = 0;
+    return -EILSEQ;
+}
+
 /* Gathers what the texts of a whole log say, the later over the earlier; the log may then be forgotten. 0, with the counts.
  * Then lay it over your home device, sync that, and empty the log:
  *
- *     for (uint64_t k = 0; k < told.blocks; k++) {
- *         refskold_recovery_block(&recovery, k, &block);
- *         // read the block into `content`, then
- *         refskold_recovery_lay(&recovery, block, content); // where told.size is not 0, refskold_recovery_lay_sized
- *         // and write it
+ *     int status = refskold_recovery_open(&recovery, log, length, &told);
+ *     for (uint64_t k = 0; status == 0 && k < told.blocks; k++) {
+ *         status = refskold_recovery_block(&recovery, k, &block);
+ *         // read the block into `content`; where told.size is not 0, refskold_recovery_lay_sized
+ *         if (status == 0) status = refskold_recovery_lay(&recovery, block, content);
+ *         // write it; where the read or the write fails, status = -EIO
  *     }
+ *     // only where status is 0: sync the home device, and then empty the log
  *
  * Broken off and done again, from the first block on, it gives the same. What refskold_force said was on the log is then
  * home, and of each checkpoint all or nothing.
  *
- * REFSKOLD_BROKEN, REFSKOLD_MIXED: at the byte told.at; no crash leaves that, and nothing is gathered. -EBUSY: the handle
- * holds something. -ENOMEM. */
+ * -EILSEQ: the log is broken, as no crash leaves it, and nothing is gathered: told.end says how (REFSKOLD_BROKEN,
+ * REFSKOLD_MIXED), and told.at at which byte; its counts are 0. -EBUSY: the handle holds something. -ENOMEM. */
 static inline int refskold_recovery_open(refskold_recovery *recovery, const void *log, size_t length,
                                          refskold_log_told *told)
 {
     static const uint8_t none[1] = { 0 };
     if (recovery == NULL || told == NULL || (log == NULL && length != 0)) return -EINVAL;
-    return refskold_abi_log_open(recovery, log == NULL ? none : (const uint8_t *)log, length, told);
+    return refskold_gathered(refskold_abi_log_open(recovery, log == NULL ? none : (const uint8_t *)log, length, told), told);
 }
 
 /* Takes a piece of a log, behind those that the handle holds: a log that is not in one place comes in pieces of any length,
@@ -778,11 +798,11 @@ static inline int refskold_recovery_feed(refskold_recovery *recovery, const void
 /* Gathers what the texts of the log say that came in pieces: it returns and tells what refskold_recovery_open does of the
  * log whole. After 0 the handle holds that, and the bytes no more. A handle that holds nothing has a log of no bytes.
  *
- * REFSKOLD_BROKEN, REFSKOLD_MIXED: at the byte told.at; the bytes are held until refskold_recovery_close. -EBUSY: the handle
- * holds what texts say. -ENOMEM: the bytes are held, and this may be called again. */
+ * -EILSEQ: the log is broken, as told says; the bytes are held until refskold_recovery_close. -EBUSY: the handle holds what
+ * texts say. -ENOMEM: the bytes are held, and this may be called again. */
 static inline int refskold_recovery_end(refskold_recovery *recovery, refskold_log_told *told)
 {
-    return recovery == NULL || told == NULL ? -EINVAL : refskold_abi_log_end(recovery, told);
+    return recovery == NULL || told == NULL ? -EINVAL : refskold_gathered(refskold_abi_log_end(recovery, told), told);
 }
 
 /* Gives the memory of what is held back, texts or bytes; the handle then holds nothing. 0. */
@@ -790,6 +810,7 @@ static inline int refskold_recovery_close(refskold_recovery *recovery)
 {
     if (recovery == NULL) return -EINVAL;
     refskold_abi_log_close(recovery);
+    recovery->at = NULL;
     return 0;
 }
 
@@ -859,6 +880,7 @@ static inline int refskold_host_close(refskold_host *host)
 {
     if (host == NULL) return -EINVAL;
     refskold_abi_host_close(host);
+    host->at = NULL;
     return 0;
 }
 

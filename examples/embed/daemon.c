@@ -2,7 +2,7 @@
  *
  *     daemon HOMEFILE LOGFILE PORT
  *
- * HOMEFILE and LOGFILE are the volume's two devices, which it recovers as it starts. On this port of this machine it answers each line by a line:
+ * HOMEFILE and LOGFILE are the volume's two devices, which it locks and recovers as it starts. On this port of this machine it answers each line by a line:
  * `put BLOCK TEXT` by `ok` once the text is on the log, `get BLOCK` by the text; else by `error N`. All that came in at once is committed together: one
  * checkpoint, and one sync of the log, for all of it. */
 #define _GNU_SOURCE
@@ -15,6 +15,7 @@
 #include <stdio.h>
 #include <stdlib.h>
 #include <string.h>
+#include <sys/file.h>
 #include <sys/mman.h>
 #include <unistd.h>
 
@@ -49,7 +50,8 @@ static int checkpoint(void)
     uint64_t serial;
     uint32_t taken = 0;
     int status = refskold_take(&mount, REFSKOLD_CHECKPOINT, &serial);
-    if (status == REFSKOLD_TAKEN) status = refskold_begin(&mount, serial, &reply);
+    if (status != REFSKOLD_TAKEN) return status;
+    status = refskold_begin(&mount, serial, &reply);
     if (status != 0 || reply.word != REFSKOLD_BEGUN) return status;
     for (; taken < reply.pieces; taken++) {
         int length = refskold_piece(&mount, taken, piece, sizeof piece);
@@ -176,11 +178,14 @@ static bool take_lines(struct client *client, int from)
 
 /* ---- The daemon ---- */
 
+/* Opens both files, and locks them as `xth` does: nobody else may have them while this daemon lives. */
 static void open_volume(const char *home_file, const char *log_file)
 {
     home = open(home_file, O_RDWR | O_CREAT | O_CLOEXEC, 0600);
     journal = open(log_file, O_RDWR | O_CREAT | O_APPEND | O_CLOEXEC, 0600);
-    if (home < 0 || journal < 0 || ftruncate(home, (off_t)BLOCKS * REFSKOLD_BLOCK) != 0) stop("the volume", 0);
+    if (home < 0 || journal < 0) stop("the volume", 0);
+    if (flock(home, LOCK_EX | LOCK_NB) != 0 || flock(journal, LOCK_EX | LOCK_NB) != 0) stop("the volume is in use", 0);
+    if (ftruncate(home, (off_t)BLOCKS * REFSKOLD_BLOCK) != 0) stop("the home device", 0);
 }
 
 /* Lays over the home device what the log says, and then empties the log. */
@@ -194,11 +199,12 @@ static void recover(void)
     void *text = length == 0 ? NULL : mmap(NULL, length, PROT_READ, MAP_PRIVATE, journal, 0);
     if (text == MAP_FAILED) stop("the log", 0);
     int status = refskold_recovery_open(&recovery, text, length, &told);
+    if (status == -EILSEQ) fprintf(stderr, "daemon: the log is broken at byte %llu\n", (unsigned long long)told.at);
     if (status != 0 || told.size != 0) stop("the log", status < 0 ? status : -EILSEQ); // a log of other blocks is another program's
     for (uint64_t k = 0; k < told.blocks; k++) {
-        refskold_recovery_block(&recovery, k, &block);
+        if ((status = refskold_recovery_block(&recovery, k, &block)) != 0) stop("the log", status);
         if (pread(home, content, sizeof content, (off_t)(block * sizeof content)) != sizeof content) stop("the home device", 0);
-        refskold_recovery_lay(&recovery, block, content);
+        if ((status = refskold_recovery_lay(&recovery, block, content)) != 0) stop("the log", status);
         if (pwrite(home, content, sizeof content, (off_t)(block * sizeof content)) != sizeof content) stop("the home device", 0);
     }
     refskold_recovery_close(&recovery);
@@ -239,13 +245,14 @@ int main(int argc, char **argv)
     struct pollfd polled[CLIENTS + 1];
     if (argc != 4) stop("HOMEFILE LOGFILE PORT", -EINVAL);
     open_volume(argv[1], argv[2]);
+    int listening = listen_at(argv[3]); // before the log is emptied: a daemon that cannot be asked changes nothing
     recover();
     int status = refskold_open(&mount, 0, REFSKOLD_LEAST_LOG, BLOCKS);
     if (status != 0) stop("the mount", status);
     signal(SIGPIPE, SIG_IGN);
     sigaction(SIGTERM, &(struct sigaction){ .sa_handler = end }, NULL);
     for (int k = 0; k < CLIENTS; k++) polled[k] = (struct pollfd){ -1, POLLIN, 0 };
-    polled[CLIENTS] = (struct pollfd){ listen_at(argv[3]), POLLIN, 0 };
+    polled[CLIENTS] = (struct pollfd){ listening, POLLIN, 0 };
     while (!is_ending && poll(polled, CLIENTS + 1, -1) > 0) {
         turn(polled);
         for (int k = 0; k < CLIENTS && polled[CLIENTS].revents != 0; k++)

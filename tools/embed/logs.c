@@ -18,6 +18,13 @@ static void want(int is_well, const char *what)
     exit(1);
 }
 
+/* Whether a handle is all zeros, as one that holds nothing. */
+static int is_zero(const refskold_recovery *recovery)
+{
+    static const uint8_t zeros[sizeof *recovery];
+    return memcmp(recovery, zeros, sizeof zeros) == 0;
+}
+
 /* What calls that no caller should make get. */
 static void bad_calls(refskold_recovery *recovery, refskold_log_told *told, int wanted)
 {
@@ -49,16 +56,22 @@ struct sizes {
 static void recover(size_t length, uint64_t texts, uint64_t rest, uint64_t broken_at, int is_broken, struct sizes sizes)
 {
     refskold_recovery recovery = REFSKOLD_NONE;
-    refskold_log_told told = { 0 };
+    refskold_log_told told;
     uint8_t content[REFSKOLD_BLOCK];
     uint64_t block, before = 0;
+    memset(&told, 0x5a, sizeof told);
     bad_calls(&recovery, &told, -ENODEV);
     int status = refskold_recovery_open(&recovery, text, length, &told);
-    want(status >= 0, "memory");
-    want((status == REFSKOLD_MIXED) == sizes.is_mixed, "texts of two sizes");
-    if (status == REFSKOLD_MIXED) want(told.at == sizes.mixed_at, "another text is of another size");
-    if (status == REFSKOLD_BROKEN) want(is_broken && told.at == broken_at, "another place is broken");
-    if (status != 0) return;
+    want(status == 0 || status == -EILSEQ, "memory");
+    want((told.end == REFSKOLD_WHOLE) == (status == 0), "an end that is not told");
+    want((told.end == REFSKOLD_MIXED) == sizes.is_mixed, "texts of two sizes");
+    if (told.end == REFSKOLD_MIXED) want(told.at == sizes.mixed_at, "another text is of another size");
+    if (told.end == REFSKOLD_BROKEN) want(is_broken && told.at == broken_at, "another place is broken");
+    if (status != 0) {
+        want(told.texts == 0 && told.rest == 0 && told.blocks == 0 && told.size == 0, "counts of a broken log");
+        want(is_zero(&recovery), "a handle of a broken log");
+        return;
+    }
     want(!is_broken && told.texts == texts && told.rest == rest && told.size == sizes.first, "other counts");
     want(refskold_recovery_open(&recovery, text, length, &told) == -EBUSY, "an open of what is open");
     for (uint64_t k = 0; k < told.blocks; k++, before = block) {
@@ -68,7 +81,7 @@ static void recover(size_t length, uint64_t texts, uint64_t rest, uint64_t broke
     }
     bad_calls(&recovery, &told, -EINVAL);
     want(refskold_recovery_feed(&recovery, text, 1) == -EBUSY && refskold_recovery_end(&recovery, &told) == -EBUSY, "pieces behind what texts say");
-    want(refskold_recovery_close(&recovery) == 0 && recovery.holds == 0, "close");
+    want(refskold_recovery_close(&recovery) == 0 && is_zero(&recovery), "close");
 }
 
 /* Feeds the log in pieces of so many bytes. */
@@ -112,7 +125,7 @@ static void in_pieces(size_t length, size_t piece)
         want(memcmp(&told, &of_pieces, sizeof told) == 0, "bytes that are not held");
     }
     refskold_recovery_close(&whole);
-    want(refskold_recovery_close(&pieces) == 0 && pieces.holds == 0, "close");
+    want(refskold_recovery_close(&pieces) == 0 && is_zero(&pieces), "close");
 }
 
 int main(void)

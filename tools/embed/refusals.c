@@ -42,6 +42,12 @@ static int untouched(size_t first, size_t count) {
     return count == 0;
 }
 
+/* whether a handle of a mount is all zeros, as one that holds none */
+static int is_zero(const refskold *mount) {
+    static const uint8_t zeros[sizeof *mount];
+    return memcmp(mount, zeros, sizeof zeros) == 0;
+}
+
 /* the text of the checkpoint of the last run */
 static uint8_t text[4 * 4096];
 static size_t text_length;
@@ -101,7 +107,7 @@ static long run(long number) {
     wants("before them", untouched(0, 7 * 4096), 1), wants("behind them", untouched(9 * 4096, sizeof device - 9 * 4096), 1);
     AGAIN(status, refskold_flush(&m, serial, 2, 3, 1, &reply)); wants("flush", (long)reply.number, 2);
     AGAIN(status, refskold_unmount(&m)); wants("unmount", status, 0);
-    wants("gone", refskold_push(&m), -ENODEV);
+    wants("gone", refskold_push(&m), -ENODEV), wants("a handle all zeros", is_zero(&m), 1);
     until_refused = -1;
     return refused;
 }
@@ -229,7 +235,7 @@ static void bad_callers(void) {
     wants("before it", untouched(0, 7 * REFSKOLD_BLOCK), 1), wants("behind it", untouched(8 * REFSKOLD_BLOCK, 56 * REFSKOLD_BLOCK), 1);
     wants("flush", refskold_flush(&m, serial, 1, 1, 1, &reply), 0);
     wants("version", (long)refskold_version(), REFSKOLD_VERSION);
-    refskold_close(&m), wants("closed", (long)m.holds, 0);
+    refskold_close(&m), wants("closed", is_zero(&m), 1);
 }
 
 /* a mount of blocks of 512 bytes: each content and each room has as many */

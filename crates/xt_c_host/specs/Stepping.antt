@@ -54,15 +54,15 @@ abbrev pub IsStep : List ℕ → ℤ → Option Told → Option Told → Type 0
 IsStep line status new None = (status ≡ no_device) × (new ≡ None)
 IsStep line status new (Some old) = IsSomeAnd new (λ t. IsLine line status t old)
 
--- a text goes to the front of a room, where it fits: 0, and its length is written
-abbrev pub IsPut : List ℕ → ℤ → ℕ → List ℕ → List ℕ → Type 0
-IsPut text status len new old =
-    MatchBool (nat_le (length text) (length old)) ((status ≡ pos 0) × (len ≡ length text) × (new ≡ text ++ drop (length text) old)) ((status ≡ invalid) × (new ≡ old))
+-- a text goes to the front of a room, where it fits: 0, and its length is written; else nothing is written
+abbrev pub IsPut : List ℕ → ℤ → ℕ → ℕ → List ℕ → List ℕ → Type 0
+IsPut text status len before new old =
+    MatchBool (nat_le (length text) (length old)) ((status ≡ pos 0) × (len ≡ length text) × (new ≡ text ++ drop (length text) old)) ((status ≡ invalid) × (len ≡ before) × (new ≡ old))
 
 -- the same of a text that may not be there
-abbrev pub IsText : Option (List ℕ) → ℤ → ℕ → List ℕ → List ℕ → Type 0
-IsText None status len new old = (status ≡ invalid) × (new ≡ old)
-IsText (Some text) status len new old = IsPut text status len new old
+abbrev pub IsText : Option (List ℕ) → ℤ → ℕ → ℕ → List ℕ → List ℕ → Type 0
+IsText None status len before new old = (status ≡ invalid) × (len ≡ before) × (new ≡ old)
+IsText (Some text) status len before new old = IsPut text status len before new old
 
 -- the line of a turn's reply
 abbrev pub reply_line : Option Said → Option (List ℕ)
@@ -70,9 +70,9 @@ reply_line None = None
 reply_line (Some turn) = Some (slot_reply_text turn.slot turn.reply)
 
 -- the same of a handle
-abbrev pub IsTextOf : Option Told → ℤ → ℕ → List ℕ → List ℕ → Type 0
-IsTextOf None status len new old = (status ≡ no_device) × (new ≡ old)
-IsTextOf (Some t) status len new old = IsText (reply_line t.said) status len new old
+abbrev pub IsTextOf : Option Told → ℤ → ℕ → ℕ → List ℕ → List ℕ → Type 0
+IsTextOf None status len before new old = (status ≡ no_device) × (len ≡ before) × (new ≡ old)
+IsTextOf (Some t) status len before new old = IsText (reply_line t.said) status len before new old
 
 -- ---- offers
 -- the line of what was offered to the log
@@ -97,6 +97,6 @@ offer_line index None = None
 offer_line index (Some turn) = offer_in index turn
 
 -- the same of a handle
-abbrev pub IsOfferOf : ℕ → Option Told → ℤ → ℕ → List ℕ → List ℕ → Type 0
-IsOfferOf index None status len new old = (status ≡ no_device) × (new ≡ old)
-IsOfferOf index (Some t) status len new old = IsText (offer_line index t.said) status len new old
+abbrev pub IsOfferOf : ℕ → Option Told → ℤ → ℕ → ℕ → List ℕ → List ℕ → Type 0
+IsOfferOf index None status len before new old = (status ≡ no_device) × (len ≡ before) × (new ≡ old)
+IsOfferOf index (Some t) status len before new old = IsText (offer_line index t.said) status len before new old

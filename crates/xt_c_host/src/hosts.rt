@@ -60,7 +60,7 @@ pub extern "C" fn refskold_abi_host_reply(
     length: &mut usize,
     room: &mut [u8],
 ) -> i32
-    ensures reply { IsTextOf (held handle.old) result length.new room.new room.old }
+    ensures reply { IsTextOf (held handle.old) result length.new length.old room.new room.old }
     ensures same { held handle.new ≡ held handle.old }
 {
     let Some(mut host) = handle.take(alloc) else {
@@ -81,7 +81,7 @@ pub extern "C" fn refskold_abi_host_offer(
     length: &mut usize,
     room: &mut [u8],
 ) -> i32
-    ensures offer { IsOfferOf index (held handle.old) result length.new room.new room.old }
+    ensures offer { IsOfferOf index (held handle.old) result length.new length.old room.new room.old }
     ensures same { held handle.new ≡ held handle.old }
 {
     let Some(mut host) = handle.take(alloc) else {

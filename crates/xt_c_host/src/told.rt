@@ -77,7 +77,7 @@ fn home_offer_at(offers: &[HomeOffer], index: usize) -> Option<&HomeOffer>
 
 /// Copies a text to the front of a room where it fits.
 fn put_bytes(text: &[u8], length: &mut usize, room: &mut [u8]) -> i32
-    ensures { IsPut text.now result length.new room.new room.old }
+    ensures { IsPut text.now result length.new length.old room.new room.old }
 {
     if room.len() < text.len() {
         return INVALID;
@@ -96,7 +96,7 @@ fn put_log_offer(
     length: &mut usize,
     room: &mut [u8],
 ) -> i32
-    ensures { IsText (log_line slot (slice_get offers.now index)) result length.new room.new room.old }
+    ensures { IsText (log_line slot (slice_get offers.now index)) result length.new length.old room.new room.old }
 {
     match log_offer_at(offers, index) {
         Some(offer) => {
@@ -116,7 +116,7 @@ fn put_home_offer(
     length: &mut usize,
     room: &mut [u8],
 ) -> i32
-    ensures { IsText (home_line slot (slice_get offers.now index)) result length.new room.new room.old }
+    ensures { IsText (home_line slot (slice_get offers.now index)) result length.new length.old room.new room.old }
 {
     match home_offer_at(offers, index) {
         Some(offer) => {
@@ -129,7 +129,7 @@ fn put_home_offer(
 
 /// Copies the line of a turn's offer at a place to the front of a room: those to the log stand before those to the home device.
 fn put_offer(turn: &Turn, index: usize, text: &mut Text, length: &mut usize, room: &mut [u8]) -> i32
-    ensures { IsText (offer_in index turn.now) result length.new room.new room.old }
+    ensures { IsText (offer_in index turn.now) result length.new length.old room.new room.old }
 {
     let slot = turn.slot();
     let logged = turn.offers.log();
@@ -182,7 +182,7 @@ impl ToldHost {
 
     /// Copies the line of the last reply to the front of a room.
     pub fn reply(&mut self, length: &mut usize, room: &mut [u8]) -> i32
-        ensures reply { IsText (reply_line self.old.said) result length.new room.new room.old }
+        ensures reply { IsText (reply_line self.old.said) result length.new length.old room.new room.old }
         ensures same { self.new ≡ self.old }
     {
         let Some(turn) = &self.said else {
@@ -194,7 +194,7 @@ impl ToldHost {
 
     /// Copies the line of the last turn's offer at a place to the front of a room.
     pub fn offer(&mut self, index: usize, length: &mut usize, room: &mut [u8]) -> i32
-        ensures offer { IsText (offer_line index self.old.said) result length.new room.new room.old }
+        ensures offer { IsText (offer_line index self.old.said) result length.new length.old room.new room.old }
         ensures same { self.new ≡ self.old }
     {
         match &self.said {
