@@ -7,10 +7,10 @@ use Rattle.xt_ckpt.specs.Reading.{Begins}
 use Rattle.xt_ckpt.specs.declared.item.Item.{Item}
 use Rattle.xt_ckpt.specs.declared.reading.Checkpoint.{Checkpoint}
 use Rattle.xt_offline.specs.Printing.{Begins as BeginsText, ended, numbered}
-use Rattle.xt_offline.specs.declared.logdump.TheConstants.{LOG_BYTES}
+use Rattle.xt_offline.specs.declared.fault.DumpFault.{DumpFault}
+use Rattle.xt_offline.specs.declared.fault.DumpFault.TheVariants.{Log}
 use Rattle.xt_text.specs.Items.{head_text, item_text}
 use Rattle.xt_window.specs.Window.{IsWhy}
-use Rattle.xt_window.specs.declared.fault.LogFault.{LogFault}
 use Rattle.xt_window.specs.declared.fault.LogFault.TheVariants.{TooLong}
 use Rattle.xt_window.specs.declared.window.Found.{Found}
 
@@ -57,40 +57,45 @@ pub data Texts : List ℕ → ℕ → List ℕ → Type 0 where
   none : (log : List ℕ) → Texts log 0 []
   more : (log out : List ℕ) (len size : ℕ) (c : Checkpoint) → Texts log len out → Begins (drop len log) c size → Texts log (len + size) (out ++ checkpoint_lines c)
 
--- what is printed of a log, and the status: behind its texts, what is left is no text yet, or the first field that breaks its rule is found, as
+-- what is printed of a log that may have so many bytes, and the status: behind its texts, what is left is no text yet, or the first field that breaks its rule is found, as
 -- far as a log may have bytes
-pub data IsDumped : List ℕ → List ℕ → ℕ → Type 0 where
-  rest : (log out : List ℕ) (len : ℕ) → Texts log len out → IsUnfinished (drop len log) → length log ≤ LOG_BYTES → IsDumped log (out ++ rest_lines (length (drop len log))) 0
-  fault : (log out : List ℕ) (len at : ℕ) → Texts log len out → IsFaultAt at (drop len log) → len + at < LOG_BYTES → IsDumped log (out ++ fault_line (len + at)) 3
+pub data IsDumped (limit : ℕ) : List ℕ → List ℕ → ℕ → Type 0 where
+  rest : (log out : List ℕ) (len : ℕ) → Texts log len out → IsUnfinished (drop len log) → length log ≤ limit → IsDumped limit log (out ++ rest_lines (length (drop len log))) 0
+  fault : (log out : List ℕ) (len at : ℕ) → Texts log len out → IsFaultAt at (drop len log) → len + at < limit → IsDumped limit log (out ++ fault_line (len + at)) 3
 
 -- a log was printed
-abbrev pub IsLogPrinted : List ℕ → Option (List ℕ) → Option (List ℕ) → ℕ → Type 0
-IsLogPrinted log old new status = (out : List ℕ) × (IsDumped log out status × Appends old new out)
+abbrev pub IsLogPrinted : ℕ → List ℕ → Option (List ℕ) → Option (List ℕ) → ℕ → Type 0
+IsLogPrinted limit log old new status = (out : List ℕ) × (IsDumped limit log out status × Appends old new out)
 
 -- a beginning was written of what is printed of texts at the front of a log, or of all of it
-abbrev pub IsLogBegun : List ℕ → Option (List ℕ) → Option (List ℕ) → Type 0
-IsLogBegun log old new = (out : List ℕ) × ((((len : ℕ) × Texts log len out) ⊎ ((status : ℕ) × IsDumped log out status)) × BeginsText old new out)
+abbrev pub IsLogBegun : ℕ → List ℕ → Option (List ℕ) → Option (List ℕ) → Type 0
+IsLogBegun limit log old new = (out : List ℕ) × ((((len : ℕ) × Texts log len out) ⊎ ((status : ℕ) × IsDumped limit log out status)) × BeginsText old new out)
 
 -- that a log has too many bytes
 abbrev pub long_log_text : List ℕ
 long_log_text = ended (codes "fault: log too long")
 
 -- what is told of a fault, up to a failure of what it is told to: that a log is too long; of another nothing is said
-abbrev pub IsTold : LogFault → Option (List ℕ) → Option (List ℕ) → Type 0
-IsTold TooLong old new = BeginsText old new long_log_text
+abbrev pub IsTold : DumpFault → Option (List ℕ) → Option (List ℕ) → Type 0
+IsTold (Log TooLong) old new = BeginsText old new long_log_text
 IsTold other old new = Unit {0}
 
+-- why a log that may have so many bytes was given up: it has more; of another fault nothing is said
+abbrev pub IsDumpWhy : ℕ → ℕ → DumpFault → Type 0
+IsDumpWhy limit size (Log why) = IsWhy limit size why
+IsDumpWhy limit size other = Unit {0}
+
 -- a log was given up: at most a beginning was written, and the fault was told
-pub record IsLogGivenUp (log : List ℕ) (old new err_old err_new : Option (List ℕ)) (status : ℕ) (fault : LogFault) : Type 0 where
-  pub written : IsLogBegun log old new
-  pub why : IsWhy LOG_BYTES (length log) fault
+pub record IsLogGivenUp (limit : ℕ) (log : List ℕ) (old new err_old err_new : Option (List ℕ)) (status : ℕ) (fault : DumpFault) : Type 0 where
+  pub written : IsLogBegun limit log old new
+  pub why : IsDumpWhy limit (length log) fault
   pub told : IsTold fault err_old err_new
   pub ended : status ≡ 1
 
 -- what a dump of a log wrote, by its status: 0 and 3 after all was printed, and then nothing is told of a fault; 1 after a fault
-abbrev pub IsLogRun : List ℕ → Option (List ℕ) → Option (List ℕ) → Option (List ℕ) → Option (List ℕ) → ℕ → Type 0
-IsLogRun log old new err_old err_new status =
-    (IsLogPrinted log old new status × Keeps err_old err_new) ⊎ ((fault : LogFault) × IsLogGivenUp log old new err_old err_new status fault)
+abbrev pub IsLogRun : ℕ → List ℕ → Option (List ℕ) → Option (List ℕ) → Option (List ℕ) → Option (List ℕ) → ℕ → Type 0
+IsLogRun limit log old new err_old err_new status =
+    (IsLogPrinted limit log old new status × Keeps err_old err_new) ⊎ ((fault : DumpFault) × IsLogGivenUp limit log old new err_old err_new status fault)
 
 -- the exit statuses of a dump
 abbrev pub IsLogStatus : ℕ → Type 0

@@ -1,4 +1,4 @@
-//! Why a script was not run to its end.
+//! Why a script was not run to its end, or a log not printed to its end.
 
 ghost use Rattle.std.specs.Prelude.{◌≡◌};
 ghost use Rattle.xt_offline.specs.Script.{status_of};
@@ -6,6 +6,7 @@ ghost use Rattle.xt_offline.specs.Script.{status_of};
 use std::alloc::AllocError;
 use std::io;
 use thiserror::Error;
+use xt_window::fault::LogFault;
 
 /// Why a script was not run to its end.
 #[derive(Debug, Drop, Error)]
@@ -34,4 +35,18 @@ impl ScriptFault {
             ScriptFault::TooLong | ScriptFault::Io(_) | ScriptFault::Memory(_) => 1,
         }
     }
+}
+
+/// Why a log was not printed to its end.
+#[derive(Debug, Drop, Error)]
+pub enum DumpFault {
+    /// It was not read to its end.
+    #[error("{0}")]
+    Log(LogFault),
+    /// What is printed of it could not be written.
+    #[error("fault: {0}")]
+    Output(io::Error),
+    /// Memory was refused.
+    #[error("fault: {0}")]
+    Memory(AllocError),
 }

@@ -10,7 +10,7 @@ pub mod script;
 mod waiting;
 mod writing;
 
-pub use fault::ScriptFault;
-pub use logdump::{LOG_BYTES, dump, tell};
+pub use fault::{DumpFault, ScriptFault};
+pub use logdump::{LOG_BYTES, Source, dump, tell};
 pub use script::run_script;
 pub use xt_window::fault::LogFault;

@@ -1,13 +1,14 @@
 //! `xth logdump`: the checkpoints of a log, printed.
 
-ghost use Rattle.std.specs.Prelude.{◌++◌, ◌<◌, ◌≡◌, ◌≤◌, All, IfErr, IfOk, IfSome, OnErr, OnOk, length};
+ghost use Rattle.std.specs.Prelude.{◌+◌, ◌++◌, ◌<◌, ◌≡◌, ◌≤◌, All, IfErr, IfOk, IfSome, OnErr, OnOk, length};
 ghost use Rattle.std.specs.Io.KnownBytes.{Appends};
 ghost use Rattle.xt_ckpt.specs.declared.item.Item.{Item as AnItem};
-ghost use Rattle.xt_offline.specs.LogDump.{checkpoint_lines, fault_line, found_lines, item_lines, rest_lines, status_after, AreShort, IsLogBegun, IsLogPrinted, IsLogRun, IsLogStatus, IsTold};
+ghost use Rattle.xt_offline.specs.LogDump.{checkpoint_lines, fault_line, found_lines, item_lines, rest_lines, status_after, AreShort, IsDumpWhy, IsLogBegun, IsLogPrinted, IsLogRun, IsLogStatus, IsTold};
 ghost use Rattle.xt_offline.specs.Printing.{ended, Begins};
 ghost use Rattle.xt_text.specs.Items.{head_text, item_text};
-ghost use Rattle.xt_window.specs.Window.{IsWhy};
+ghost use Rattle.xt_window.specs.Window.{ahead, IsAhead, IsOfGrammar, IsTied};
 
+use crate::fault::DumpFault;
 use crate::printing::print_line;
 use crate::writing::{write_bytes, write_numbered};
 use std::alloc::Global;
@@ -19,8 +20,17 @@ use xt_text::print_ckpt::{print_head, print_item};
 use xt_window::fault::LogFault;
 use xt_window::window::{Found, PIECE_BYTES, Window};
 
-/// The most bytes of a log that is printed.
+/// The most bytes of a log that is printed, where no more are asked for.
 pub const LOG_BYTES: u64 = 67_108_864;
+
+/// A log that is printed.
+#[derive(Clone, Copy, Debug)]
+pub struct Source<'a> {
+    /// The name by which a fault of it is told.
+    pub name: &'a str,
+    /// The most bytes that it may have.
+    pub limit: u64,
+}
 
 /// Prints the checkpoints of a log, and answers the exit status: 0, after `rest N` where N bytes behind the last whole text are
 /// no text yet; 3 after the texts before the first fault and `fault OFFSET`; 1 after a fault of the reader, of the writer or of memory, or of a
@@ -29,35 +39,38 @@ pub const LOG_BYTES: u64 = 67_108_864;
 #[tactic(auto, using(crate::proofs::DumpLemmas::dump_whole, crate::proofs::DumpLemmas::dump_stopped))]
 pub fn dump<R: Read, W: Write, E: Write>(
     alloc: Global,
+    source: Source,
     reader: &mut R,
     writer: &mut W,
     err: &mut E,
 ) -> u8
-    ensures run { IfSome (R.remaining reader.old) (λ log. IsLogRun log (W.contents writer.old) (W.contents writer.new) (E.contents err.old) (E.contents err.new) result) }
+    ensures run { IfSome (R.remaining reader.old) (λ log. IsLogRun source.entry.limit log (W.contents writer.old) (W.contents writer.new) (E.contents err.old) (E.contents err.new) result) }
     ensures status { IsLogStatus result }
 {
-    match dump_to_the_end(alloc, reader, writer) {
+    match dump_to_the_end(alloc, source.limit, reader, writer) {
         Ok(status) => status,
-        Err(fault) => tell(err, &fault),
+        Err(fault) => tell(err, source.name, &fault),
     }
 }
 
-/// Tells of a fault, and answers its exit status, 1.
-pub fn tell<E: Write>(err: &mut E, fault: &LogFault) -> u8
+/// Tells of a fault of the log of this name, and answers its exit status, 1.
+pub fn tell<E: Write>(err: &mut E, name: &str, fault: &DumpFault) -> u8
     ensures status { result ≡ 1 }
     ensures told { IsTold fault.now (E.contents err.old) (E.contents err.new) }
 {
-    let _ = report(err, fault);
+    let _ = report(err, name, fault);
     1
 }
 
-/// Tells that a log is too long, or the words of another fault.
-fn report<E: Write>(err: &mut E, fault: &LogFault) -> io::Result<()>
+/// Tells that a log is too long, or the words of another fault, with its name where reading it failed.
+fn report<E: Write>(err: &mut E, name: &str, fault: &DumpFault) -> io::Result<()>
     ensures { IsTold fault.now (E.contents err.old) (E.contents err.new) }
 {
     match fault {
-        LogFault::TooLong => write_bytes(err, b"fault: log too long\n"),
-        LogFault::Io(_) | LogFault::Memory(_) => writeln!(err, "{fault}"),
+        DumpFault::Log(LogFault::TooLong) => write_bytes(err, b"fault: log too long\n"),
+        DumpFault::Log(LogFault::Io(error)) => writeln!(err, "fault: {name}: {error}"),
+        DumpFault::Log(LogFault::Memory(_)) | DumpFault::Output(_) | DumpFault::Memory(_) =>
+            writeln!(err, "{fault}"),
     }
 }
 
@@ -65,16 +78,17 @@ fn report<E: Write>(err: &mut E, fault: &LogFault) -> io::Result<()>
 #[tactic(auto, using(crate::proofs::DumpLemmas::why_known, crate::proofs::DumpLemmas::log_printed_kept))]
 fn dump_to_the_end<R: Read, W: Write>(
     alloc: Global,
+    limit: u64,
     reader: &mut R,
     writer: &mut W,
-) -> Result<u8, LogFault>
-    ensures printed { IfOk result (λ status. IfSome (R.remaining reader.old) (λ log. IsLogPrinted log (W.contents writer.old) (W.contents writer.new) status)) }
-    ensures begun { OnErr result (IfSome (R.remaining reader.old) (λ log. IsLogBegun log (W.contents writer.old) (W.contents writer.new))) }
-    ensures why { IfErr result (λ fault. IfSome (R.remaining reader.old) (λ log. IsWhy LOG_BYTES (length log) fault)) }
+) -> Result<u8, DumpFault>
+    ensures printed { IfOk result (λ status. IfSome (R.remaining reader.old) (λ log. IsLogPrinted limit log (W.contents writer.old) (W.contents writer.new) status)) }
+    ensures begun { OnErr result (IfSome (R.remaining reader.old) (λ log. IsLogBegun limit log (W.contents writer.old) (W.contents writer.new))) }
+    ensures why { IfErr result (λ fault. IfSome (R.remaining reader.old) (λ log. IsDumpWhy limit (length log) fault)) }
     ensures status { IfOk result IsLogStatus }
 {
-    let status = dump_texts(alloc, reader, writer)?;
-    writer.flush().map_err(LogFault::Io)?;
+    let status = dump_texts(alloc, limit, reader, writer)?;
+    writer.flush().map_err(DumpFault::Output)?;
     Ok(status)
 }
 
@@ -82,45 +96,68 @@ fn dump_to_the_end<R: Read, W: Write>(
 #[tactic(auto, using(crate::proofs::DumpLemmas::why_known))]
 fn dump_texts<R: Read, W: Write>(
     alloc: Global,
+    limit: u64,
     reader: &mut R,
     writer: &mut W,
-) -> Result<u8, LogFault>
-    ensures printed { IfOk result (λ status. IfSome (R.remaining reader.old) (λ log. IsLogPrinted log (W.contents writer.old) (W.contents writer.new) status)) }
-    ensures begun { OnErr result (IfSome (R.remaining reader.old) (λ log. IsLogBegun log (W.contents writer.old) (W.contents writer.new))) }
-    ensures why { IfErr result (λ fault. IfSome (R.remaining reader.old) (λ log. IsWhy LOG_BYTES (length log) fault)) }
+) -> Result<u8, DumpFault>
+    ensures printed { IfOk result (λ status. IfSome (R.remaining reader.old) (λ log. IsLogPrinted limit log (W.contents writer.old) (W.contents writer.new) status)) }
+    ensures begun { OnErr result (IfSome (R.remaining reader.old) (λ log. IsLogBegun limit log (W.contents writer.old) (W.contents writer.new))) }
+    ensures why { IfErr result (λ fault. IfSome (R.remaining reader.old) (λ log. IsDumpWhy limit (length log) fault)) }
     ensures status { IfOk result IsLogStatus }
 {
-    let mut piece = vec![in alloc; 0u8; PIECE_BYTES].map_err(LogFault::Memory)?;
-    let mut text = Text::new(alloc).map_err(LogFault::Memory)?;
-    dump_by_pieces(alloc, reader, writer, &mut piece, &mut text)
+    let mut piece = vec![in alloc; 0u8; PIECE_BYTES].map_err(DumpFault::Memory)?;
+    let mut text = Text::new(alloc).map_err(DumpFault::Memory)?;
+    dump_by_pieces(alloc, limit, reader, writer, &mut piece, &mut text)
 }
 
 /// Prints each text, and how the log ends: the status is 0, or 3 where a text breaks a rule. The log is read by way of `piece`.
 #[tactic(auto, using(crate::proofs::DumpLemmas::status_found, crate::proofs::DumpLemmas::why_known))]
 fn dump_by_pieces<R: Read, W: Write>(
     alloc: Global,
+    limit: u64,
     reader: &mut R,
     writer: &mut W,
     piece: &mut [u8],
     text: &mut Text,
-) -> Result<u8, LogFault>
+) -> Result<u8, DumpFault>
     requires room { 0 < length piece.old }
-    ensures printed { IfOk result (λ status. IfSome (R.remaining reader.old) (λ log. IsLogPrinted log (W.contents writer.old) (W.contents writer.new) status)) }
-    ensures begun { OnErr result (IfSome (R.remaining reader.old) (λ log. IsLogBegun log (W.contents writer.old) (W.contents writer.new))) }
-    ensures why { IfErr result (λ fault. IfSome (R.remaining reader.old) (λ log. IsWhy LOG_BYTES (length log) fault)) }
+    ensures printed { IfOk result (λ status. IfSome (R.remaining reader.old) (λ log. IsLogPrinted limit log (W.contents writer.old) (W.contents writer.new) status)) }
+    ensures begun { OnErr result (IfSome (R.remaining reader.old) (λ log. IsLogBegun limit log (W.contents writer.old) (W.contents writer.new))) }
+    ensures why { IfErr result (λ fault. IfSome (R.remaining reader.old) (λ log. IsDumpWhy limit (length log) fault)) }
     ensures status { IfOk result IsLogStatus }
 {
-    let mut window = Window::new(alloc, LOG_BYTES);
+    let mut window = Window::new(alloc, limit);
     let mut rooms = Rooms::new(alloc);
     for _ in 0..u64::MAX {
-        let found = window.next(reader, piece, &mut rooms)?;
-        let status = print_found(writer, text, &found).map_err(LogFault::Io)?;
+        let found = next_found(&mut window, reader, piece, &mut rooms)?;
+        let status = print_found(writer, text, &found).map_err(DumpFault::Output)?;
         if let Some(status) = status {
             return Ok(status);
         }
         let_go(&mut rooms, found);
     }
-    Err(LogFault::Io(io::Error::from(ErrorKind::TimedOut)))
+    Err(DumpFault::Log(LogFault::Io(io::Error::from(ErrorKind::TimedOut))))
+}
+
+/// What comes next in a log: a fault of reading is one of the dump.
+fn next_found<R: Read>(
+    window: &mut Window,
+    reader: &mut R,
+    piece: &mut [u8],
+    rooms: &mut Rooms,
+) -> Result<Found, DumpFault>
+    requires room { 0 < length piece.old }
+    requires ended { IsTied window.old (R.remaining reader.old) }
+    ensures grammar { IfOk result IsOfGrammar }
+    ensures found { IfOk result (λ found. IfSome (ahead window.old (R.remaining reader.old)) (λ log. IsAhead window.old log found window.new (R.remaining reader.new))) }
+    ensures tied { OnOk result (IsTied window.new (R.remaining reader.new)) }
+    ensures limit { OnOk result (window.new.limit ≡ window.old.limit) }
+    ensures fault { IfErr result (λ fault. IfSome (ahead window.old (R.remaining reader.old)) (λ log. IsDumpWhy window.old.limit (window.old.offset + length log) fault)) }
+{
+    match window.next(reader, piece, rooms) {
+        Ok(found) => Ok(found),
+        Err(fault) => Err(DumpFault::Log(fault)),
+    }
 }
 
 /// What was printed is let go, and its room is used again.

@@ -35,6 +35,11 @@ impl<R: Read + Drop, T: Write + Drop> Watched<R, T> {
         }
     }
 
+    /// How many bytes were read.
+    pub fn bytes(&self) -> u64 {
+        self.read
+    }
+
     /// Tells something of the bytes that were read. A terminal that fails is told nothing more.
     fn tell(&mut self, before: &str, after: &str)
         ensures { self.new.reader ≡ self.old.reader }

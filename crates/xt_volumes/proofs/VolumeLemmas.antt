@@ -15,7 +15,7 @@ use Rattle.std.specs.Str.Parse.{AllDigits}
 use Rattle.std.specs.Prelude.{is_some, nat_lt}
 use denote.Bor.{Bor}
 use mathlib.Core.Logic.{⊎_elim}
-use Rattle.xt_volumes.specs.Volumes.{AreAscending, HasNoColon, HasSizes, IsFileName, IsFirstBad, IsRefused, SaysSize, Spells, SpellsNone, last_of, parted, place_of, spelled_as}
+use Rattle.xt_volumes.specs.Volumes.{AreAscending, HasNoColon, HasSizes, IsCut, IsFileName, IsFirstBad, IsRefused, SaysSize, Spells, SpellsNone, last_of, last_part, parted, place_of, spelled_as}
 use Rattle.xt_base.specs.declared.sizes.TheConstants.{BLOCK_BYTES, SLOTS}
 use Rattle.xt_base.specs.declared.steps.Errno.{Errno}
 use Rattle.xt_base.specs.declared.steps.Errno.TheVariants.{Busy, Invalid}
@@ -161,6 +161,24 @@ not_cut bs (Some cut) found none =
     let at = split_parts 58 bs (Some cut) found (omega arith) in
     let inside : length cut.0.now < length bs = omega (arith, ap length at.0, length-append cut.0.now (58 ∷ cut.1.now)) in
     absurd (none (length cut.0.now) inside (ap (λ l. get_or l (length cut.0.now) 0) at.0 ∙ get_or_at cut.0.now 58 cut.1.now 0 (length cut.0.now) refl))
+
+-- the halves of a text that is cut have the colon between them, and the first has none
+pub apart_cut : (bs : List ℕ) (cut : Option (Bor (List ℕ) × Bor (List ℕ))) → IsSplitOnceResult 58 bs cut → IfSome cut (λ halves. HasNoColon halves.0.now × (bs ≡ parted halves.0.now halves.1.now))
+apart_cut bs None found = tt
+apart_cut bs (Some cut) found = let at = split_parts 58 bs (Some cut) found (omega arith) in (at.1, at.0)
+
+-- and one that is not cut has none at all
+pub free_uncut : (bs : List ℕ) (cut : Option (Bor (List ℕ) × Bor (List ℕ))) → IsSplitOnceResult 58 bs cut → cut ≡ None → HasNoColon bs
+free_uncut bs None found is = split_parts 58 bs None found (omega arith)
+free_uncut bs (Some cut) found is = search (rules, is)
+
+-- a word whose halves were cut again and again is cut into its parts
+pub is_cut : (word slot more log_bytes most blocks many home rest log : List ℕ) {size : Option (List ℕ)} → HasNoColon slot × (word ≡ parted slot more) → HasNoColon log_bytes × (more ≡ parted log_bytes most) → HasNoColon blocks × (most ≡ parted blocks many) → HasNoColon home × (many ≡ parted home rest) → HasNoColon log × (rest ≡ last_part log size)
+    → IsCut word (record { slot = slot; log_bytes = log_bytes; blocks = blocks; home = home; log = log; size = size })
+is_cut word slot more log_bytes most blocks many home rest log one two three four five = record {
+  word_is = one.1 ∙ ap (parted slot) (two.1 ∙ ap (parted log_bytes) (three.1 ∙ ap (parted blocks) (four.1 ∙ ap (parted home) five.1)));
+  no_colon = (one.0, two.0, three.0, four.0, five.0);
+}
 
 -- the last parts of a word: the name of the file of the log, and the size of a block, or what stands for it where it is left out
 pub last_parts : (rest word : List ℕ) (v : Volume) (says_size : Bool) (log : List ℕ) (size : Option (Bor (List ℕ))) → rest ≡ last_of says_size v → (says_size ≡ false → v.size ≡ BLOCK_BYTES) → HasNoColon (string_bytes v.log) → word ≡ spelled_as says_size v

@@ -1,13 +1,15 @@
 -- Volumes as the command line spells them.
 use denote.Ref.{Bor}
 use Rattle.std.specs.Fmt.{decimal}
-use Rattle.std.specs.Prelude.{All, Bool, List, None, Option, Some, false, get_or, is_some, length, nat_lt, slice_index, true, ℕ, ◌++◌, ◌<◌, ◌≡◌, ◌≢◌, ◌≤◌, ◌^◌, ◌∷◌}
+use Rattle.std.specs.Prelude.{All, Bool, IsSomeAnd, List, None, Option, Some, [], false, get_or, is_some, length, nat_lt, slice_index, true, ℕ, ◌++◌, ◌<◌, ◌≡◌, ◌≢◌, ◌≤◌, ◌^◌, ◌∷◌}
 use Rattle.std.specs.List.{AllPairs, Contains, prefix_len}
 use Rattle.std.specs.String.{string_bytes}
 use Rattle.xt_base.specs.Form.{is_size}
 use Rattle.xt_base.specs.declared.sizes.TheConstants.{BLOCK_BYTES, LEAST_LOG, MOST_BLOCKS, MOST_LOG, SLOTS}
 use Rattle.xt_base.specs.declared.steps.Errno.{Errno}
 use Rattle.xt_base.specs.declared.steps.Errno.TheVariants.{Busy, Invalid}
+use Rattle.xt_volumes.specs.declared.fault.WordFault.{WordFault}
+use Rattle.xt_volumes.specs.declared.fault.WordFault.TheVariants.{Blocks, Form, HomeFile, LogBytes, LogFile, Size, Slot, Zeros}
 use Rattle.xt_volumes.specs.declared.volume.Volume.{Volume}
 
 -- two texts with a colon between them
@@ -67,6 +69,58 @@ ArePartsOf word v parts =
     × (parts.4.now ≡ string_bytes v.log)
     × SaysSize v.size parts.5
     × (word ≡ spelled_as (is_some parts.5) v)
+
+-- ---- what is wrong with a word
+-- the parts of a word, as texts; the last is there only where a colon stands before it
+pub record WordParts : Type 0 where
+  pub slot : List ℕ
+  pub log_bytes : List ℕ
+  pub blocks : List ℕ
+  pub home : List ℕ
+  pub log : List ℕ
+  pub size : Option (List ℕ)
+
+-- the name of the file of a log, and what is said behind it of the size of a block
+abbrev pub last_part : List ℕ → Option (List ℕ) → List ℕ
+last_part log None = log
+last_part log (Some size) = parted log size
+
+-- a word is cut into these parts at its first five colons, or at its four
+pub record IsCut (word : List ℕ) (p : WordParts) : Type 0 where
+  pub word_is : word ≡ parted p.slot (parted p.log_bytes (parted p.blocks (parted p.home (last_part p.log p.size))))
+  pub no_colon : HasNoColon p.slot × HasNoColon p.log_bytes × HasNoColon p.blocks × HasNoColon p.home × HasNoColon p.log
+
+-- a text that may be there
+abbrev pub text_of : Option (Bor (List ℕ)) → Option (List ℕ)
+text_of None = None
+text_of (Some text) = Some text.now
+
+-- parts that were found, as texts
+abbrev pub texts_of : Bor (List ℕ) × Bor (List ℕ) × Bor (List ℕ) × Bor (List ℕ) × Bor (List ℕ) × Option (Bor (List ℕ)) → WordParts
+texts_of p = record { slot = p.0.now; log_bytes = p.1.now; blocks = p.2.now; home = p.3.now; log = p.4.now; size = text_of p.5 }
+
+-- a part of a word is wrong: it is the decimal of no number that it may be, or no file's name
+abbrev pub IsWrong : WordFault → WordParts → Type 0
+IsWrong Slot p = (n : ℕ) → n < SLOTS → p.slot ≢ decimal n
+IsWrong LogBytes p = (n : ℕ) → LEAST_LOG ≤ n → n ≤ MOST_LOG → p.log_bytes ≢ decimal n
+IsWrong Blocks p = (n : ℕ) → 1 ≤ n → n ≤ MOST_BLOCKS → p.blocks ≢ decimal n
+IsWrong HomeFile p = p.home ≡ []
+IsWrong LogFile p = p.log ≡ []
+IsWrong Size p = IsSomeAnd p.size (λ said. (n : ℕ) → is_size (Some n) ≡ true → said ≢ decimal n)
+IsWrong other p = ⊥
+
+-- what is wrong with a word: it is cut nowhere, or one of its parts is wrong, or it is just not spelled so
+abbrev pub IsWordFault : List ℕ → WordFault → Type 0
+IsWordFault word Form = (p : WordParts) → IsCut word p → ⊥
+IsWordFault word Zeros = SpellsNone word
+IsWordFault word other = (p : WordParts) × IsCut word p × IsWrong other p
+
+-- a size of a volume that no mount may have
+abbrev pub IsOutside : Volume → WordFault → Type 0
+IsOutside v LogBytes = LEAST_LOG ≤ v.log_bytes → v.log_bytes ≤ MOST_LOG → ⊥
+IsOutside v Blocks = 1 ≤ v.blocks → v.blocks ≤ MOST_BLOCKS → ⊥
+IsOutside v Size = is_size (Some v.size) ≡ false
+IsOutside v other = ⊥
 
 -- a volume is spelled by one of these words
 abbrev pub IsNamed : List (Bor (List ℕ)) → Volume → Type 0

@@ -2,7 +2,9 @@
 #![tactic(auto)]
 
 pub mod fault;
+pub mod refusal;
 pub mod volume;
 
-pub use fault::VolumeFault;
+pub use fault::{VolumeFault, WordFault};
+pub use refusal::word_fault;
 pub use volume::{Volume, volumes};

@@ -9,7 +9,7 @@ ghost use Rattle.xt_base.specs.declared.steps.Errno.{Errno as AnErrno};
 ghost use Rattle.xt_base.specs.declared.steps.Errno.TheVariants.{Busy, Invalid};
 ghost use Rattle.xt_base.specs.declared.sizes.TheConstants.{SLOTS};
 ghost use Rattle.xt_volumes.specs.declared.volume.Volume.{Volume as AVolume};
-ghost use Rattle.xt_volumes.specs.Volumes.{ArePartsOf, AreAscending, HasNoColon, HasSizes, IsFileName, IsFirstBad, IsNamed, IsRefused, IsTaken, SaysSize, Spells, SpellsNone, parted, place_of, spelled_as};
+ghost use Rattle.xt_volumes.specs.Volumes.{ArePartsOf, AreAscending, HasNoColon, HasSizes, IsCut, IsFileName, IsFirstBad, IsNamed, IsRefused, IsTaken, SaysSize, Spells, SpellsNone, WordParts, last_part, parted, place_of, spelled_as, text_of, texts_of};
 
 use crate::fault::VolumeFault;
 use std::alloc::{AllocError, Global};
@@ -31,12 +31,14 @@ pub struct Volume {
 }
 
 /// The parts of a word: a slot, bytes, blocks, the names of two files, and the size of a block where that is said.
-type Parts<'a> = (&'a str, &'a str, &'a str, &'a str, &'a str, Option<&'a str>);
+pub(crate) type Parts<'a> = (&'a str, &'a str, &'a str, &'a str, &'a str, Option<&'a str>);
 
 /// What stands in a text before its first colon, and what stands behind it.
 fn cut<'a>(text: &'a str) -> Option<(&'a str, &'a str)>
     ensures cut { (xs ys : List ℕ) → HasNoColon xs → text.now ≡ parted xs ys → IsSomeAnd result (λ halves. (halves.0.now ≡ xs) × (halves.1.now ≡ ys)) }
     ensures whole { HasNoColon text.now → result ≡ None }
+    ensures apart { IfSome result (λ halves. HasNoColon halves.0.now × (text.now ≡ parted halves.0.now halves.1.now)) }
+    ensures uncut { result ≡ None → HasNoColon text.now }
 {
     text.split_once(':')
 }
@@ -45,6 +47,7 @@ fn cut<'a>(text: &'a str) -> Option<(&'a str, &'a str)>
 fn log_and_size<'a>(text: &'a str) -> (&'a str, Option<&'a str>)
     ensures said { (xs ys : List ℕ) → HasNoColon xs → text.now ≡ parted xs ys → (result.0.now ≡ xs) × IsSomeAnd result.1 (λ size. size.now ≡ ys) }
     ensures unsaid { HasNoColon text.now → (result.0.now ≡ text.now) × (result.1 ≡ None) }
+    ensures apart { HasNoColon result.0.now × (text.now ≡ last_part result.0.now (text_of result.1)) }
 {
     match cut(text) {
         Some((log, size)) => (log, Some(size)),
@@ -53,8 +56,10 @@ fn log_and_size<'a>(text: &'a str) -> (&'a str, Option<&'a str>)
 }
 
 /// The parts of a word between its first five colons, of which the last may lack, if it has so many.
-fn parts<'a>(word: &'a str) -> Option<Parts<'a>>
-    ensures { (v : AVolume) → Spells word.now v → IsSomeAnd result (ArePartsOf word.now v) }
+pub(crate) fn parts<'a>(word: &'a str) -> Option<Parts<'a>>
+    ensures parts { (v : AVolume) → Spells word.now v → IsSomeAnd result (ArePartsOf word.now v) }
+    ensures cut { IfSome result (λ found. IsCut word.now (texts_of found)) }
+    ensures uncut { result ≡ None → (p : WordParts) → IsCut word.now p → ⊥ }
 {
     let (slot, rest) = cut(word)?;
     let (log_bytes, rest) = cut(rest)?;
@@ -65,7 +70,7 @@ fn parts<'a>(word: &'a str) -> Option<Parts<'a>>
 }
 
 /// The slot that a word spells, loosely: a sign and leading zeros are let through.
-fn slot_of(word: &str) -> Option<Slot>
+pub(crate) fn slot_of(word: &str) -> Option<Slot>
     ensures { (n : ℕ) → n < SLOTS → word.now ≡ decimal n → result ≡ Some n }
 {
     let index: u8 = word.parse().ok()?;
@@ -73,21 +78,21 @@ fn slot_of(word: &str) -> Option<Slot>
 }
 
 /// The bytes that a word spells, loosely.
-fn bytes_of(word: &str) -> Option<u32>
+pub(crate) fn bytes_of(word: &str) -> Option<u32>
     ensures { (n : ℕ) → n < 2 ^ 32 → word.now ≡ decimal n → result ≡ Some n }
 {
     word.parse().ok()
 }
 
 /// The blocks that a word spells, loosely.
-fn blocks_of(word: &str) -> Option<u64>
+pub(crate) fn blocks_of(word: &str) -> Option<u64>
     ensures { (n : ℕ) → n < 2 ^ 64 → word.now ≡ decimal n → result ≡ Some n }
 {
     word.parse().ok()
 }
 
 /// The size of a block that a word spells, loosely, where there is one; else 4,096.
-fn size_of(word: Option<&str>) -> Option<u32>
+pub(crate) fn size_of(word: Option<&str>) -> Option<u32>
     ensures { (n : ℕ) → n < 2 ^ 32 → SaysSize n word.entry → result ≡ Some n }
 {
     match word {
@@ -116,7 +121,7 @@ fn is_file_name(name: &str) -> bool
 impl Volume {
     /// The volume that a word spells, `SLOT:LOGBYTES:BLOCKS:HOMEFILE:LOGFILE`, which may end in `:SIZE`, with the numbers as in the line
     /// `mount`; None where it spells none. The one error is want of memory.
-    fn read(alloc: Global, word: &str) -> Result<Option<Self>, AllocError>
+    pub(crate) fn read(alloc: Global, word: &str) -> Result<Option<Self>, AllocError>
         ensures spelled { IfOk result (λ found. IfSome found (Spells word.now)) }
         ensures none { result ≡ Ok None → SpellsNone word.now }
     {

@@ -5,6 +5,6 @@ use Rattle.xt_offline.proofs.logdump.dump_by_pieces.Given as goal
 
 abbrev pub invariant-loop : goal.invariant-loop
 invariant-loop g l = record {
-  stands : IfSome (g.R.Read.remaining l.fn.reader) (λ log. Stands log l.window (g.R.Read.remaining l.reader) (g.W.Write.contents l.fn.writer) (g.W.Write.contents l.writer));
+  stands : IfSome (g.R.Read.remaining l.fn.reader) (λ log. Stands l.fn.limit log l.window (g.R.Read.remaining l.reader) (g.W.Write.contents l.fn.writer) (g.W.Write.contents l.writer));
   tied : IsTied l.window (g.R.Read.remaining l.reader);
 }

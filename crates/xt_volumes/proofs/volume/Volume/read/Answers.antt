@@ -7,14 +7,14 @@ use Rattle.xt_volumes.proofs.volume.Volume.read.Goals as goal
 -- a word whose size is no number spells none
 pub returns-in_default-size_of-clause-none : goal.returns-in_default-size_of-clause-none
 returns-in_default-size_of-clause-none c = λ ok v s.
-    let parts = c.in-Some.ensures v s in
+    let parts = c.in-Some.ensures.parts v s in
     let size = c.size_of.ensures v.size s.in_range.3 parts.5 in
     search (rules, size, c.in_default-size_of.is)
 
 -- and neither does one that is not as its parts are spelled
 pub returns-then-not-branch-clause-none : goal.returns-then-not-branch-clause-none
 returns-then-not-branch-clause-none c = λ ok v s.
-    let parts = c.in-Some.ensures v s in
+    let parts = c.in-Some.ensures.parts v s in
     let numbers = three_are _ _ _ _ _ _ (sym c.in-Some-numbers.is ∙ c.numbers.ensures v.slot v.log_bytes v.blocks s.in_range.0 s.in_range.1 s.in_range.2 parts.0 parts.1 parts.2) in
     let size = some_is _ _ (sym c.in-Some-size_of.is ∙ c.size_of.ensures v.size s.in_range.3 parts.5) in
     let home : string_bytes c.in_ok-from_str.field-0 ≡ string_bytes v.home = search (rules, parts, c.in_ok-from_str.ensures) in
