@@ -1,31 +1,34 @@
 //! The program `xth`: transactions of mounted volumes, step by step.
 #![tactic(auto)]
 
+mod dumping;
+mod noting;
 mod recovery;
 mod script;
 mod serve;
+mod streams;
 
 use clap::error::ErrorKind;
-use clap::{Arg, ArgMatches, Command};
+use clap::{Arg, ArgAction, ArgMatches, Command};
+use dumping::{DumpAsked, dump_file, logdump_command};
 use recovery::files::recover_files;
 use recovery::options::{Asked, recover_command};
 use recovery::volumes::{empty_logs, recover_volumes};
 use script::script_on_streams;
+use serve::ending::Ended;
 use serve::fault::ServeFault;
-use serve::files::{Opened, look, open};
-use serve::making::{make_and_hold, remove_made};
+use serve::files::{LogRules, Opened, look, open};
+use serve::making::Held;
 use serve::options::{Options, serve_command};
 use serve::running::{Orders, serve};
 use std::alloc::{AllocError, Global};
-use std::fs::File;
-use std::io::{BufWriter, IsTerminal, Stderr, Stdin};
+use std::io::{IsTerminal, Stderr, Stdin};
 use std::net::TcpListener;
-use std::path::PathBuf;
 use std::process::ExitCode;
+use streams::fill;
 use xt_base::names::Slot;
 use xt_cell::reserve::Blanks;
-use xt_offline::progress::Watched;
-use xt_offline::{LOG_BYTES, LogFault, ScriptFault, dump, tell};
+use xt_offline::ScriptFault;
 use xt_volumes::Volume;
 
 /// How many bytes of output are written at once.
@@ -38,9 +41,11 @@ const SLOTS: &[&str] = &[
 
 /// The command line of a script.
 fn script_command<'a>(alloc: Global) -> Command<'a> {
-    Command::new(alloc, "script").about(
-        "Runs the steps on standard input, one on a line, and prints each reply with its offers",
-    )
+    Command::new(alloc, "script")
+        .about(
+            "Runs the steps on standard input, one on a line, and prints each reply with its offers",
+        )
+        .override_usage("xth script [OPTIONS] < FILE")
 }
 
 /// The command line of a script that is struck to one slot.
@@ -51,17 +56,18 @@ fn strike_command<'a>(alloc: Global) -> Result<Command<'a>, AllocError> {
         .value_parser(SLOTS);
     Command::new(alloc, "strike")
         .about("The same with the steps of one slot alone")
+        .override_usage("xth strike [OPTIONS] <SLOT> < FILE")
         .arg(slot)
 }
 
-/// The command line of a log that is printed.
-fn logdump_command<'a>(alloc: Global) -> Result<Command<'a>, AllocError> {
-    let file = Arg::new(alloc, "FILE")
-        .help("The file of a log")
-        .required(true);
-    Command::new(alloc, "logdump")
-        .about("Prints the checkpoints of a log file")
-        .arg(file)
+/// The option that asks for what is said on a terminal of a fault.
+fn verbose<'a>(alloc: Global) -> Arg<'a> {
+    Arg::new(alloc, "verbose")
+        .short('v')
+        .long("verbose")
+        .help("Says of a fault what is said on a terminal: a second line with the reason")
+        .action(ArgAction::SetTrue)
+        .global(true)
 }
 
 /// The command line.
@@ -70,7 +76,9 @@ fn command<'a>(alloc: Global) -> Result<Command<'a>, AllocError> {
         .version("0.1.0")
         .about("Transactions over the blocks of a volume, step by step")
         .bin_name("xth")?
+        .override_usage("xth <COMMAND>")
         .subcommand_required(true)
+        .arg(verbose(alloc))?
         .subcommand(script_command(alloc))?
         .subcommand(strike_command(alloc)?)?
         .subcommand(logdump_command(alloc)?)?
@@ -90,46 +98,23 @@ fn terminal(rt: &HostRuntime) -> Option<Stderr> {
     if err.is_terminal() { Some(err) } else { None }
 }
 
-/// Opens the file of a log, if it has at most 67,108,864 bytes.
-fn open_log(rt: &HostRuntime, path: &str) -> Result<File, LogFault> {
-    let file = File::open(rt, path)?;
-    if file.metadata()?.len() > LOG_BYTES {
-        return Err(LogFault::TooLong);
+/// Standard error, if reasons are told there: it is a terminal, or `--verbose` asks for them.
+fn details(rt: &HostRuntime, matches: &ArgMatches) -> Option<Stderr> {
+    if matches.get_flag("verbose") {
+        Some(rt.stderr())
+    } else {
+        terminal(rt)
     }
-    Ok(file)
-}
-
-/// Prints the checkpoints of a log file. On a terminal a log that is at fault is named too.
-fn dump_file(rt: &HostRuntime, path: &str) -> Result<u8, ScriptFault> {
-    let alloc = rt.alloc();
-    let mut writer = BufWriter::with_capacity(alloc, OUTPUT_BYTES, rt.stdout())?;
-    let status = match open_log(rt, path) {
-        Ok(file) => {
-            let mut reader = Watched::new(file, terminal(rt));
-            dump(alloc, &mut reader, &mut writer, &mut rt.stderr())
-        }
-        Err(fault) => tell(&mut rt.stderr(), &fault),
-    };
-    if status != 0 && terminal(rt).is_some() {
-        let _ = eprintln!(rt; "log '{path}'");
-    }
-    Ok(status)
-}
-
-/// The file whose log is printed, if that is asked.
-fn log_path<'a>(matches: &ArgMatches<'a>) -> Option<&'a str> {
-    matches.subcommand_matches("logdump")?.get_str("FILE")
 }
 
 /// A service that is made ready.
 struct Ready {
     orders: Orders,
     opened: Vec<Opened>,
-    /// The volumes, and whether their logs are emptied at the end.
-    volumes: Vec<Volume>,
+    /// The volumes, also those that are not served, with their files locked for as long as the service runs.
+    held: Vec<Held>,
+    /// Whether their logs are emptied at the end.
     cuts_logs: bool,
-    /// The files, locked for as long as the service runs.
-    held: Vec<File>,
 }
 
 /// What is left to do.
@@ -149,33 +134,46 @@ fn listen(rt: &HostRuntime, port: u16) -> Result<TcpListener, ServeFault> {
 }
 
 /// The files of volumes that are served: as they are locked, and as devices.
-type Files = (Vec<File>, Vec<Opened>);
+type Files = (Vec<Held>, Vec<Opened>);
 
-/// Makes those files of volumes that are missing, locks all, recovers what is to be recovered, and opens all. What was locked and
-/// made is noted, up to a fault too.
+/// Makes those files of volumes that are missing, locks all, makes what was made safe, recovers what is to be recovered, and opens all. What is
+/// locked is noted, up to a fault too.
 fn make_and_open(
     rt: &HostRuntime,
     alloc: Global,
-    options: &Options,
-    held: &mut Vec<File>,
-    made: &mut Vec<PathBuf>,
+    volumes: Vec<Volume>,
+    recovers: bool,
+    logs: LogRules,
+    held: &mut Vec<Held>,
 ) -> Result<Vec<Opened>, ServeFault> {
-    for volume in &options.volumes {
-        make_and_hold(rt, alloc, volume, held, made)?;
+    held.reserve(volumes.len())?;
+    for volume in volumes {
+        held.push(Held::take(rt, alloc, volume)?)?;
     }
-    if options.recovers {
-        recover_volumes(rt, alloc, &options.volumes)?;
+    for one in held.iter() {
+        one.sync_made(rt, alloc)?;
     }
-    open(rt, alloc, &options.volumes, options.logs)
+    if recovers {
+        recover_volumes(rt, alloc, held.as_mut_slice())?;
+    }
+    open(rt, alloc, held.as_slice(), logs)
 }
 
 /// Opens the files of volumes. Where one can't be opened, no file that was made for that is left.
-fn open_files(rt: &HostRuntime, alloc: Global, options: &Options) -> Result<Files, ServeFault> {
-    let (mut held, mut made) = (Vec::new(alloc), Vec::new(alloc));
-    match make_and_open(rt, alloc, options, &mut held, &mut made) {
+fn open_files(
+    rt: &HostRuntime,
+    alloc: Global,
+    volumes: Vec<Volume>,
+    recovers: bool,
+    logs: LogRules,
+) -> Result<Files, ServeFault> {
+    let mut held = Vec::new(alloc);
+    match make_and_open(rt, alloc, volumes, recovers, logs, &mut held) {
         Ok(opened) => Ok((held, opened)),
         Err(fault) => {
-            remove_made(rt, &made);
+            for one in &held {
+                one.remove_made(rt);
+            }
             Err(fault)
         }
     }
@@ -197,20 +195,21 @@ fn make_ready(rt: &HostRuntime, options: Options) -> Result<Next, ServeFault> {
     let listener = listen(rt, options.port)?;
     listener.set_nonblocking(options.until_stdin_ends)?;
     let port = listener.local_addr()?.port();
-    let (held, opened) = open_files(rt, alloc, &options)?;
+    let input = ending_input(rt, &options);
+    let logs = options.logs;
+    let (held, opened) = open_files(rt, alloc, options.volumes, options.recovers, logs)?;
     let orders = Orders {
         listener,
         port,
         workers: options.workers,
         sessions: options.sessions,
-        input: ending_input(rt, &options),
+        input,
     };
     Ok(Next::Serve(Ready {
         orders,
         opened,
-        cuts_logs: options.logs.are_cut,
-        volumes: options.volumes,
         held,
+        cuts_logs: logs.are_cut,
     }))
 }
 
@@ -225,15 +224,19 @@ fn with_volumes(rt: &HostRuntime, matches: &ArgMatches) -> Result<Option<Next>, 
     }
 }
 
-/// Tells of a fault: the status. On a terminal the word that names no volume is shown too.
+/// Tells of a fault: the status.
 fn fail(rt: &HostRuntime, fault: &ServeFault) -> u8 {
     let _ = eprintln!(rt; "{fault}");
-    if let ServeFault::Word(word) = fault
-        && terminal(rt).is_some()
-    {
-        let _ = eprintln!(rt; "volume '{word}'");
-    }
     1
+}
+
+/// The same, with the reason, where it is told.
+fn fail_with_reason(rt: &HostRuntime, matches: &ArgMatches, fault: &ServeFault) -> u8 {
+    let status = fail(rt, fault);
+    if let Some(mut err) = details(rt, matches) {
+        let _ = fault.explain(&mut err);
+    }
+    status
 }
 
 /// Does what the words of a right command line say, but for a service, which is made ready.
@@ -241,11 +244,12 @@ fn obey(rt: &HostRuntime, matches: &ArgMatches) -> Result<Next, ScriptFault> {
     match with_volumes(rt, matches) {
         Ok(Some(next)) => return Ok(next),
         Ok(None) => {}
-        Err(fault) => return Ok(Next::End(fail(rt, &fault))),
+        Err(fault) => return Ok(Next::End(fail_with_reason(rt, matches, &fault))),
     }
-    let status = match log_path(matches) {
-        Some(path) => dump_file(rt, path)?,
-        None => script_on_streams(rt, only_slot(matches))?,
+    let details = details(rt, matches);
+    let status = match DumpAsked::of(matches) {
+        Some(asked) => dump_file(rt, details, asked)?,
+        None => script_on_streams(rt, details, only_slot(matches))?,
     };
     Ok(Next::End(status))
 }
@@ -269,8 +273,30 @@ fn run(rt: &HostRuntime) -> Result<Next, ScriptFault> {
     }
 }
 
+/// Does what is to be done at the end of a service: logs that are of no use any more are emptied, where that is asked. The status is 1 also where
+/// a volume was not served.
+fn close(rt: &HostRuntime, ended: &Ended, held: &[Held], cuts_logs: bool) -> u8 {
+    let status = if cuts_logs {
+        empty_logs(rt, ended, held)
+    } else {
+        ended.status
+    };
+    if held.iter().all(|one| one.is_served) {
+        status
+    } else {
+        1
+    }
+}
+
 fn main(rt: HostRuntime) -> ExitCode {
     let alloc = rt.alloc();
+    let _fillers = match fill(&rt) {
+        Ok(fillers) => fillers,
+        Err(error) => {
+            let _ = eprintln!(rt; "fault: /dev/null: {error}");
+            return ExitCode::from(1);
+        }
+    };
     let ready = match run(&rt) {
         Ok(Next::Serve(ready)) => ready,
         Ok(Next::End(status)) => return ExitCode::from(status),
@@ -282,13 +308,11 @@ fn main(rt: HostRuntime) -> ExitCode {
     let Ready {
         orders,
         opened,
-        volumes,
+        held,
         cuts_logs,
-        held: _held,
     } = ready;
     ExitCode::from(match serve(rt, alloc, Blanks::new(), &orders, opened) {
-        Ok(ended) if cuts_logs => empty_logs(&rt, &ended, &volumes),
-        Ok(ended) => ended.status,
+        Ok(ended) => close(&rt, &ended, &held, cuts_logs),
         Err(fault) => fail(&rt, &fault),
     })
 }

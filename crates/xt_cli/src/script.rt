@@ -1,17 +1,15 @@
-//! `xth script` and `xth strike` over the process's streams. On a terminal the line at fault is shown too.
+//! `xth script` and `xth strike` over the process's streams. On a terminal, and where it is asked, the line at fault is shown too.
 
+use crate::noting::Noting;
 use crate::{OUTPUT_BYTES, terminal};
 use std::alloc::Global;
-use std::io::{self, BufWriter, Input, Read, Stderr, Write};
+use std::io::{self, BufWriter, Input, IsTerminal, Read, Stderr, Write};
 use xt_base::names::Slot;
 use xt_offline::progress::Watched;
 use xt_offline::{ScriptFault, run_script};
 
 /// How many bytes of a line are shown at most.
 const SHOWN_BYTES: usize = 4_096;
-
-/// How many bytes a number of 64 bits and its newline have at most.
-const NUMBER_BYTES: usize = 21;
 
 /// A reader that keeps what was read, as long as there is memory for it. It gives what the reader under it gives.
 #[derive(Drop)]
@@ -47,48 +45,8 @@ impl<R: Read + Drop> Read for Keeping<R> {
     }
 }
 
-/// A writer that notes the number at the end of what was written, before the newline. It takes what the writer under it takes.
-#[derive(Drop)]
-struct Noting<W: Write + Drop> {
-    writer: W,
-    number: u64,
-}
-
-impl<W: Write + Drop> Noting<W> {
-    /// Notes what is written from here on.
-    fn new(writer: W) -> Self {
-        Noting { writer, number: 0 }
-    }
-
-    /// Notes bytes that were written. A number that ends there stands in the last of them, or goes on from those before.
-    fn note(&mut self, bytes: &[u8]) {
-        for byte in &bytes[bytes.len().saturating_sub(NUMBER_BYTES)..] {
-            self.number = match *byte {
-                digit @ b'0'..=b'9' => {
-                    let shifted = self.number.saturating_mul(10);
-                    shifted.saturating_add(u64::from(digit - b'0'))
-                }
-                b'\n' => self.number,
-                _ => 0,
-            };
-        }
-    }
-}
-
-impl<W: Write + Drop> Write for Noting<W> {
-    fn write(&mut self, buf: &[u8]) -> io::Result<usize> {
-        let count = self.writer.write(buf)?;
-        self.note(&buf[..count]);
-        Ok(count)
-    }
-
-    fn flush(&mut self) -> io::Result<()> {
-        self.writer.flush()
-    }
-}
-
 /// Shows a line of a script, counted from 1. What is no printable ASCII is escaped, so that no script controls the terminal.
-fn show_line(terminal: &mut Stderr, script: &[u8], number: u64) {
+fn show_line(err: &mut Stderr, script: &[u8], number: u64) {
     let lines_before = number.saturating_sub(1) as usize;
     let Some(line) = script.split(|byte| *byte == b'\n').nth(lines_before) else {
         return;
@@ -96,20 +54,20 @@ fn show_line(terminal: &mut Stderr, script: &[u8], number: u64) {
     let shown = &line[..line.len().min(SHOWN_BYTES)];
     let rest = if shown.len() < line.len() { ".." } else { "" };
     let text = shown.escape_ascii();
-    let _ = writeln!(terminal, "line '{text}'{rest}");
+    let _ = writeln!(err, "line '{text}'{rest}");
 }
 
-/// Runs a script, and shows on the terminal the line that is bad, or that breaks order. `strike` counts the lines of its slot alone, so
-/// there the second is not shown.
-fn run_on_terminal(
+/// Runs a script, and shows the line that is bad, or that breaks order. `strike` counts the lines of its slot alone, so there the second is
+/// not shown.
+fn run_and_show(
     rt: &HostRuntime,
-    mut terminal: Stderr,
+    mut details: Stderr,
     only: Option<Slot>,
 ) -> Result<u8, ScriptFault> {
     let alloc = rt.alloc();
     let output = BufWriter::with_capacity(alloc, OUTPUT_BYTES, rt.stdout())?;
     let (mut writer, mut err) = (Noting::new(output), Noting::new(rt.stderr()));
-    let mut reader = Watched::new(Keeping::new(alloc, rt.reader()), Some(rt.stderr()));
+    let mut reader = Watched::new(Keeping::new(alloc, rt.reader()), terminal(rt));
     let status = run_script(alloc, &mut reader, &mut writer, &mut err, only);
     let number = match status {
         2 => err.number,
@@ -117,15 +75,32 @@ fn run_on_terminal(
         _ => return Ok(status),
     };
     if let Some(script) = &reader.reader.kept {
-        show_line(&mut terminal, script, number);
+        show_line(&mut details, script, number);
     }
     Ok(status)
 }
 
-/// Runs the script on standard input, or the steps of one slot of it.
-pub fn script_on_streams(rt: &HostRuntime, only: Option<Slot>) -> Result<u8, ScriptFault> {
-    if let Some(terminal) = terminal(rt) {
-        return run_on_terminal(rt, terminal, only);
+/// Says at a terminal that steps are awaited from it.
+fn greet(rt: &HostRuntime) {
+    if rt.stdin().is_terminal()
+        && let Some(mut terminal) = terminal(rt)
+    {
+        let _ = writeln!(
+            terminal,
+            "xth: reads steps, one on a line, up to the end of the input (^D)"
+        );
+    }
+}
+
+/// Runs the script on standard input, or the steps of one slot of it. Where there are to be details, the line at fault is shown.
+pub fn script_on_streams(
+    rt: &HostRuntime,
+    details: Option<Stderr>,
+    only: Option<Slot>,
+) -> Result<u8, ScriptFault> {
+    greet(rt);
+    if let Some(details) = details {
+        return run_and_show(rt, details, only);
     }
     let alloc = rt.alloc();
     let mut writer = BufWriter::with_capacity(alloc, OUTPUT_BYTES, rt.stdout())?;

@@ -3,7 +3,7 @@
 use crate::recovery::emptying::LogFile;
 use crate::recovery::options::Asked;
 use crate::serve::fault::ServeFault;
-use crate::serve::files::{fault, look_at, look_for};
+use crate::serve::files::{Part, fault, look_at, look_for};
 use crate::serve::holding::{hold, lock};
 use crate::terminal;
 use std::alloc::Global;
@@ -49,8 +49,8 @@ pub fn open_left(rt: &HostRuntime, alloc: Global, asked: Asked) -> Result<Left, 
 pub fn recover_files(rt: &HostRuntime, asked: Asked) -> Result<u8, ServeFault> {
     let alloc = rt.alloc();
     let mut places = Vec::new(alloc);
-    look_at(rt, alloc, asked.home, &mut places)?;
-    look_at(rt, alloc, asked.log, &mut places)?;
+    look_at(rt, alloc, asked.home, Part::Home, &mut places)?;
+    look_at(rt, alloc, asked.log, Part::Log, &mut places)?;
     let Left {
         mut home,
         reader,

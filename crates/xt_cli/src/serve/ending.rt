@@ -2,7 +2,7 @@
 
 ghost use Rattle.std.specs.Prelude.{◌≡◌, ◌<◌, ℕ, All, Bool, IfNone, IfSome, None, Some, false, slice_index_or, slice_set, true, vec_len};
 ghost use Rattle.xt_base.specs.declared.sizes.TheConstants.{SLOTS};
-ghost use Rattle.xt_cli.specs.Ends.{Looks, is_device_fault};
+ghost use Rattle.xt_cli.specs.Ends.{Looks, is_device_fault, is_home};
 ghost use Rattle.xt_queue.specs.Words.{word_of};
 ghost use Rattle.xt_text.specs.Replies.{seen_text};
 
@@ -32,7 +32,9 @@ pub struct Ended {
 impl Ended {
     /// Whether all that was committed of a volume is on its home device, so that its log is of no use any more: it was unmounted live, of a
     /// host whose books agree. A mount that is live is unmounted only where all that was committed is home.
-    pub fn is_home(&self, slot: Slot) -> bool {
+    pub fn is_home(&self, slot: Slot) -> bool
+        ensures { result ≡ is_home self.now slot }
+    {
         let is_unmounted = self.kept[slot.index()].is_none();
         let is_live = self.shut[slot.index()].is_none();
         self.is_closed && is_unmounted && is_live

@@ -1,23 +1,28 @@
 //! Why volumes are not served.
 
 use std::alloc::AllocError;
-use std::io;
+use std::io::{self, Write};
 use thiserror::Error;
 use xt_base::names::Slot;
 use xt_base::steps::Errno;
 use xt_dev::fault::FileFault;
 use xt_recover::command::CommandFault;
-use xt_volumes::VolumeFault;
+use xt_volumes::{VolumeFault, WordFault};
+
+/// A word that names no volume that can be mounted, and what is wrong with it.
+#[derive(Debug, Drop, Error)]
+#[error("volume '{word}': {fault}")]
+pub struct WrongWord {
+    pub word: String,
+    pub fault: WordFault,
+}
 
 /// Why volumes are not served, or not to the end of the service.
 #[derive(Debug, Drop, Error)]
 pub enum ServeFault {
-    /// A word that names no volume: the line is the same for all.
-    #[error("fault: volume")]
-    Word(String),
-    /// Words that name no volumes that can be mounted together.
+    /// Words that name no volumes that can be mounted together, and the one that is wrong, if one is by itself.
     #[error("{0}")]
-    Volume(VolumeFault),
+    Volume(VolumeFault, Option<WrongWord>),
     /// A slot that can't be mounted.
     #[error("fault: slot {} {}", .0.index(), .1.name())]
     Slot(Slot, Errno),
@@ -36,9 +41,12 @@ pub enum ServeFault {
     /// A log that has something in it, which is not to be recovered.
     #[error("fault: {0}: the log is not empty; recover it with xth recover, or serve with --recover")]
     NotRecovered(String),
-    /// A volume that was not recovered: the name of the file at fault.
-    #[error("fault: {0}: {1}")]
-    Recovery(String, CommandFault),
+    /// A volume that was not recovered: its slot, and the name of the file at fault.
+    #[error("slot {}: {}: {}", .0.index(), .1, .2)]
+    Recovery(Slot, String, CommandFault),
+    /// No volume could be recovered, so there is none to be served.
+    #[error("fault: no volume was recovered")]
+    NoneRecovered,
     /// A port that can't be listened at.
     #[error("fault: port {0}: {1}")]
     Port(u16, io::Error),
@@ -54,4 +62,17 @@ pub enum ServeFault {
     /// Memory was refused.
     #[error("fault: {0}")]
     Memory(#[from(alloc)] AllocError),
+}
+
+impl ServeFault {
+    /// Says why, in a line of its own, where there is more to say than the words of the fault do.
+    pub fn explain<W: Write>(&self, err: &mut W) -> io::Result<()> {
+        match self {
+            ServeFault::Volume(_, Some(wrong)) => writeln!(err, "{wrong}"),
+            ServeFault::Volume(VolumeFault::Slot(slot, Errno::Busy), None) => {
+                writeln!(err, "slot {} is named twice", slot.index())
+            }
+            _ => Ok(()),
+        }
+    }
 }

@@ -1,16 +1,26 @@
 //! The files of volumes, looked at before any is made, and opened as devices.
 
-use crate::serve::failing::TellingHome;
 use crate::serve::fault::ServeFault;
-use crate::serve::growth::GrowingLog;
+use crate::serve::making::Held;
+use crate::serve::telling::{TellingHome, TellingLog, Voice};
 use std::alloc::Global;
-use std::fs;
+use std::fs::{self, Metadata};
 use std::io::{self, ErrorKind};
-use std::os::unix::fs::FileTypeExt;
+use std::os::unix::fs::{FileTypeExt, MetadataExt};
 use std::path::{Path, PathBuf};
 use xt_base::names::Slot;
 use xt_dev::{FileFault, FileHome, FileLog};
 use xt_volumes::Volume;
+
+/// The number of `/dev/full` on Linux, the device that takes nothing: people try a full disk with it.
+const FULL_DEVICE: u64 = 0x107;
+
+/// Which device of a volume a file is.
+#[derive(Clone, Copy, Debug, PartialEq, Eq)]
+pub enum Part {
+    Home,
+    Log,
+}
 
 /// What a mount of a volume is told: its slot, the bytes of its log, the blocks of its home device, and the bytes of a block.
 #[derive(Clone, Copy, Debug)]
@@ -26,7 +36,7 @@ pub struct Geometry {
 pub struct Opened {
     pub geometry: Geometry,
     pub home: TellingHome,
-    pub log: GrowingLog,
+    pub log: TellingLog,
 }
 
 /// How the logs of volumes are kept.
@@ -46,17 +56,20 @@ pub fn fault(alloc: Global, name: &str, fault: FileFault) -> ServeFault {
     }
 }
 
+/// The folder in which a path has its last name.
+pub fn folder_of(path: Path<'_>) -> Path<'_> {
+    match path.parent() {
+        Some(folder) if !folder.as_str().is_empty() => folder,
+        _ => Path::new("."),
+    }
+}
+
 /// Where a file will be that is not there, in a folder that is.
 fn new_place(rt: &HostRuntime, alloc: Global, path: Path) -> io::Result<PathBuf> {
-    let (Some(folder), Some(name)) = (path.parent(), path.file_name()) else {
+    let Some(name) = path.file_name() else {
         return Err(io::Error::from(ErrorKind::NotFound));
     };
-    let folder = if folder.as_str().is_empty() {
-        Path::new(".")
-    } else {
-        folder
-    };
-    Ok(fs::canonicalize(rt, folder)?.join(alloc, name)?)
+    Ok(fs::canonicalize(rt, folder_of(path))?.join(alloc, name)?)
 }
 
 /// Where a file is, or will be, by a path with no links.
@@ -68,13 +81,32 @@ fn place(rt: &HostRuntime, alloc: Global, name: &str) -> io::Result<PathBuf> {
     }
 }
 
-/// How many bytes a file has, if it is there; no folder is a file, no pipe either, which has no bytes to go back to, and no name that ends as
-/// one of a folder is that of a file.
-pub fn size(rt: &HostRuntime, name: &str) -> io::Result<u64> {
+/// Looks whether a file that is there can be a part of a volume. No folder can, nor a pipe, which has no bytes to go back to, nor a device of
+/// characters but the one that takes nothing. A device of blocks can be a home device and no log: a log is as long as what was appended to it.
+fn look_at_kind(found: &Metadata, part: Part) -> io::Result<()> {
+    let kind = found.file_type();
+    if found.is_dir() {
+        return Err(io::Error::from(ErrorKind::IsADirectory));
+    }
+    if kind.is_fifo() {
+        return Err(io::Error::from(ErrorKind::NotSeekable));
+    }
+    if kind.is_block_device() && part == Part::Log {
+        return Err(io::Error::other("a block device has no length, so it can't be a log"));
+    }
+    if kind.is_char_device() && found.rdev() != FULL_DEVICE {
+        return Err(io::Error::other("a character device can't be a log or a home device"));
+    }
+    Ok(())
+}
+
+/// How many bytes the file of a part of a volume has, if it is there; no name that ends as one of a folder is that of a file.
+fn size(rt: &HostRuntime, name: &str, part: Part) -> io::Result<u64> {
     match fs::metadata(rt, name) {
-        Ok(found) if found.is_dir() => Err(io::Error::from(ErrorKind::IsADirectory)),
-        Ok(found) if found.file_type().is_fifo() => Err(io::Error::from(ErrorKind::NotSeekable)),
-        Ok(found) => Ok(found.len()),
+        Ok(found) => {
+            look_at_kind(&found, part)?;
+            Ok(found.len())
+        }
         Err(error) if error.kind() == ErrorKind::NotFound && !name.ends_with('/') => Ok(0),
         Err(error) => Err(error),
     }
@@ -85,9 +117,10 @@ pub fn look_at(
     rt: &HostRuntime,
     alloc: Global,
     name: &str,
+    part: Part,
     places: &mut Vec<PathBuf>,
 ) -> Result<u64, ServeFault> {
-    let (place, size) = match (place(rt, alloc, name), size(rt, name)) {
+    let (place, size) = match (place(rt, alloc, name), size(rt, name, part)) {
         (Ok(place), Ok(size)) => (place, size),
         (Err(error), _) | (_, Err(error)) => return Err(fault(alloc, name, FileFault::Io(error))),
     };
@@ -98,7 +131,7 @@ pub fn look_at(
     Ok(size)
 }
 
-/// Looks at the files of volumes before any is made: a file in no folder, one that is a folder, one that two devices would have, and a log
+/// Looks at the files of volumes before any is made: a file in no folder, one of a kind that none is, one that two devices would have, and a log
 /// that has something in it, where logs are not recovered, are faults.
 pub fn look(
     rt: &HostRuntime,
@@ -108,8 +141,8 @@ pub fn look(
 ) -> Result<(), ServeFault> {
     let mut places = Vec::new(alloc);
     for volume in volumes {
-        look_at(rt, alloc, volume.home.as_str(), &mut places)?;
-        if look_at(rt, alloc, volume.log.as_str(), &mut places)? > 0 {
+        look_at(rt, alloc, volume.home.as_str(), Part::Home, &mut places)?;
+        if look_at(rt, alloc, volume.log.as_str(), Part::Log, &mut places)? > 0 {
             look_at_left(rt, alloc, volume, recovers)?;
         }
     }
@@ -139,7 +172,7 @@ pub fn look_for(rt: &HostRuntime, alloc: Global, name: &str) -> Result<(), Serve
 }
 
 /// Opens the log of a volume.
-fn open_log(rt: &HostRuntime, volume: &Volume, rules: LogRules) -> Result<GrowingLog, FileFault> {
+fn open_log(rt: &HostRuntime, volume: &Volume, rules: LogRules) -> Result<FileLog, FileFault> {
     let mut log = FileLog::open(rt, volume.log.as_str())?;
     if rules.are_cut {
         log = log.emptied_by_cuts();
@@ -147,7 +180,7 @@ fn open_log(rt: &HostRuntime, volume: &Volume, rules: LogRules) -> Result<Growin
     if rules.have_barrier {
         log = log.with_barrier();
     }
-    Ok(GrowingLog::new(log, volume.slot, rt.stderr()))
+    Ok(log)
 }
 
 /// Opens the files of a volume.
@@ -172,21 +205,34 @@ fn open_one(
             blocks: volume.blocks,
             size: volume.size,
         },
-        home: TellingHome::new(home, volume.slot, rt.stderr()),
-        log,
+        home: TellingHome::new(home, voice(rt, alloc, volume, volume.home.as_str())?),
+        log: TellingLog::new(log, voice(rt, alloc, volume, volume.log.as_str())?),
     })
 }
 
-/// Opens the files of volumes, each of which is made where it is missing.
+/// What tells of a file of a volume.
+fn voice(
+    rt: &HostRuntime,
+    alloc: Global,
+    volume: &Volume,
+    name: &str,
+) -> Result<Voice, ServeFault> {
+    let name = String::from_str(alloc, name)?;
+    Ok(Voice::new(volume.slot, name, rt.stderr()))
+}
+
+/// Opens the files of those volumes that are served.
 pub fn open(
     rt: &HostRuntime,
     alloc: Global,
-    volumes: &[Volume],
+    held: &[Held],
     rules: LogRules,
 ) -> Result<Vec<Opened>, ServeFault> {
     let mut opened = Vec::new(alloc);
-    for volume in volumes {
-        opened.push(open_one(rt, alloc, volume, rules)?)?;
+    for one in held {
+        if one.is_served {
+            opened.push(open_one(rt, alloc, &one.volume, rules)?)?;
+        }
     }
     Ok(opened)
 }

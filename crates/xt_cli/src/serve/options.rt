@@ -1,11 +1,12 @@
 //! What the command line says of a service.
 
-use crate::serve::fault::ServeFault;
+use crate::serve::fault::{ServeFault, WrongWord};
 use crate::serve::files::LogRules;
 use clap::builder::ValueParser;
 use clap::{Arg, ArgAction, ArgMatches, Command};
 use std::alloc::{AllocError, Global};
-use xt_volumes::{Volume, VolumeFault, volumes};
+use xt_base::steps::Errno;
+use xt_volumes::{Volume, VolumeFault, volumes, word_fault};
 
 /// What a volume is, with two examples.
 const VOLUME: &str = "A volume, SLOT:LOGBYTES:BLOCKS:HOMEFILE:LOGFILE[:SIZE]: \
@@ -122,25 +123,33 @@ are silent end",
         .arg(volume)
 }
 
-/// A fault of the words that name volumes, with the word that names none.
-fn fault(alloc: Global, words: &[&str], fault: VolumeFault) -> ServeFault {
-    let VolumeFault::Word(number) = fault else {
-        return ServeFault::Volume(fault);
-    };
-    let Some(word) = words.get(number) else {
-        return ServeFault::Volume(fault);
-    };
-    match String::from_str(alloc, word) {
-        Ok(word) => ServeFault::Word(word),
-        Err(refused) => ServeFault::Memory(refused),
+/// The first of some words that names no volume that can be mounted, whatever the others name, and what is wrong with it.
+fn wrong_word(alloc: Global, words: &[&str]) -> Result<Option<WrongWord>, AllocError> {
+    for word in words {
+        if let Some(fault) = word_fault(alloc, word)? {
+            let word = String::from_str(alloc, word)?;
+            return Ok(Some(WrongWord { word, fault }));
+        }
     }
+    Ok(None)
+}
+
+/// A fault of the words that name volumes, with the word that it is of. Sizes are judged once each word spells a volume, so the first word that is
+/// wrong is at fault there.
+fn fault(alloc: Global, words: &[&str], fault: VolumeFault) -> Result<ServeFault, AllocError> {
+    let wrong = match fault {
+        VolumeFault::Word(before) => wrong_word(alloc, words.get(before..).unwrap_or(&[]))?,
+        VolumeFault::Slot(_, Errno::Invalid) => wrong_word(alloc, words)?,
+        VolumeFault::Slot(..) | VolumeFault::Memory(_) => None,
+    };
+    Ok(ServeFault::Volume(fault, wrong))
 }
 
 /// The volumes that words name.
 fn volumes_of(alloc: Global, words: &[&str]) -> Result<Vec<Volume>, ServeFault> {
     match volumes(alloc, words) {
         Ok(volumes) => Ok(volumes),
-        Err(found) => Err(fault(alloc, words, found)),
+        Err(found) => Err(fault(alloc, words, found)?),
     }
 }
 

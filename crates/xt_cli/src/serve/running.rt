@@ -29,6 +29,7 @@ use xt_dev::log::LogDevice;
 use xt_host::host::Host;
 use xt_service::door::Door;
 use xt_service::service::{Service, ServiceEnd};
+use xt_service::tidings::Tidings;
 
 /// After how many entries the book of a slot is folded: few enough that the data which they keep are some megabytes, and so many that
 /// a fold, which copies the mount, is cheap for each.
@@ -60,6 +61,19 @@ fn watch_input<R: Threads>(
 ) -> Result<(), ServeFault> {
     let theirs = Arc::try_clone(door)?;
     match thread::spawn(rt, move || shut_at_end(input, theirs)) {
+        Ok(_thread) => Ok(()),
+        Err(_refused) => Err(ServeFault::Start(Errno::NoMemory)),
+    }
+}
+
+/// Has the tidings of a service told on standard error, by a thread of its own. Where standard error is held up at the end of the service that
+/// thread is left behind.
+fn tell_tidings<R: Threads + Wait + Eprint + Copy + Send + 'static>(
+    rt: R,
+    tidings: &Arc<Tidings, Global>,
+) -> Result<(), ServeFault> {
+    let theirs = Arc::try_clone(tidings)?;
+    match thread::spawn(&rt, move || theirs.tell(&rt)) {
         Ok(_thread) => Ok(()),
         Err(_refused) => Err(ServeFault::Start(Errno::NoMemory)),
     }
@@ -121,7 +135,7 @@ fn report<R: Eprint>(rt: &R, outcome: Result<(), ServeFault>) -> bool {
     }
 }
 
-/// Says that a service listens, serves its sessions, and ends it: what it leaves, why slots were shut, of those that were, and why not all
+/// Says that a service listens, serves its sessions, ends it, and has all told that was to be told meanwhile: what it leaves, why slots were shut, of those that were, and why not all
 /// sessions were served, if they were not.
 fn serve_sessions<
     H: House + Send + Sync + 'static,
@@ -133,6 +147,7 @@ fn serve_sessions<
     service: Service<H>,
     orders: &Orders,
     mounts: &[MountRef],
+    tidings: &Tidings,
     door: &Arc<Door, Global>,
 ) -> (
     ServiceEnd<H>,
@@ -145,9 +160,18 @@ fn serve_sessions<
     let mut service = service;
     let served = println!(rt; "listening {}", orders.port);
     if served.is_ok() {
-        service.serve(rt, alloc, host, &orders.listener, orders.sessions, door);
+        service.serve(
+            rt,
+            alloc,
+            host,
+            &orders.listener,
+            orders.sessions,
+            tidings,
+            door,
+        );
     }
     let end = service.end(&rt, host, mounts);
+    tidings.end(&rt);
     let (end, shut) = with_shut(host, end, mounts);
     (end, shut, served.map_err(ServeFault::Io))
 }
@@ -215,12 +239,16 @@ fn run<
     if let Some(input) = orders.input {
         watch_input(&rt, input, &door)?;
     }
+    let tidings = Arc::new(alloc, Tidings::new())?;
+    tell_tidings(rt, &tidings)?;
     let host = Arc::new(alloc, host)?;
     let service = match Service::start(rt, alloc, &host, seat, passes) {
         Ok(service) => service,
         Err(errno) => return Err(ServeFault::Start(errno)),
     };
-    let (end, shut, served) = serve_sessions(rt, alloc, &host, service, orders, &mounts, &door);
+    let (end, shut, served) = serve_sessions(
+        rt, alloc, &host, service, orders, &mounts, &tidings, &door,
+    );
     let ServiceEnd {
         kept,
         seats,
