@@ -10,8 +10,10 @@
 #include <unistd.h>
 #include "timing.h"
 
-/* TOGETHER: transactions for which there is one checkpoint, with its flushes; they change each block. */
-enum { BLOCKS = 64, TOGETHER = 64, LOG_BYTES = 16777216, CHANGE = 128, WHOLE = 8, UNIT = 40000, CALLS = 1000000 };
+enum { BLOCKS = 64, LOG_BYTES = 16777216, CHANGE = 128, WHOLE = 8, UNIT = 40000, CALLS = 1000000 };
+
+/* Transactions for which there is one checkpoint, with its flushes; 64 change each block. */
+static long together = 64;
 
 static refskold mount;
 static uint8_t *home, *journal;
@@ -76,13 +78,14 @@ static void change(long number, unsigned blocks, uint32_t bytes)
 
 static void time_changes(long count, unsigned blocks, uint32_t bytes)
 {
+    long changed = together * blocks < BLOCKS ? together * blocks : BLOCKS;
     double start = now();
     for (long k = 0; k < count; k++) {
         change(k, blocks, bytes);
-        if ((k + 1) % TOGETHER == 0) checkpoint(), want(flush() == BLOCKS, "blocks that are not home");
+        if ((k + 1) % together == 0) checkpoint(), want(flush() == changed, "blocks that are not home");
     }
     double each = (now() - start) / (double)count;
-    printf("refskold, %u of %u bytes, a checkpoint and its flushes for %d transactions: %.0f transactions/s\n", blocks, bytes, TOGETHER, 1 / each);
+    printf("refskold, %u of %u bytes, a checkpoint and its flushes for %ld transactions: %.0f transactions/s\n", blocks, bytes, together, 1 / each);
 }
 
 static void time_single_calls(void)
@@ -114,7 +117,9 @@ static void time_single_calls(void)
 
 int main(int argc, char **argv)
 {
-    long count = (argc > 1 ? atol(argv[1]) : 300000) / (TOGETHER * WHOLE) * TOGETHER * WHOLE;
+    if (argc > 2) together = atol(argv[2]);
+    want(together >= 1 && together <= 64, "1 to 64 transactions together");
+    long count = (argc > 1 ? atol(argv[1]) : 300000) / (together * WHOLE) * together * WHOLE;
     /* else glibc gives what is free after each flush back to the system, and takes it page by page again */
     mallopt(M_TRIM_THRESHOLD, LOG_BYTES);
     home = mapped("home", BLOCKS * REFSKOLD_BLOCK);

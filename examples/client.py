@@ -15,6 +15,8 @@ import time
 ERRNO = re.compile(r'E[A-Z]+')
 # seconds between two times that the same is asked: twice as long each time, up to the most
 LEAST_PAUSE, MOST_PAUSE = 0.001, 0.1
+# seconds after which it is told that the same is still asked
+TOLD_AFTER = 1
 # the log bytes that a leg is charged which changes one block of 4,096 bytes, the whole of it
 WHOLE = 36 + 16 + 4096
 
@@ -91,13 +93,18 @@ class Client:
         return reply
 
     def again(self, line):
-        """The same, again after a pause while it is EAGAIN or ENOMEM: what others have may be given back."""
+        """The same, again after a pause while it is EAGAIN or ENOMEM: what others have may be given back. After a second that is told
+        once, on standard error: a frozen volume, or a block that is never given back, keeps this here."""
+        start, told = time.monotonic(), False
         for pause in pauses():
             try:
                 return self.request(line)
             except Refused as refused:
                 if refused.errno not in ('EAGAIN', 'ENOMEM'):
                     raise
+                if not told and time.monotonic() > start + TOLD_AFTER:
+                    told = True
+                    print(f'client: {line!r} is answered {refused.errno}, and asked again', file=sys.stderr, flush=True)
             time.sleep(pause)
 
     def begin(self, mount, unit, count=1, rolls=False):
@@ -120,12 +127,20 @@ class Client:
 
 
 def main(words):
-    if len(words) < 2:
-        sys.exit(__doc__)
-    with Client(int(words[0])) as client:
-        for line in words[1:]:
-            print(client.ask(line))
+    if len(words) < 2 or not words[0].isdecimal():
+        print(__doc__.strip(), file=sys.stdout if '--help' in words else sys.stderr)
+        return 0 if '--help' in words else 2
+    try:
+        with Client(int(words[0])) as client:
+            for line in words[1:]:
+                print(client.ask(line), flush=True)
+    except (OSError, OverflowError) as fault:
+        print(f'client: {fault}', file=sys.stderr)
+        return 1
+    except KeyboardInterrupt:
+        return 130
+    return 0
 
 
 if __name__ == '__main__':
-    main(sys.argv[1:])
+    sys.exit(main(sys.argv[1:]))
