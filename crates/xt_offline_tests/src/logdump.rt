@@ -3,7 +3,7 @@
 use std::alloc::Global;
 use std::process::Abort;
 use std::test::Fail;
-use xt_offline::dump;
+use xt_offline::{LOG_BYTES, Source, dump};
 
 /// `XCP1`, then the number 1 and one item: its block is 7.
 const FRONT: &[u8] = b"XCP1\0\0\0\0\0\0\0\x01\0\0\0\x01\0\0\0\0\0\0\0\x07";
@@ -34,7 +34,11 @@ fn prints(rt: &impl Abort, alloc: Global, log: &[u8], want: &str, status: u8) {
     let mut reader = log;
     let mut out = Vec::new(alloc);
     let mut err = Vec::new(alloc);
-    let ended = dump(alloc, &mut reader, &mut out, &mut err);
+    let source = Source {
+        name: "log",
+        limit: LOG_BYTES,
+    };
+    let ended = dump(alloc, source, &mut reader, &mut out, &mut err);
     assert_eq!(rt; out.as_slice(), want.as_bytes());
     assert!(rt; ended == status && err.is_empty());
 }
