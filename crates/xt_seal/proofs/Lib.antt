@@ -1,0 +1,2 @@
+pub mod SealLemmas
+pub mod HeaderLemmas

@@ -1,0 +1,4 @@
+pub mod Sums
+pub mod Seal
+pub mod Headers
+pub mod Reading
