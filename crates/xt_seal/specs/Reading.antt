@@ -1,6 +1,7 @@
 -- What is judged of bytes behind a seal.
-use Rattle.std.specs.Prelude.{List, [], drop, length, take, ℕ, ◌+◌, ◌++◌, ◌≡◌, ◌≤◌}
-use Rattle.xt_ckpt.specs.Grammar.{entries}
+use Rattle.std.specs.Prelude.{List, Option, [], drop, length, take, ℕ, ◌+◌, ◌++◌, ◌<◌, ◌≡◌, ◌≤◌, ◌⊎◌}
+use Rattle.xt_ckpt.specs.Fields.{IsUnfinished}
+use Rattle.xt_ckpt.specs.Grammar.{Entry, IsTextIn, entries}
 use Rattle.xt_ckpt.specs.declared.reading.Checkpoint.{Checkpoint}
 use Rattle.xt_seal.specs.Seal.{BeginsNoSealed, BeginsSealed, Seals, text_seal}
 use Rattle.xt_seal.specs.Sums.{Sums}
@@ -27,3 +28,19 @@ IsSameUnless other old new = new ≡ old
 abbrev pub HasRoom : List ℕ → Sealed → Type 0
 HasRoom input (Sealed.Text c len) = len + 8 ≤ length input
 HasRoom input other = Unit {0}
+
+-- a text, and less than a seal behind it
+pub record EndsInSeal (input : List ℕ) : Type 0 where
+  pub size : Option ℕ
+  pub text : List ℕ
+  pub rest : List ℕ
+  pub number : ℕ
+  pub items : List Entry
+  pub is : IsTextIn size text number items
+  pub parts : input ≡ text ++ rest
+  pub short : length rest < 8
+
+-- where more is wanted, the input ends within a text, whose fields so far obey their rules, or within the seal that is due behind one
+abbrev pub IsStillDue : List ℕ → Sealed → Type 0
+IsStillDue input Sealed.More = IsUnfinished input ⊎ EndsInSeal input
+IsStillDue input other = Unit {0}

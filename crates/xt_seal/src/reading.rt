@@ -2,7 +2,7 @@
 
 ghost use Rattle.std.specs.Prelude.{◌≡◌, ◌+◌, ◌++◌, ◌≤◌, [], List, IfOk, drop, false, length, take, true, ℕ};
 ghost use Rattle.xt_ckpt.specs.Reading.{Begins};
-ghost use Rattle.xt_seal.specs.Reading.{HasRoom, IsSameUnless, IsSealedNext};
+ghost use Rattle.xt_seal.specs.Reading.{HasRoom, IsSameUnless, IsSealedNext, IsStillDue};
 ghost use Rattle.xt_seal.specs.Seal.{Seals, text_seal};
 
 use crate::sealer::{SEAL_BYTES, Sealer};
@@ -29,6 +29,7 @@ pub fn judge_sealed(
     ensures judged { IfOk result (λ found. (head before : List ℕ) → Seals sealer.old head before [] → IsSealedNext head before input.now found sealer.new) }
     ensures same { IfOk result (λ found. IsSameUnless found sealer.old sealer.new) }
     ensures room { IfOk result (HasRoom input.now) }
+    ensures more { IfOk result (IsStillDue input.now) }
 {
     match read_checkpoint_into(rooms, input) {
         Ok(Some((checkpoint, len))) => Ok(judge_text(rooms, sealer, input, checkpoint, len)),
@@ -53,6 +54,7 @@ fn judge_text(
     ensures judged { (head before : List ℕ) → Seals sealer.old head before [] → IsSealedNext head before input.now result sealer.new }
     ensures same { IsSameUnless result sealer.old sealer.new }
     ensures room { HasRoom input.now result }
+    ensures more { IsStillDue input.now result }
 {
     if is_sealed(sealer, input, len) {
         return Sealed::Text(checkpoint, len);

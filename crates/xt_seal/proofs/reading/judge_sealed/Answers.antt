@@ -1,4 +1,4 @@
-use Rattle.std.proofs.Common.{refl, subst}
+use Rattle.std.proofs.Common.{inl, refl, subst}
 use Rattle.std.specs.Prelude.{IsNone}
 use Rattle.xt_ckpt.specs.Fields.{IsUnfinished}
 use Rattle.xt_ckpt.specs.Reading.{BeginsNoText, IsWhy}
@@ -12,3 +12,6 @@ returns-in-Ok-None-clause-judged c = λ head before seals.
 pub returns-in-Err-Ckpt-clause-judged : goal.returns-in-Err-Ckpt-clause-judged
 returns-in-Err-Ckpt-clause-judged c = λ head before seals more.
     broken_on head before c.args.input.now more c.in-Err-Ckpt.fault.at (subst (IsWhy c.args.input.now) c.in-Err-Ckpt.field-0-is c.in-Err-Ckpt.ensures.fault)
+
+pub returns-in-Ok-None-clause-more : goal.returns-in-Ok-None-clause-more
+returns-in-Ok-None-clause-more c = inl (subst (λ o. IsNone o → BeginsNoText c.args.input.now × IsUnfinished c.args.input.now) c.in-Ok-None.field-0-is c.in-Ok-None.ensures.none refl).1
