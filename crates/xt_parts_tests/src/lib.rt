@@ -14,6 +14,8 @@ mod lines;
 #[cfg(test)]
 mod replies;
 #[cfg(test)]
+mod seals;
+#[cfg(test)]
 mod space;
 #[cfg(test)]
 mod texts;

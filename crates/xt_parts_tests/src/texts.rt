@@ -51,7 +51,7 @@ fn digit(c: u8) -> Option<u8>
 
 /// Bytes that are spelled in pairs of hexadecimal digits: parts between dots, of which each
 /// may be one byte and how often it stands, as `00*7`.
-fn bytes_of(alloc: Global, spelled: &str) -> Result<Vec<u8>, Fail> {
+pub fn bytes_of(alloc: Global, spelled: &str) -> Result<Vec<u8>, Fail> {
     let mut bytes = Vec::new(alloc);
     for part in spelled.split('.') {
         let (digits, count) = match part.split_once('*') {
