@@ -1,5 +1,5 @@
 -- A window over a reader: what is ahead of it in a log.
-use Rattle.std.proofs.Common.{◌≡◌, ◌∙◌, ◌+◌, ◌<◌, ◌≤◌, ◌++◌, ℕ, List, Option, Some, None, append-nil, append_assoc, ap, arith, drop, false, length, refl, subst, sym, take, true≢false}
+use Rattle.std.proofs.Common.{Bool, [], inl, inr, true, ◌⊎◌, ◌≡◌, ◌∙◌, ◌+◌, ◌<◌, ◌≤◌, ◌++◌, ℕ, List, Option, Some, None, append-nil, append_assoc, ap, arith, drop, false, length, refl, subst, sym, take, true≢false}
 use Rattle.std.proofs.lemmas.List.{drop-append-le, length-append, take-append-le}
 use Rattle.std.specs.Io.KnownBytes.{Keeps}
 use Rattle.std.specs.Prelude.{IfSome}
@@ -7,7 +7,11 @@ use Rattle.xt_ckpt.specs.Fields.{IsFaultAt, IsUnfinished}
 use Rattle.xt_ckpt.specs.Grammar.{IsTextIn, entries}
 use Rattle.xt_ckpt.specs.Reading.{Begins}
 use Rattle.xt_ckpt.specs.declared.reading.Checkpoint.{Checkpoint}
-use Rattle.xt_window.specs.Window.{ahead, is_too_long, unread, Held, IsAhead, IsNext, IsOfGrammar, IsRefilled, IsTied, IsWhy}
+use Rattle.xt_seal.specs.Reading.{IsFoundSealed, IsSealedNext}
+use Rattle.xt_seal.specs.declared.reading.Sealed.{Sealed}
+use Rattle.xt_seal.specs.Seal.{BeginsNoSealed, Seals, text_seal}
+use Rattle.xt_seal.specs.Sums.{Sums}
+use Rattle.xt_window.specs.Window.{ahead, is_too_long, unread, Held, IsAhead, IsAheadSealed, IsNext, IsNextSealed, IsOfGrammar, IsRefilled, IsTakenSealed, IsTied, IsWhy}
 use Rattle.xt_window.specs.declared.fault.LogFault.{LogFault}
 use Rattle.xt_window.specs.declared.fault.LogFault.TheVariants.{Io, Memory, TooLong}
 use Rattle.xt_window.specs.declared.window.Found.{Found}
@@ -131,3 +135,76 @@ why_ahead old mid (Some xs) None fault read why = absurd read.same
 why_ahead old mid (Some xs) (Some ys) fault read why =
     subst (λ m. IsWhy m (old.offset + length (old.bytes ++ xs)) fault) read.limit
     (subst (λ n. IsWhy mid.limit n fault) (ap (λ n. n + length (mid.bytes ++ ys)) read.place ∙ ap (λ t. old.offset + length t) read.same) why)
+
+-- ---- a sealed log
+-- a text and its seal that begin a front begin the whole
+sealed_of_front : (head before front more : List ℕ) (c : Checkpoint) (len : ℕ) (sums : Sums) → IsFoundSealed head before front c len sums → IsFoundSealed head before (front ++ more) c len sums
+sealed_of_front head before front more c len sums found =
+    let room = found.room in
+    let same : take len (front ++ more) ≡ take len front = take-append-le len front more (omega (arith, room)) in
+    let left : List ℕ = drop (len + 8) front in
+    let seal : List ℕ = text_seal head before (take len front) in
+    let parts : front ++ more ≡ take len front ++ (seal ++ drop (len + 8) (front ++ more)) =
+    ap (λ t. t ++ more) found.begins.parts ∙ append_assoc (take len front) (seal ++ left) more
+    ∙ ap (λ t. take len front ++ t) (append_assoc seal left more ∙ ap (λ t. seal ++ t) (sym (drop-append-le (len + 8) front more room))) in
+    record {
+      room = omega (arith, room, length-append front more);
+      begins = record {
+        is = subst (λ t. IsTextIn c.size t c.no (entries c.items.items)) (sym same) found.begins.is;
+        parts = parts ∙ ap (λ t. t ++ (text_seal head before t ++ drop (len + 8) (front ++ more))) (sym same);
+      };
+      next = subst (λ t. Seals sums head (text_seal head before t) []) (sym same) found.next;
+    }
+
+sealed_known : (head before : List ℕ) (old : Held) (log left : List ℕ) (mid new : Held) (found : Option Checkpoint) (sums : Sums) → mid.offset ≡ old.offset → mid.bytes ++ left ≡ log → IsTied mid (Some left)
+    → IsNextSealed head before mid (Some found) sums new → IsAheadSealed head before old log found sums new (Some left)
+sealed_known head before old log left mid new (Some c) sums place joined tied (len, (found, is)) = (
+  len,
+  (
+    subst (λ t. IsFoundSealed head before t c len sums) joined (sealed_of_front head before mid.bytes left c len sums found),
+    (
+      ap (λ h. h.offset) is ∙ ap (λ n. n + (len + 8)) place,
+      ap (λ h. Some (h.bytes ++ left)) is ∙ ap Some (sym (drop-append-le (len + 8) mid.bytes left found.room) ∙ ap (drop (len + 8)) joined),
+    ),
+  ),
+)
+sealed_known head before old log left mid new None sums place joined tied (inl whatever, is) =
+    (subst (BeginsNoSealed head before) joined (whatever left), (ap (λ h. h.offset) is ∙ place, ap (λ h. Some (h.bytes ++ left)) is ∙ ap Some joined))
+sealed_known head before old log left mid new None sums place joined tied (inr (over, none), is) = (
+  subst (BeginsNoSealed head before) (sym (append-nil mid.bytes) ∙ (ap (λ t. mid.bytes ++ t) (sym (tied over)) ∙ joined)) none,
+  (ap (λ h. h.offset) is ∙ place, ap (λ h. Some (h.bytes ++ left)) is ∙ ap Some joined),
+)
+
+-- what comes next of a sealed log, where it is known
+pub is_ahead_sealed : (head before : List ℕ) (old mid new : Held) (had left : Option (List ℕ)) (found : Option Checkpoint) (sums : Sums) → IsRefilled old mid had left
+    → IsNextSealed head before mid (Some found) sums new → IfSome (ahead old had) (λ log. IsAheadSealed head before old log found sums new left)
+is_ahead_sealed head before old mid new None left found sums read next = tt
+is_ahead_sealed head before old mid new (Some xs) None found sums read next = absurd read.same
+is_ahead_sealed head before old mid new (Some xs) (Some ys) found sums read next = sealed_known head before old (old.bytes ++ xs) ys mid new found sums read.place read.same read.tied next
+
+-- the same for each way in which it is known
+pub for_all_sums : (old new : Held) (had left : Option (List ℕ)) (found : Option Checkpoint) (start sums : Sums)
+    → ((head before : List ℕ) → Seals start head before [] → IfSome (ahead old had) (λ log. IsAheadSealed head before old log found sums new left))
+    → IfSome (ahead old had) (λ log. (head before : List ℕ) → Seals start head before [] → IsAheadSealed head before old log found sums new left)
+for_all_sums old new None left found start sums each = tt
+for_all_sums old new (Some xs) left found start sums each = λ head before seals. each head before seals
+
+-- a text that was taken is of the grammar, and summed up
+pub taken_sealed : (mid new : Held) (found : Option Checkpoint) (start sums : Sums) → ((head before : List ℕ) → Seals start head before [] → IsNextSealed head before mid (Some found) sums new)
+    → IfSome found (λ c. (head before : List ℕ) → Seals start head before [] → IsTakenSealed head before c sums)
+taken_sealed mid new None start sums each = tt
+taken_sealed mid new (Some c) start sums each = λ head before seals. let next = each head before seals in (take next.0 mid.bytes, (next.1.0.begins.is, next.1.0.next))
+
+-- no text with its seal, whatever follows
+pub nothing_next : (head before input bytes : List ℕ) (found : Sealed) (new : Sums) (ended : Bool) → found ≡ Sealed.Nothing → input ≡ bytes → IsSealedNext head before input found new
+    → ((more : List ℕ) → BeginsNoSealed head before (bytes ++ more)) ⊎ ((ended ≡ true) × BeginsNoSealed head before bytes)
+nothing_next head before input bytes found new ended is same next =
+    let none : (more : List ℕ) → BeginsNoSealed head before (input ++ more) = subst (λ f. IsSealedNext head before input f new) is next in
+    inl (λ more. subst (λ t. BeginsNoSealed head before (t ++ more)) same (none more))
+
+-- none yet, and the log ends
+pub more_next : (head before input bytes : List ℕ) (found : Sealed) (new : Sums) (ended : Bool) → found ≡ Sealed.More → input ≡ bytes → ended ≡ true → IsSealedNext head before input found new
+    → ((more : List ℕ) → BeginsNoSealed head before (bytes ++ more)) ⊎ ((ended ≡ true) × BeginsNoSealed head before bytes)
+more_next head before input bytes found new ended is same over next =
+    let none : BeginsNoSealed head before input = subst (λ f. IsSealedNext head before input f new) is next in
+    inr (over, subst (BeginsNoSealed head before) same none)

@@ -1,13 +1,15 @@
 //! A log read piece by piece, of which only what is not yet taken as texts is held.
 
-ghost use Rattle.std.specs.Prelude.{◌+◌, ◌<◌, ◌≤◌, ◌≡◌, IfErr, IfOk, IfSome, OnOk, false, length, ◌^◌};
-ghost use Rattle.xt_window.specs.Window.{ahead, is_too_long, taken, unread, with_more, IsAhead, IsNext, IsOfGrammar, IsRefilled, IsTied, IsWhy};
+ghost use Rattle.std.specs.Prelude.{◌+◌, ◌<◌, ◌≤◌, ◌≡◌, [], IfErr, IfOk, IfSome, IsNone, List, OnOk, false, length, ◌^◌, ℕ};
+ghost use Rattle.xt_seal.specs.Seal.{Seals};
+ghost use Rattle.xt_window.specs.Window.{ahead, is_too_long, taken, unread, with_more, IsAhead, IsAheadSealed, IsNext, IsNextSealed, IsOfGrammar, IsRefilled, IsSameUnlessTaken, IsTakenSealed, IsTied, IsWhy};
 
 use crate::fault::LogFault;
 use std::alloc::{AllocError, Global};
 use std::io::{self, ErrorKind, Read};
 use std::marker::Model;
 use xt_ckpt::{Checkpoint, ReadFault, Rooms, read_checkpoint_into};
+use xt_seal::{SEAL_BYTES, Sealed, Sealer, judge_sealed};
 
 /// How many bytes are read at once.
 pub const PIECE_BYTES: usize = 65_536;
@@ -147,6 +149,79 @@ impl Window {
             Ok(None) => Ok(None),
             Err(ReadFault::Ckpt(fault)) => Ok(Some(Found::Fault(self.offset() + fault.at as u64))),
             Err(ReadFault::Memory) => Err(LogFault::Memory(AllocError)),
+        }
+    }
+
+    /// Takes the text that comes next in a sealed log, behind what was summed up, and its seal, and sums them up. None where the log ends: no text with
+    /// its seal stands there, whatever else does, and nothing is taken. Bytes are read by way of `piece`; a reader that is interrupted is asked again.
+    /// The items of a text stand in `rooms`, as far as there are some.
+    #[tactic(auto, using(crate::proofs::WindowLemmas::refilled_more, crate::proofs::WindowLemmas::refilled_none, crate::proofs::WindowLemmas::why_ahead, crate::proofs::WindowLemmas::why_other))]
+    pub fn next_sealed<R: Read>(
+        &mut self,
+        reader: &mut R,
+        piece: &mut [u8],
+        rooms: &mut Rooms,
+        sealer: &mut Sealer,
+    ) -> Result<Option<Checkpoint>, LogFault>
+        requires room { 0 < length piece.old }
+        requires ended { IsTied self.old (R.remaining reader.old) }
+        ensures grammar { IfOk result (λ found. IfSome found (λ checkpoint. (head before : List ℕ) → Seals sealer.old head before [] → IsTakenSealed head before checkpoint sealer.new)) }
+        ensures found { IfOk result (λ found. IfSome (ahead self.old (R.remaining reader.old)) (λ log. (head before : List ℕ) → Seals sealer.old head before [] → IsAheadSealed head before self.old log found sealer.new self.new (R.remaining reader.new))) }
+        ensures none { IfOk result (λ found. IsNone found → sealer.new ≡ sealer.old) }
+        ensures tied { OnOk result (IsTied self.new (R.remaining reader.new)) }
+        ensures limit { OnOk result (self.new.limit ≡ self.old.limit) }
+        ensures fault { IfErr result (λ fault. IfSome (ahead self.old (R.remaining reader.old)) (λ log. IsWhy self.old.limit (self.old.offset + length log) fault)) }
+    {
+        for _ in 0..u64::MAX {
+            if let Some(found) = self.judge_next(rooms, sealer)? {
+                return Ok(found);
+            }
+            self.refill(reader, piece)?;
+        }
+        Err(LogFault::Io(io::Error::from(ErrorKind::TimedOut)))
+    }
+
+    /// Judges what is held of a sealed log, once no text and seal have more bytes or the log ends with them; None where more is to be read.
+    fn judge_next(
+        &mut self,
+        rooms: &mut Rooms,
+        sealer: &mut Sealer,
+    ) -> Result<Option<Option<Checkpoint>>, LogFault>
+        ensures judged { IfOk result (λ found. (head before : List ℕ) → Seals sealer.old head before [] → IsNextSealed head before self.old found sealer.new self.new) }
+        ensures same { IfOk result (λ found. IsSameUnlessTaken found sealer.old sealer.new) }
+        ensures more { IfOk result (λ found. IsNone found → (self.old.is_ended ≡ false) × (self.new ≡ self.old)) }
+        ensures ended { OnOk result (self.new.is_ended ≡ self.old.is_ended) }
+        ensures limit { OnOk result (self.new.limit ≡ self.old.limit) }
+        ensures fault { IfErr result (λ fault. is_too_long fault ≡ false) }
+    {
+        if self.bytes.len() - self.taken < TEXT_BYTES + SEAL_BYTES && !self.is_ended {
+            return Ok(None);
+        }
+        self.judge_next_held(rooms, sealer)
+    }
+
+    /// Judges what is held of a sealed log, however little it is.
+    fn judge_next_held(
+        &mut self,
+        rooms: &mut Rooms,
+        sealer: &mut Sealer,
+    ) -> Result<Option<Option<Checkpoint>>, LogFault>
+        ensures judged { IfOk result (λ found. (head before : List ℕ) → Seals sealer.old head before [] → IsNextSealed head before self.old found sealer.new self.new) }
+        ensures same { IfOk result (λ found. IsSameUnlessTaken found sealer.old sealer.new) }
+        ensures more { IfOk result (λ found. IsNone found → (self.old.is_ended ≡ false) × (self.new ≡ self.old)) }
+        ensures ended { OnOk result (self.new.is_ended ≡ self.old.is_ended) }
+        ensures limit { OnOk result (self.new.limit ≡ self.old.limit) }
+        ensures fault { IfErr result (λ fault. is_too_long fault ≡ false) }
+    {
+        match judge_sealed(rooms, sealer, self.held()) {
+            Ok(Sealed::Text(checkpoint, len)) => {
+                self.take(len + SEAL_BYTES);
+                Ok(Some(Some(checkpoint)))
+            }
+            Ok(Sealed::Nothing) => Ok(Some(None)),
+            Ok(Sealed::More) if self.is_ended() => Ok(Some(None)),
+            Ok(Sealed::More) => Ok(None),
+            Err(AllocError) => Err(LogFault::Memory(AllocError)),
         }
     }
 
