@@ -6,7 +6,7 @@ use Rattle.xt_base.proofs.BusyLemmas.{few_committed}
 use Rattle.xt_base.proofs.KeyLemmas.{is_in_filter}
 use Rattle.xt_base.proofs.MapLemmas.{some_none, some_same}
 use Rattle.xt_base.proofs.SoundSteps.{is_none_not, passes_first, second_false}
-use Rattle.xt_base.specs.Alone.{after, alone, call, called, goes_on, is_okay, mount_refusals, mounted_new, on_mount, shown, turn, unless_refused, with_mount}
+use Rattle.xt_base.specs.Alone.{alone, call, called, goes_on, is_okay, mount_refusals, mounted_new, on_mount, shown, turn, unless_refused, with_mount}
 use Rattle.xt_base.specs.Calls.{Outcome, alone_with, first_of, gives, is_unmount}
 use Rattle.xt_base.specs.Jobs.{begin, begun, end, end_of, end_offers, failed, finished, fits_pieces, fits_plan, flight_pieces, flown, flush, flush_offers, flush_plan, flushed, is_begun, is_ckpt, is_ok, is_outstanding, is_owed_as, is_serial, is_waiting, job, landed, next_pieces, posted, unflushed, waits_on}
 use Rattle.xt_base.specs.Form.{Form, form_of, is_size}
@@ -27,11 +27,10 @@ use Rattle.xt_base.specs.declared.steps.Reply.TheVariants.{Failed, Landed, Nothi
 use Rattle.xt_base.specs.declared.steps.Request.{Request}
 use Rattle.xt_base.specs.declared.steps.Step.{Step}
 use Rattle.xt_base.specs.declared.steps.Step.TheVariants.{Begin, Call, End, Flush, Mount, Peek, Post, Show, Take}
-use Rattle.xt_recovery.proofs.LifeLemmas.{MountKeepsInvariant, SlotKeepsInvariant, keeps_cut_slot, size_said, step_carried}
+use Rattle.xt_recovery.proofs.LifeLemmas.{MountKeepsInvariant, SlotKeepsInvariant, size_said}
 use Rattle.xt_recovery.proofs.FitCalls.{fits_call}
 use Rattle.xt_recovery.proofs.Formed.{FitsTexts, IsFlightOfText, IsVolumeForm, IsWellFormed}
 use Rattle.xt_recovery.proofs.Invariant.{KeepsInvariant}
-use Rattle.xt_recovery.proofs.SuitedSteps.{AreSuitedSteps}
 use Rattle.xt_recovery.specs.DiskSteps.{IsLogCut, MakesForm, disks_after}
 use Rattle.xt_recovery.specs.Disks.{Disks, content_of, disks_at_begin, disks_at_end, disks_begun, disks_failed, disks_landed, flight_of, flight_text, new_disks}
 use Rattle.xt_recovery.specs.Log.{CheckpointText, Image, text_bytes, texts_from}
@@ -217,7 +216,7 @@ step_proper (Flush worker name answers) s d home fits form c h =
 step_proper (Show slot) s d home fits form c h = formed_shown s.mounted d s refl h
 step_proper (Peek slot) s d home fits form c h = h
 
--- ---- a cut, and steps one after another
+-- ---- a cut
 each_if : (form : Form) (t : Bool) (w : CheckpointText) (rest : List CheckpointText) → IsWellFormed form w → Each (IsWellFormed form) rest → Each (IsWellFormed form) (if t then w ∷ rest else [])
 each_if form true w rest h all = (h, all)
 each_if form false w rest h all = tt
@@ -233,13 +232,3 @@ formed_cut (Some m) d e s is (inr cut) h =
     let c : Disks = record d { log = texts_from cut.0 d.log } in
     let p : FitsTexts d m = subst (MountFitsTexts d) is h.mount in
     subst (λ (y : Disks). SlotIsWellFormed y s) (sym cut.3) (record { mount = subst (MountFitsTexts c) (sym is) (fits_disks d c m m refl refl refl refl refl refl p); texts = each_from d.form cut.0 d.log h.texts })
-
--- both, over steps one after another
-pub moves_proper : (xs : List Step) (s : Lone) (d e : Disks) → AreSuitedSteps xs s d e → SlotKeepsInvariant d s → SlotIsWellFormed d s → SlotIsWellFormed e (after xs s)
-moves_proper [] s d e moves c h = subst (λ (x : Disks). SlotIsWellFormed x s) (sym moves) h
-moves_proper (x ∷ xs) s d e moves c h =
-    let move = moves.2 in
-    let carried : SlotKeepsInvariant moves.0 (alone x s).slot = subst (λ (y : Disks). SlotKeepsInvariant y (alone x s).slot) (sym move.after) (step_carried x s d moves.0.home move.fits move.form move.told move.home c) in
-    let proper : SlotIsWellFormed moves.0 (alone x s).slot = subst (λ (y : Disks). SlotIsWellFormed y (alone x s).slot) (sym move.after) (step_proper x s d moves.0.home move.fits move.form c h) in
-    moves_proper xs (alone x s).slot moves.1 e moves.4 (keeps_cut_slot (alone x s).slot.mounted moves.0 moves.1 (alone x s).slot refl moves.3 carried)
-    (formed_cut (alone x s).slot.mounted moves.0 moves.1 (alone x s).slot refl moves.3 proper)

@@ -14,6 +14,7 @@ pub mod HomeLemmas
 pub mod InvariantJobs
 pub mod MatchLegs
 pub mod MatchCalls
+pub mod CallLemmas
 pub mod CrashTheorems
 pub mod EditLemmas
 pub mod ConsistentLemmas

@@ -6,7 +6,7 @@ use Rattle.xt_base.proofs.FormLemmas.{form_is}
 use Rattle.xt_base.proofs.SoundCalls.{sound_call}
 use Rattle.xt_base.proofs.SoundJobs.{sound_flush}
 use Rattle.xt_base.proofs.SoundSteps.{is_none_not, passes_first, second_false, sound_begin, sound_end, sound_mount, sound_posted}
-use Rattle.xt_base.specs.Alone.{Turn, after, alone, call, called, goes_on, is_okay, mount_refusals, mounted_new, on_mount, shown, turn, unless_refused, with_mount}
+use Rattle.xt_base.specs.Alone.{Turn, alone, call, called, goes_on, is_okay, mount_refusals, mounted_new, on_mount, shown, turn, unless_refused, with_mount}
 use Rattle.xt_base.specs.Calls.{Outcome, alone_with, first_of, gives, is_unmount}
 use Rattle.xt_base.specs.Form.{Form, form_of, is_size}
 use Rattle.xt_base.specs.Jobs.{begin, begun, by_number, eligible, end, end_of, end_offers, failed, finished, fits_pieces, fits_plan, flight_pieces, flush, flush_offers, flush_plan, flushed, is_begun, is_ckpt, is_ok, is_outstanding, is_owed, is_owed_as, is_waiting, landed, next_pieces, posted, unflushed}
@@ -33,7 +33,6 @@ use Rattle.xt_recovery.proofs.LogLemmas.{recovers}
 use Rattle.xt_recovery.proofs.HomeLemmas.{flushed_home}
 use Rattle.xt_recovery.proofs.LiveCalls.{keeps_call, lives_jobs}
 use Rattle.xt_recovery.proofs.Invariant.{KeepsInvariant}
-use Rattle.xt_recovery.proofs.SuitedSteps.{AreSuitedSteps}
 use Rattle.xt_recovery.specs.DiskSteps.{Agree, IsHomeAfterStep, IsLogCut, MakesForm, ReadsHome, StepReadsHome, disks_after}
 use Rattle.xt_recovery.specs.Disks.{Disks, disks_at_begin, disks_at_end, disks_begun, disks_failed, disks_landed, flight_of, new_disks}
 use Rattle.xt_recovery.specs.Flush.{IsHomeAfter}
@@ -256,14 +255,6 @@ keeps_cut_slot (Some m) d e s is (inr cut) h =
     let holds : IsSound m × KeepsInvariant d m × IsSized m = subst (MountKeepsInvariant d) is h.mount in
     let c = keeps_cut cut.0 d m cut.2 holds.1 in
     subst (λ (y : Disks). SlotKeepsInvariant y s) (sym cut.3) (record { mount = subst (MountKeepsInvariant (record d { log = texts_from cut.0 d.log })) (sym is) (holds.0, c, holds.2); stands = holds_stands (record d { log = texts_from cut.0 d.log }) m c })
-
--- steps one after another
-pub moves_carried : (xs : List Step) (s : Lone) (d e : Disks) → AreSuitedSteps xs s d e → SlotKeepsInvariant d s → SlotKeepsInvariant e (after xs s)
-moves_carried [] s d e moves h = subst (λ (x : Disks). SlotKeepsInvariant x s) (sym moves) h
-moves_carried (x ∷ xs) s d e moves h =
-    let move = moves.2 in
-    let stepped : SlotKeepsInvariant moves.0 (alone x s).slot = subst (λ (y : Disks). SlotKeepsInvariant y (alone x s).slot) (sym move.after) (step_carried x s d moves.0.home move.fits move.form move.told move.home h) in
-    moves_carried xs (alone x s).slot moves.1 e moves.4 (keeps_cut_slot (alone x s).slot.mounted moves.0 moves.1 (alone x s).slot refl moves.3 stepped)
 
 -- a slot that was never mounted
 pub keeps_empty : (form : Form) (home : Image) → SlotKeepsInvariant (new_disks form home) empty
