@@ -1,7 +1,7 @@
 -- The log may lose the texts below the least number on the active list, and where that list is empty all of them.
-use Rattle.std.proofs.Common.{◌≡◌, ◌∙◌, ◌≤◌, ◌∷◌, List, Some, [], ap, arith, false, inl, inr, refl, subst, sym, true, ℕ, ◌+◌}
+use Rattle.std.proofs.Common.{◌≡◌, ◌∙◌, ◌≤◌, ◌∷◌, List, [], ap, arith, false, inl, inr, refl, subst, sym, ℕ, ◌+◌}
 use Rattle.std.proofs.lemmas.Bool.{cases_Bool, false_from_ne_true, false≢true, leb-true, lt-leb}
-use Rattle.std.specs.Prelude.{is_none, is_some, nat_le}
+use Rattle.std.specs.Prelude.{is_some, nat_le}
 use Rattle.xt_base.proofs.MapLemmas.{some_none}
 use Rattle.xt_base.specs.Maps.{at}
 use Rattle.xt_base.proofs.RisingLemmas.{each_map}
@@ -13,7 +13,7 @@ use Rattle.xt_recovery.proofs.Invariant.{KeepsInvariant}
 use Rattle.xt_recovery.proofs.Matching.{IsIdleLanded, MatchesDisks}
 use Rattle.xt_recovery.proofs.Recoverable.{IsRecoverable}
 use Rattle.xt_recovery.specs.Crash.{LogMayGo}
-use Rattle.xt_recovery.specs.DiskSteps.{Agree, IsLogCut, IsTail}
+use Rattle.xt_recovery.specs.DiskSteps.{Agree, IsTail}
 use Rattle.xt_recovery.specs.Disks.{Disks}
 use Rattle.xt_recovery.specs.Log.{CheckpointText, HasChunk, Image, is_cancel, logged_chunk, texts_from}
 use Rattle.xt_base.specs.Form.{Form}
@@ -97,4 +97,4 @@ any_tail n l empty b m there = some_none m (n ≤ m) (sym there ∙ ap (at b) em
 
 -- where no block waits to be written home, all texts may go
 pub log_may_go : LogMayGo
-log_may_go m d live empty = inr (past d.log, live, any_tail (past d.log) m.items empty, ap (λ ws. record d { log = ws }) (sym (none_past d.log)))
+log_may_go m d may empty = inr (past d.log, may, any_tail (past d.log) m.items empty, ap (λ ws. record d { log = ws }) (sym (none_past d.log)))

@@ -1,6 +1,6 @@
 -- The text of a checkpoint that failed may stand whole behind the others; recovery then applies it, whole.
 use Rattle.std.proofs.Common.{◌≡◌, ◌∙◌, ◌∷◌, Bool, List, None, Option, Some, [], ap, arith, false, inl, inr, length, refl, subst, sym, true, ℕ}
-use Rattle.std.proofs.lemmas.Bool.{and_parts, false≢true}
+use Rattle.std.proofs.lemmas.Bool.{and_parts, false≢true, or_cases}
 use Rattle.std.specs.Prelude.{if◌then◌else◌, is_none, is_some, map, not, take, ◌&&◌, ◌<◌, ◌==◌}
 use Rattle.xt_base.proofs.CarryLemmas.{call_keeps_jobs, shut_stays}
 use Rattle.xt_base.proofs.MapLemmas.{some_none, some_same}
@@ -35,8 +35,8 @@ use Rattle.xt_recovery.proofs.RecoverLemmas.{recoverable_landed}
 use Rattle.xt_recovery.proofs.Formed.{IsWellFormed}
 use Rattle.xt_recovery.proofs.Invariant.{KeepsInvariant}
 use Rattle.xt_recovery.proofs.Recoverable.{AgreesUnlogged, IsRecoverable}
-use Rattle.xt_recovery.proofs.SuitedSteps.{AreSuitedSteps}
-use Rattle.xt_recovery.specs.DiskSteps.{IsHomeAfterStep, IsLogCut, disks_after}
+use Rattle.xt_recovery.proofs.SuitedSteps.{AreSuitedSteps, IsSuitedStep}
+use Rattle.xt_recovery.specs.DiskSteps.{IsHomeAfterStep, IsLogCut, disks_after, may_cut}
 use Rattle.xt_recovery.specs.Disks.{Disks, disks_at_begin, disks_at_end, disks_begun, disks_failed, disks_landed, flight_of, flight_text, landed_image, new_disks}
 use Rattle.xt_recovery.specs.Flush.{IsHomeAfter}
 use Rattle.xt_recovery.specs.Log.{CheckpointText, Image, is_cancel}
@@ -201,28 +201,49 @@ step_left (Flush worker name answers) s d home fits went c p h =
 step_left (Show slot) s d home fits went c p h = left_shown s.mounted d s h
 step_left (Peek slot) s d home fits went c p h = h
 
--- a cut of a live mount's log: then no failed text is left
+-- a mount whose log may lose texts is not over
+not_over : (m : State) → may_cut m ≡ true → IsOver (Some m) → ⊥
+not_over m may over =
+    elim (or_cases (is_none m.shut) (is_some m.items.flight) may) [
+      | inl live ↦ is_none_some m.shut live over.0
+      | inr flies ↦ false≢true (sym (ap is_some over.1) ∙ flies)
+    ]
+
+-- where the log was cut, no failed text is left
 left_cut : (o : Option State) (d e : Disks) → IsLogCut o d e → HasFailedText d o → HasFailedText e o
 left_cut None d e same h = subst (λ (y : Disks). HasFailedText y None) (sym same) h
 left_cut (Some m) d e (inl same) h = subst (λ (y : Disks). HasFailedText y (Some m)) (sym same) h
-left_cut (Some m) d e (inr cut) h = λ w is. let over = (h w (sym (ap (λ (y : Disks). y.failed) cut.3) ∙ is)).over in absurd (is_none_some m.shut cut.1 over.0)
+left_cut (Some m) d e (inr cut) h = λ w is. absurd (not_over m cut.1 (h w (sym (ap (λ (y : Disks). y.failed) cut.3) ∙ is)).over)
 
--- all three, over steps one after another
+-- ---- all three, over steps one after another
+-- what holds of a slot with its disks after each step
 pub record SlotInvariant (d : Disks) (s : Lone) : Type 0 where
   pub carried : SlotKeepsInvariant d s
   pub proper : SlotIsWellFormed d s
   pub failed : HasFailedText d s.mounted
 
-pub moves_stand : (xs : List Step) (s : Lone) (d e : Disks) → AreSuitedSteps xs s d e → SlotInvariant d s → SlotInvariant e (after xs s)
-moves_stand [] s d e moves h = subst (λ (x : Disks). SlotInvariant x s) (sym moves) h
-moves_stand (x ∷ xs) s d e moves h =
-    let move = moves.2 in
-    let next : Lone = (alone x s).slot in
-    let carried = subst (λ (y : Disks). SlotKeepsInvariant y next) (sym move.after) (step_carried x s d moves.0.home move.fits move.form move.told move.home h.carried) in
-    let proper = subst (λ (y : Disks). SlotIsWellFormed y next) (sym move.after) (step_proper x s d moves.0.home move.fits move.form h.carried h.proper) in
-    let left : HasFailedText moves.0 next.mounted = subst (λ (y : Disks). HasFailedText y next.mounted) (sym move.after) (step_left x s d moves.0.home move.fits move.home h.carried h.proper h.failed) in
-    moves_stand xs next moves.1 e moves.4
-    (record { carried = keeps_cut_slot next.mounted moves.0 moves.1 next refl moves.3 carried; proper = formed_cut next.mounted moves.0 moves.1 next refl moves.3 proper; failed = left_cut next.mounted moves.0 moves.1 moves.3 left })
+-- it holds at the start
+pub empty_stands : (form : Form) (start : Image) → SlotInvariant (new_disks form start) empty
+empty_stands form start = record { carried = keeps_empty form start; proper = record { mount = tt; texts = tt }; failed = λ w is. some_none w (IsFailedText (new_disks form start) None w) (sym is) }
 
+-- a step keeps it
+pub step_stands : (x : Step) (s : Lone) (d e : Disks) → IsSuitedStep x s d e → SlotInvariant d s → SlotInvariant e (alone x s).slot
+step_stands x s d e move h =
+    let next : Lone = (alone x s).slot in
+    record {
+      carried = subst (λ (y : Disks). SlotKeepsInvariant y next) (sym move.after) (step_carried x s d e.home move.fits move.form move.told move.home h.carried);
+      proper = subst (λ (y : Disks). SlotIsWellFormed y next) (sym move.after) (step_proper x s d e.home move.fits move.form h.carried h.proper);
+      failed = subst (λ (y : Disks). HasFailedText y next.mounted) (sym move.after) (step_left x s d e.home move.fits move.home h.carried h.proper h.failed);
+    }
+
+-- and so does a cut of the log
+pub cut_stands : (s : Lone) (d e : Disks) → IsLogCut s.mounted d e → SlotInvariant d s → SlotInvariant e s
+cut_stands s d e cut h = record { carried = keeps_cut_slot s.mounted d e s refl cut h.carried; proper = formed_cut s.mounted d e s refl cut h.proper; failed = left_cut s.mounted d e cut h.failed }
+
+moves_stand : (xs : List Step) (s : Lone) (d e : Disks) → AreSuitedSteps xs s d e → SlotInvariant d s → SlotInvariant e (after xs s)
+moves_stand [] s d e moves h = subst (λ (x : Disks). SlotInvariant x s) (sym moves) h
+moves_stand (x ∷ xs) s d e moves h = moves_stand xs (alone x s).slot moves.1 e moves.4 (cut_stands (alone x s).slot moves.0 moves.1 moves.3 (step_stands x s d moves.0 moves.2 h))
+
+-- it holds after any steps
 pub stands_from : (xs : List Step) (form : Form) (start : Image) (d : Disks) → AreSuitedSteps xs empty (new_disks form start) d → SlotInvariant d (after xs empty)
-stands_from xs form start d moves = moves_stand xs empty (new_disks form start) d moves (record { carried = keeps_empty form start; proper = record { mount = tt; texts = tt }; failed = λ w is. some_none w (IsFailedText (new_disks form start) None w) (sym is) })
+stands_from xs form start d moves = moves_stand xs empty (new_disks form start) d moves (empty_stands form start)

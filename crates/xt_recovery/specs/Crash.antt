@@ -1,5 +1,5 @@
 -- What a crash may leave of the disks of a slot, and what recovery is to make of it.
-use Rattle.std.specs.Prelude.{List, None, Option, Some, [], is_none, length, true, ℕ, ◌≡◌, ◌⊎◌}
+use Rattle.std.specs.Prelude.{List, None, Option, Some, [], length, true, ℕ, ◌≡◌, ◌⊎◌}
 use Rattle.xt_base.specs.Alone.{after}
 use Rattle.xt_base.specs.Form.{Form, form_of, is_size}
 use Rattle.xt_base.specs.Jobs.{flush_plan}
@@ -7,7 +7,7 @@ use Rattle.xt_base.specs.Maps.{has}
 use Rattle.xt_base.specs.State.{Flight, Lone, State, empty}
 use Rattle.xt_base.specs.Text.{chunk}
 use Rattle.xt_base.specs.declared.steps.Step.{Step}
-use Rattle.xt_recovery.specs.DiskSteps.{Agree, AllSuit, AreDiskSteps, IsLogAfterCrash, IsLogCut}
+use Rattle.xt_recovery.specs.DiskSteps.{Agree, AllSuit, AreDiskSteps, IsLogAfterCrash, IsLogCut, may_cut}
 use Rattle.xt_recovery.specs.Disks.{Disks, content_of, flight_of, flight_text, landed_image, new_disks}
 use Rattle.xt_recovery.specs.Log.{CheckpointText, Image, recovered_image}
 
@@ -38,9 +38,9 @@ abbrev pub HomeHasLanded : Type 0
 HomeHasLanded = (steps : List Step) → AllSuit steps empty → (form : Form) (start : Image) (d : Disks) → AreDiskSteps steps empty (new_disks form start) d
     → (m : State) → (after steps empty).mounted ≡ Some m → m.items.ail ≡ [] → Agree d.form.size d.home d.landed
 
--- between two steps the log of a live mount of which no block waits to be written home may lose all its texts
+-- between two steps the log of a mount that is live, or has a checkpoint in flight, may lose all its texts where no block waits to be written home
 abbrev pub LogMayGo : Type 0
-LogMayGo = (m : State) (d : Disks) → is_none m.shut ≡ true → m.items.ail ≡ [] → IsLogCut (Some m) d (record d { log = [] })
+LogMayGo = (m : State) (d : Disks) → may_cut m ≡ true → m.items.ail ≡ [] → IsLogCut (Some m) d (record d { log = [] })
 
 -- over any home image of a form that a mount may have there are steps, which suit, after which one checkpoint has landed
 abbrev pub Lands : Type 0

@@ -1,5 +1,5 @@
 -- What the steps of a slot make of its disks.
-use Rattle.std.specs.Prelude.{List, None, Option, Some, [], if◌then◌else◌, is_none, length, true, ℕ, ◌∷◌, ◌≡◌, ◌≤◌, ◌⊎◌}
+use Rattle.std.specs.Prelude.{Bool, List, None, Option, Some, [], if◌then◌else◌, is_none, is_some, length, true, ℕ, ◌||◌, ◌∷◌, ◌≡◌, ◌≤◌, ◌⊎◌}
 use Rattle.xt_base.specs.Alone.{alone, mount_refusals}
 use Rattle.xt_base.specs.Calls.{first_of, read_asks}
 use Rattle.xt_base.specs.Form.{Form, form_of}
@@ -64,10 +64,14 @@ disks_after other s home d = d
 abbrev pub IsTail : ℕ → Items → Type 0
 IsTail n l = (b m : ℕ) → at b l.ail ≡ Some m → n ≤ m
 
--- the log stays as it is, or, of a live mount, loses the texts that are older than its active list
+-- whether the log of a mount may lose texts: the mount is live, or a checkpoint of it is on its way to the log, though it was shut meanwhile
+abbrev pub may_cut : State → Bool
+may_cut m = is_none m.shut || is_some m.items.flight
+
+-- the log stays as it is, or, of such a mount, loses the texts that are older than its active list
 abbrev pub IsLogCut : Option State → Disks → Disks → Type 0
 IsLogCut None d e = e ≡ d
-IsLogCut (Some m) d e = (e ≡ d) ⊎ ((n : ℕ) × (is_none m.shut ≡ true) × IsTail n m.items × (e ≡ record d { log = texts_from n d.log }))
+IsLogCut (Some m) d e = (e ≡ d) ⊎ ((n : ℕ) × (may_cut m ≡ true) × IsTail n m.items × (e ≡ record d { log = texts_from n d.log }))
 
 -- ---- steps
 -- one step takes the disks from d to e

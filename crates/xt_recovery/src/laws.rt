@@ -13,7 +13,8 @@ pub fn home_has_landed()
     ensures { HomeHasLanded }
 {}
 
-/// Where no block waits to be written home, the log of a live mount may be emptied between two steps: `recovers` covers that.
+/// Where no block waits to be written home, the log of a mount that is live, or has a checkpoint in flight, may be emptied between two steps: `recovers`
+/// covers that.
 pub fn log_may_go()
     ensures { LogMayGo }
 {}
