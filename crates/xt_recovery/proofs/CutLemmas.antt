@@ -1,5 +1,5 @@
 -- The log may lose the texts below the least number on the active list, and where that list is empty all of them.
-use Rattle.std.proofs.Common.{◌≡◌, ◌∙◌, ◌≤◌, ◌∷◌, List, [], ap, arith, false, inl, inr, refl, subst, sym, ℕ, ◌+◌}
+use Rattle.std.proofs.Common.{◌≡◌, ◌∙◌, ◌≤◌, ◌∷◌, List, [], ap, arith, inl, inr, refl, subst, sym, ℕ, ◌+◌}
 use Rattle.std.proofs.lemmas.Bool.{cases_Bool, false_from_ne_true, false≢true, leb-true, lt-leb}
 use Rattle.std.specs.Prelude.{is_some, nat_le}
 use Rattle.xt_base.proofs.MapLemmas.{some_none}
@@ -8,7 +8,7 @@ use Rattle.xt_base.proofs.RisingLemmas.{each_map}
 use Rattle.xt_base.specs.Space.{flight_items}
 use Rattle.xt_base.specs.State.{Items, State}
 use Rattle.xt_recovery.proofs.MatchLemmas.{coming_home}
-use Rattle.xt_recovery.proofs.LogLemmas.{from_all, from_first, second_if}
+use Rattle.xt_recovery.proofs.LogLemmas.{from_all, from_first, from_less}
 use Rattle.xt_recovery.proofs.Invariant.{KeepsInvariant}
 use Rattle.xt_recovery.proofs.Matching.{IsIdleLanded, MatchesDisks}
 use Rattle.xt_recovery.proofs.Recoverable.{IsRecoverable}
@@ -17,9 +17,6 @@ use Rattle.xt_recovery.specs.DiskSteps.{Agree, IsTail}
 use Rattle.xt_recovery.specs.Disks.{Disks}
 use Rattle.xt_recovery.specs.Log.{CheckpointText, HasChunk, Image, is_cancel, logged_chunk, texts_from}
 use Rattle.xt_base.specs.Form.{Form}
-
-from_less : (n : ℕ) (w : CheckpointText) (ws : List CheckpointText) → nat_le n w.number ≡ false → texts_from n (w ∷ ws) ≡ []
-from_less n w ws h = second_if (nat_le n w.number) (w ∷ texts_from n ws) [] h
 
 -- what a cut leaves from a number on is what the log had from it on
 pub from_from : (n m : ℕ) (log : List CheckpointText) → n ≤ m → texts_from m (texts_from n log) ≡ texts_from m log

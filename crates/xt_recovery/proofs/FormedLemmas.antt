@@ -1,7 +1,7 @@
 -- Each step of a slot keeps what makes the texts on its log texts of the grammar.
 use Rattle.std.proofs.Common.{◌≡◌, ◌∙◌, ◌^◌, ◌∷◌, Bool, List, None, Option, Some, [], ap, arith, false, inl, inr, length, refl, subst, sym, true, ℕ}
 use Rattle.std.proofs.lemmas.Bool.{and_parts, false≢true, ltb-false, not-true, or_parts}
-use Rattle.std.specs.Prelude.{flat_map, if◌then◌else◌, is_none, is_some, nat_le, nat_lt, not, ◌&&◌, ◌<◌, ◌==◌, ◌||◌}
+use Rattle.std.specs.Prelude.{flat_map, if◌then◌else◌, is_none, is_some, nat_lt, not, ◌&&◌, ◌<◌, ◌==◌, ◌||◌}
 use Rattle.xt_base.proofs.BusyLemmas.{few_committed}
 use Rattle.xt_base.proofs.KeyLemmas.{is_in_filter}
 use Rattle.xt_base.proofs.MapLemmas.{some_none, some_same}
@@ -31,6 +31,7 @@ use Rattle.xt_recovery.proofs.LifeLemmas.{MountKeepsInvariant, SlotKeepsInvarian
 use Rattle.xt_recovery.proofs.FitCalls.{fits_call}
 use Rattle.xt_recovery.proofs.Formed.{FitsTexts, IsFlightOfText, IsVolumeForm, IsWellFormed}
 use Rattle.xt_recovery.proofs.Invariant.{KeepsInvariant}
+use Rattle.xt_recovery.proofs.LogLemmas.{each_from}
 use Rattle.xt_recovery.specs.DiskSteps.{IsLogCut, MakesForm, disks_after}
 use Rattle.xt_recovery.specs.Disks.{Disks, content_of, disks_at_begin, disks_at_end, disks_begun, disks_failed, disks_landed, flight_of, flight_text, new_disks}
 use Rattle.xt_recovery.specs.Log.{CheckpointText, Image, text_bytes, texts_from}
@@ -216,19 +217,11 @@ step_proper (Flush worker name answers) s d home fits form c h =
 step_proper (Show slot) s d home fits form c h = formed_shown s.mounted d s refl h
 step_proper (Peek slot) s d home fits form c h = h
 
--- ---- a cut
-each_if : (form : Form) (t : Bool) (w : CheckpointText) (rest : List CheckpointText) → IsWellFormed form w → Each (IsWellFormed form) rest → Each (IsWellFormed form) (if t then w ∷ rest else [])
-each_if form true w rest h all = (h, all)
-each_if form false w rest h all = tt
-
-each_from : (form : Form) (n : ℕ) (log : List CheckpointText) → Each (IsWellFormed form) log → Each (IsWellFormed form) (texts_from n log)
-each_from form n [] all = tt
-each_from form n (w ∷ ws) all = each_if form (nat_le n w.number) w (texts_from n ws) all.0 (each_from form n ws all.1)
-
+-- what a cut leaves of a log are texts of the grammar
 pub formed_cut : (o : Option State) (d e : Disks) (s : Lone) → s.mounted ≡ o → IsLogCut o d e → SlotIsWellFormed d s → SlotIsWellFormed e s
 formed_cut None d e s is same h = subst (λ (y : Disks). SlotIsWellFormed y s) (sym same) h
 formed_cut (Some m) d e s is (inl same) h = subst (λ (y : Disks). SlotIsWellFormed y s) (sym same) h
 formed_cut (Some m) d e s is (inr cut) h =
     let c : Disks = record d { log = texts_from cut.0 d.log } in
     let p : FitsTexts d m = subst (MountFitsTexts d) is h.mount in
-    subst (λ (y : Disks). SlotIsWellFormed y s) (sym cut.3) (record { mount = subst (MountFitsTexts c) (sym is) (fits_disks d c m m refl refl refl refl refl refl p); texts = each_from d.form cut.0 d.log h.texts })
+    subst (λ (y : Disks). SlotIsWellFormed y s) (sym cut.3) (record { mount = subst (MountFitsTexts c) (sym is) (fits_disks d c m m refl refl refl refl refl refl p); texts = each_from (IsWellFormed d.form) cut.0 d.log h.texts })

@@ -31,3 +31,6 @@ pub mod FailedLemmas
 pub mod LifeTheorem
 pub mod HostLemmas
 pub mod Witness
+pub mod LogMatching
+pub mod CountLemmas
+pub mod LogSteps

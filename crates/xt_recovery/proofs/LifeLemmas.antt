@@ -45,7 +45,7 @@ use Rattle.xt_base.proofs.SizedSteps.{sized_begin, sized_call, sized_end, sized_
 keeps_jobs : (d : Disks) (s : State) (j : _) → KeepsInvariant d s → KeepsInvariant d (record s { jobs = j })
 keeps_jobs d s j c = record { stands = c.stands; form = c.form; live = lives_jobs d s j s.frozen c.live }
 
-none_flight : (o : Option Flight) → is_none o ≡ true → o ≡ None
+pub none_flight : (o : Option Flight) → is_none o ≡ true → o ≡ None
 none_flight None h = refl
 none_flight (Some f) h = absurd (false≢true h)
 

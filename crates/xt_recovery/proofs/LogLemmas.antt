@@ -4,6 +4,7 @@ use Rattle.std.proofs.lemmas.Bool.{cases_Bool, leb-true, le-leb}
 use Rattle.std.specs.Prelude.{if◌then◌else◌, is_some, nat_le, unwrap_or}
 use Rattle.xt_base.proofs.MapLemmas.{some_none}
 use Rattle.xt_base.specs.Maps.{has}
+use Rattle.xt_base.specs.Sound.{Each}
 use Rattle.xt_base.specs.State.{Items}
 use Rattle.xt_base.specs.Text.{chunk}
 use Rattle.xt_recovery.proofs.Recoverable.{IsRecoverable}
@@ -64,6 +65,19 @@ found_under w xs ys b k v more h =
 pub from_first : (n : ℕ) (w : CheckpointText) (ws : List CheckpointText) → n ≤ w.number → texts_from n (w ∷ ws) ≡ w ∷ texts_from n ws
 from_first n w ws h = first_if (nat_le n w.number) (w ∷ texts_from n ws) [] (le-leb n w.number h)
 
+-- from a number on that the newest text has not reached there are none
+pub from_less : (n : ℕ) (w : CheckpointText) (ws : List CheckpointText) → nat_le n w.number ≡ false → texts_from n (w ∷ ws) ≡ []
+from_less n w ws h = second_if (nat_le n w.number) (w ∷ texts_from n ws) [] h
+
+-- a fact of each text is one of each from a number on
+pub each_from : (P : CheckpointText → Type 0) (n : ℕ) (log : List CheckpointText) → Each P log → Each P (texts_from n log)
+each_from P n [] all = tt
+each_from P n (w ∷ ws) all = each_if (nat_le n w.number) (each_from P n ws all.1)
+  where
+    each_if : (stays : Bool) → Each P (texts_from n ws) → Each P (if stays then w ∷ texts_from n ws else [])
+    each_if true rest = (all.0, rest)
+    each_if false rest = tt
+
 -- what the texts from a number on say, those from a lower one on say
 pub from_wider : (n m : ℕ) (log : List CheckpointText) (b k : ℕ) (v : List ℕ) → n ≤ m → logged_chunk (texts_from m log) b k ≡ Some v → logged_chunk (texts_from n log) b k ≡ Some v
 from_wider n m [] b k v le h = h
@@ -73,7 +87,7 @@ from_wider n m (w ∷ ws) b k v le h =
           let high : m ≤ w.number = leb-true m w.number stands in
           ap (λ xs. logged_chunk xs b k) (from_first n w ws (omega (arith, le, high)))
           ∙ found_under w (texts_from m ws) (texts_from n ws) b k v (from_wider n m ws b k v le) (sym (ap (λ xs. logged_chunk xs b k) (from_first m w ws high)) ∙ h)
-      | inr other ↦ some_none v (logged_chunk (texts_from n (w ∷ ws)) b k ≡ Some v) (sym h ∙ ap (λ xs. logged_chunk xs b k) (second_if (nat_le m w.number) (w ∷ texts_from m ws) [] other))
+      | inr other ↦ some_none v (logged_chunk (texts_from n (w ∷ ws)) b k ≡ Some v) (sym h ∙ ap (λ xs. logged_chunk xs b k) (from_less m w ws other))
     ]
 
 -- and so do all texts
@@ -83,7 +97,7 @@ from_all m (w ∷ ws) b k v h =
     elim (cases_Bool (nat_le m w.number)) [
       | inl stands ↦
           found_under w (texts_from m ws) ws b k v (from_all m ws b k v) (sym (ap (λ xs. logged_chunk xs b k) (from_first m w ws (leb-true m w.number stands))) ∙ h)
-      | inr other ↦ some_none v (logged_chunk (w ∷ ws) b k ≡ Some v) (sym h ∙ ap (λ xs. logged_chunk xs b k) (second_if (nat_le m w.number) (w ∷ texts_from m ws) [] other))
+      | inr other ↦ some_none v (logged_chunk (w ∷ ws) b k ≡ Some v) (sym h ∙ ap (λ xs. logged_chunk xs b k) (from_less m w ws other))
     ]
 
 -- ---- recovery

@@ -32,6 +32,11 @@ module _ {A : Type 0} where
   each_append P [] ys all more = more
   each_append P (x ∷ xs) ys all more = (all.0, each_append P xs ys all.1 more)
 
+  -- what holds of each of two lists together holds of each of either
+  pub each_parts : (P : A → Type 0) (xs ys : List A) → Each P (xs ++ ys) → Each P xs × Each P ys
+  each_parts P [] ys all = (tt, all)
+  each_parts P (x ∷ xs) ys all = let rest = each_parts P xs ys all.1 in ((all.0, rest.0), rest.1)
+
   pub each_take : (P : A → Type 0) (n : ℕ) (xs : List A) → Each P xs → Each P (take n xs)
   each_take P zero xs all = tt
   each_take P (suc n) [] all = tt

@@ -4,7 +4,7 @@ use Rattle.xt_base.specs.Alone.{alone}
 use Rattle.xt_base.specs.Order.{suits}
 use Rattle.xt_base.specs.State.{Lone}
 use Rattle.xt_base.specs.declared.steps.Step.{Step}
-use Rattle.xt_recovery.specs.DiskSteps.{AllSuit, AreDiskSteps, IsHomeAfterStep, IsLogCut, MakesForm, StepReadsHome, disks_after}
+use Rattle.xt_recovery.specs.DiskSteps.{AllSuit, AreDiskSteps, IsDiskStep, IsHomeAfterStep, IsLogCut, MakesForm, StepReadsHome, disks_after}
 use Rattle.xt_recovery.specs.Disks.{Disks}
 
 -- one step that suits a slot, with its disks before and after
@@ -20,9 +20,11 @@ abbrev pub AreSuitedSteps : List Step → Lone → Disks → Disks → Type 0
 AreSuitedSteps [] s d e = e ≡ d
 AreSuitedSteps (x ∷ xs) s d e = (mid cut : Disks) × IsSuitedStep x s d mid × IsLogCut (alone x s).slot.mounted mid cut × AreSuitedSteps xs (alone x s).slot cut e
 
--- steps that suit a slot, and what the disks do at them
+-- a step that suits a slot, and what the disks do at it
+pub suited_step : (x : Step) (s : Lone) (d e : Disks) → suits x s ≡ true → IsDiskStep x s d e → IsSuitedStep x s d e
+suited_step x s d e fits one = record { fits = fits; form = one.form; told = one.told; home = one.home; after = one.after }
+
+-- the same of steps one after another
 pub suited_steps : (xs : List Step) (s : Lone) (d e : Disks) → AllSuit xs s → AreDiskSteps xs s d e → AreSuitedSteps xs s d e
 suited_steps [] s d e suit served = served
-suited_steps (x ∷ xs) s d e suit served =
-    let one = served.2 in
-    (served.0, served.1, record { fits = suit.0; form = one.form; told = one.told; home = one.home; after = one.after }, served.3, suited_steps xs (alone x s).slot served.1 e suit.1 served.4)
+suited_steps (x ∷ xs) s d e suit served = (served.0, served.1, suited_step x s d served.0 suit.0 served.2, served.3, suited_steps xs (alone x s).slot served.1 e suit.1 served.4)

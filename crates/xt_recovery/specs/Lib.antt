@@ -3,3 +3,4 @@ pub mod Disks
 pub mod Flush
 pub mod DiskSteps
 pub mod Crash
+pub mod Numbers

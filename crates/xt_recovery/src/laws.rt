@@ -1,6 +1,7 @@
 //! Laws of recovery. Each function does nothing: its clause is the law.
 
 ghost use Rattle.xt_recovery.specs.Crash.{HomeHasLanded, Lands, LogMayGo, Recovers};
+ghost use Rattle.xt_recovery.specs.Numbers.{NumbersFall, NumbersFollow};
 
 /// After any steps of a mount, whatever its form, at every crash, the texts of its log laid over its home image give what was committed at the
 /// begin of the last landed checkpoint, or of the one in flight, or of one whose end failed: all of it or none.
@@ -17,6 +18,16 @@ pub fn home_has_landed()
 /// covers that.
 pub fn log_may_go()
     ensures { LogMayGo }
+{}
+
+/// At every crash each text of the log has a greater number than those before it.
+pub fn numbers_fall()
+    ensures { NumbersFall }
+{}
+
+/// And each has the number next to that of the one before it: between two texts of a log none is missing.
+pub fn numbers_follow()
+    ensures { NumbersFollow }
 {}
 
 /// The premises can be met: there are steps after which a checkpoint has landed.
