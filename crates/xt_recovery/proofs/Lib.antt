@@ -31,6 +31,8 @@ pub mod FailedLemmas
 pub mod LifeTheorem
 pub mod HostLemmas
 pub mod Witness
+pub mod LengthLemmas
 pub mod LogMatching
 pub mod CountLemmas
 pub mod LogSteps
+pub mod TurnLemmas

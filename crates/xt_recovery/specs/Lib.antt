@@ -4,3 +4,4 @@ pub mod Flush
 pub mod DiskSteps
 pub mod Crash
 pub mod Numbers
+pub mod Turns

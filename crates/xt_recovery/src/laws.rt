@@ -2,6 +2,7 @@
 
 ghost use Rattle.xt_recovery.specs.Crash.{HomeHasLanded, Lands, LogMayGo, Recovers};
 ghost use Rattle.xt_recovery.specs.Numbers.{NumbersFall, NumbersFollow};
+ghost use Rattle.xt_recovery.specs.Turns.{RecoversByTurns, TurnsAreCuts};
 
 /// After any steps of a mount, whatever its form, at every crash, the texts of its log laid over its home image give what was committed at the
 /// begin of the last landed checkpoint, or of the one in flight, or of one whose end failed: all of it or none.
@@ -18,6 +19,17 @@ pub fn home_has_landed()
 /// covers that.
 pub fn log_may_go()
     ensures { LogMayGo }
+{}
+
+/// Once the newer texts of a log, the one in flight among them, have more bytes than the log of the mount, no block of the active list needs an older one. So
+/// a log that drops those then is cut, which `recovers` covers. Two files that are written by turns do just that, whatever the load.
+pub fn turns_are_cuts()
+    ensures { TurnsAreCuts }
+{}
+
+/// The promise of `recovers`, of a log that is written by turns.
+pub fn recovers_by_turns()
+    ensures { RecoversByTurns }
 {}
 
 /// At every crash each text of the log has a greater number than those before it.
