@@ -9,10 +9,9 @@ use Rattle.xt_base.specs.Sound.{RisesFrom}
 use Rattle.xt_base.specs.Text.{chunk, chunk_bytes, content_at, zeros}
 use Rattle.xt_dev.specs.declared.call.HomeCall.{HomeCall}
 use Rattle.xt_recover.proofs.LaidLemmas.{IsGoodSet, IsWellLaid, chunk_laid, gathered_kept, gathered_says, good_of}
-use Rattle.xt_recover.proofs.ReadLemmas.{length_bytes}
 use Rattle.xt_recover.proofs.SaidLemmas.{chunk_found}
 use Rattle.xt_recover.specs.Gathering.{IsGathered, IsWhyLog}
-use Rattle.xt_recover.specs.Overlaid.{Overlaid, nothing, overlaid_chunk}
+use Rattle.xt_recover.specs.Overlaid.{Overlaid, overlaid_chunk}
 use Rattle.xt_recover.specs.Recovering.{AreAnswered, CanBreakOff, HaveBytes, HaveNoSync, IsCounted, IsTorn, IsWhy, MayLeave, TellsBrokenOff, TellsRecovered, with_block}
 use Rattle.xt_recover.specs.declared.gather.LogCounts.{LogCounts}
 use Rattle.xt_recover.specs.declared.gather.LogFault.{LogFault}
@@ -21,6 +20,7 @@ use Rattle.xt_recover.specs.declared.writing.WriteFault.{WriteFault}
 use Rattle.xt_recover.specs.Writing.{AreWritten, GoOn, TellsStopped, TellsWritten, chunks_at}
 use Rattle.xt_recover.specs.Chunks.{merged}
 use Rattle.xt_recover.proofs.PlaceLemmas.{merged_is}
+use Rattle.xt_recovery.proofs.LengthLemmas.{length_bytes}
 use Rattle.xt_recovery.proofs.LogLemmas.{first_if, second_if}
 use Rattle.xt_recover.proofs.AgainLemmas.{replayed_again}
 use Rattle.xt_recover.proofs.WriteLemmas.{go_written}

@@ -11,8 +11,9 @@ use Rattle.xt_base.proofs.ChunkCounts.{has-chunks_where}
 use Rattle.xt_base.proofs.KeyLemmas.{each_has}
 use Rattle.xt_base.specs.Sized.{IsWithin}
 use Rattle.xt_base.specs.Text.{chunk, chunk_bytes}
-use Rattle.xt_recover.proofs.SaidLemmas.{drop_front, length_chunk, take_front}
+use Rattle.xt_recover.proofs.SaidLemmas.{drop_front, take_front}
 use Rattle.xt_recover.specs.Chunks.{merged, with_chunks}
+use Rattle.xt_recovery.proofs.LengthLemmas.{length_chunk}
 
 -- one chunk more, behind the others
 laid_more : (cs : List ℕ) (k : ℕ) (bytes old : List ℕ) → with_chunks (cs ++ k ∷ []) bytes old ≡ overwritten (128 * k) (take 128 (drop (128 * length cs) bytes)) (with_chunks cs bytes old)

@@ -1,6 +1,6 @@
 -- What is read of the bytes of a log.
 use mathlib.Core.List.{reverse_aux}
-use Rattle.std.proofs.Common.{append_assoc, ◌≡◌, ◌∙◌, ◌*◌, ◌^◌, ◌+◌, ◌≤◌, ◌∷◌, ◌++◌, List, Option, Some, [], ap, arith, inl, inr, length, map, refl, subst, suc, sym, true, ℕ}
+use Rattle.std.proofs.Common.{append_assoc, ◌≡◌, ◌∙◌, ◌^◌, ◌+◌, ◌≤◌, ◌∷◌, ◌++◌, List, Option, Some, [], ap, arith, inl, inr, length, map, refl, subst, suc, sym, true, ℕ}
 use Rattle.std.proofs.lemmas.Bool.{cases_Bool, leb-false, leb-true}
 use Rattle.std.proofs.lemmas.List.{drop-append-le, length-append, length-map, take-append-drop, take-append-le}
 use Rattle.std.proofs.lemmas.List.Concat.{flat_map-cons}
@@ -15,7 +15,7 @@ use Rattle.xt_base.specs.Maps.{at}
 use Rattle.xt_base.specs.Form.{Form, form_of, is_size}
 use Rattle.xt_base.specs.Sized.{IsWithin}
 use Rattle.xt_base.specs.Sound.{Each, RisesFrom}
-use Rattle.xt_base.specs.Text.{chunk, chunk_bytes, item_text}
+use Rattle.xt_base.specs.Text.{chunk_bytes, item_text}
 use Rattle.xt_ckpt.proofs.Lengths.{text_parts}
 use Rattle.xt_ckpt.proofs.OneText.{same_text, unfinished_none}
 use Rattle.xt_ckpt.proofs.TextReads.{text_reads}
@@ -24,24 +24,16 @@ use Rattle.xt_ckpt.specs.Fields.{Draft, IsUnfinished, Reads, opening, width}
 use Rattle.xt_ckpt.specs.Grammar.{AreItems, Entry, IsItem, IsTextIn, end_of, head_of, map_limit}
 use Rattle.xt_ckpt.specs.Laws.{whole}
 use Rattle.xt_recover.proofs.TextEntries.{entries_of}
-use Rattle.xt_recover.proofs.SaidLemmas.{length_chunk}
 use Rattle.xt_recover.proofs.SizeLemmas.{map_fits, said_back}
 use Rattle.xt_recover.specs.Promise.{bytes_of_log}
 use Rattle.xt_recover.specs.Reading.{ReadsAs}
 use Rattle.xt_recover.specs.Sizes.{block_size, said_size}
+use Rattle.xt_recovery.proofs.LengthLemmas.{length_bytes}
 use Rattle.xt_recovery.proofs.MatchLemmas.{each_entry}
 use Rattle.xt_recovery.proofs.Formed.{FitsFields, IsChunkSet, IsVolumeForm, IsWellFormed}
 use Rattle.xt_recovery.specs.Log.{CheckpointText, text_bytes}
 
 -- ---- a text is one of the grammar
--- the bytes of the chunks of a set
-pub length_bytes : (size : ℕ) (content set : List ℕ) → length content ≡ size → IsWithin size set → length (chunk_bytes content set) ≡ 128 * length set
-length_bytes size content [] whole_ within = refl
-length_bytes size content (c ∷ cs) whole_ within =
-    let one = length_chunk size content c whole_ within.0 in
-    let rest = length_bytes size content cs whole_ within.1 in
-    ap length (flat_map-cons (chunk content) c cs) ∙ length-append (chunk content c) (chunk_bytes content cs) ∙ omega (arith, one, rest)
-
 -- an item that fits its fields
 fit_item : (size : Option ℕ) (contents : ℕ → List ℕ) (b : ℕ) (set : List ℕ) → FitsFields b set → IsWithin (block_size size) set → length (contents b) ≡ block_size size
     → IsItem size (item_text b set (chunk_bytes (contents b) set)) (record { block = b; chunks = set; content = chunk_bytes (contents b) set })

@@ -1,7 +1,7 @@
 -- What is read of the texts says what the texts say.
-use Rattle.std.proofs.Common.{◌≡◌, ◌∙◌, ◌*◌, ◌+◌, ◌≤◌, ◌∷◌, ◌++◌, Bool, List, None, Some, [], ap, arith, false, inl, inr, length, map, refl, sym, true, ℕ}
+use Rattle.std.proofs.Common.{◌≡◌, ◌∙◌, ◌∷◌, ◌++◌, Bool, List, None, Some, [], ap, arith, false, inl, inr, length, map, refl, sym, true, ℕ}
 use Rattle.std.proofs.lemmas.Bool.{cases_Bool, cases_eq, eq-eqb, ne_eqb, or_left}
-use Rattle.std.proofs.lemmas.List.{length-drop, length-take-le, take-append-le}
+use Rattle.std.proofs.lemmas.List.{take-append-le}
 use Rattle.std.proofs.lemmas.List.Concat.{flat_map-cons}
 use Rattle.std.proofs.Math.Seq.{drop-append_seam}
 use Rattle.std.specs.Prelude.{drop, if◌then◌else◌, is_some, take, unwrap_or, ◌==◌, ◌&&◌, ◌||◌}
@@ -15,15 +15,12 @@ use Rattle.xt_base.specs.Text.{chunk, chunk_bytes}
 use Rattle.xt_ckpt.specs.Grammar.{Entry}
 use Rattle.xt_recover.proofs.TextEntries.{entries_of}
 use Rattle.xt_recover.specs.Replay.{chunk_in, chunk_in_texts, chunk_over, entry_of, or_older}
+use Rattle.xt_recovery.proofs.LengthLemmas.{length_chunk}
 use Rattle.xt_recovery.proofs.MatchLegs.{cases_option}
 use Rattle.xt_recovery.proofs.MatchLemmas.{no_chunks, no_item}
 use Rattle.xt_recovery.proofs.LogLemmas.{first_if, found_cancel, found_first, found_later, second_if}
 use Rattle.xt_recovery.proofs.Formed.{IsWellFormed}
 use Rattle.xt_recovery.specs.Log.{CheckpointText, chunks_of, is_cancel, logged_chunk}
-
--- a chunk that a block has is 128 bytes
-pub length_chunk : (size : ℕ) (content : List ℕ) (k : ℕ) → length content ≡ size → 128 * k + 128 ≤ size → length (chunk content k) ≡ 128
-length_chunk size content k whole fits = length-take-le 128 (drop (128 * k) content) (omega (arith, whole, fits, length-drop (128 * k) content))
 
 bytes_more : (content : List ℕ) (c : ℕ) (cs : List ℕ) → chunk_bytes content (c ∷ cs) ≡ chunk content c ++ chunk_bytes content cs
 bytes_more content c cs = flat_map-cons (chunk content) c cs
