@@ -56,3 +56,7 @@ RecoversEach = (steps : List Step) (o : Told) → Tells steps o → (m : ℕ) �
 -- recovery that was broken off, and is run again over what it left, gives the same, if it changed no chunk but those that the texts give
 abbrev pub RecoversAgain : Type 0
 RecoversAgain = (texts : List (List Entry)) (home left : Image) (b k : ℕ) → (chunk_in_texts texts b k ≡ None → left b k ≡ home b k) → replayed_image texts left b k ≡ replayed_image texts home b k
+
+-- over an image that older and newer texts gave, the newer ones alone give the same
+abbrev pub RecoversByNewer : Type 0
+RecoversByNewer = (newer older : List (List Entry)) (home left : Image) (b k : ℕ) → left b k ≡ replayed_image (newer ++ older) home b k → replayed_image newer left b k ≡ left b k
