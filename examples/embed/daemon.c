@@ -8,6 +8,7 @@
 #define _GNU_SOURCE
 #include <arpa/inet.h>
 #include <fcntl.h>
+#include <libgen.h>
 #include <poll.h>
 #include <refskold.h>
 #include <signal.h>
@@ -178,6 +179,16 @@ static bool take_lines(struct client *client, int from)
 
 /* ---- The daemon ---- */
 
+/* Makes the name of a file safe: one that was made just now could be gone after a power cut, with all that it has. */
+static void sync_folder(const char *file)
+{
+    char *name = strdup(file);
+    int folder = name == NULL ? -1 : open(dirname(name), O_RDONLY | O_DIRECTORY | O_CLOEXEC);
+    if (folder < 0 || (fsync(folder) != 0 && errno != EINVAL)) stop("the folder", 0); // a file system that syncs no folders is trusted
+    close(folder);
+    free(name);
+}
+
 /* Opens both files, and locks them as `xth` does: nobody else may have them while this daemon lives. */
 static void open_volume(const char *home_file, const char *log_file)
 {
@@ -186,6 +197,8 @@ static void open_volume(const char *home_file, const char *log_file)
     if (home < 0 || journal < 0) stop("the volume", 0);
     if (flock(home, LOCK_EX | LOCK_NB) != 0 || flock(journal, LOCK_EX | LOCK_NB) != 0) stop("the volume is in use", 0);
     if (ftruncate(home, (off_t)BLOCKS * REFSKOLD_BLOCK) != 0) stop("the home device", 0);
+    sync_folder(home_file);
+    sync_folder(log_file);
 }
 
 /* Lays over the home device what the log says, and then empties the log. */
