@@ -1,0 +1,154 @@
+"""Faults planted in a record, as a program would make them that syncs too little, too late, or answers too soon. Each must be found."""
+import bisect
+
+from plain_logs import read_text
+from power_cuts.cuts import is_log
+from power_cuts.history import History
+
+
+def is_home(record, name):
+    return any(place.home == name for place in record.places)
+
+
+def without(record, is_left_out):
+    """A record in which some syncs were never made: those of which this holds, by the number of the event and its name."""
+    events = [[part for part in event if not (part.kind in 'be' and is_left_out(number, part.name))] for number, event in enumerate(record.events)]
+    return record._replace(events=events)
+
+
+def log_sync(record):
+    """No sync of a log is made."""
+    return without(record, lambda _, name: is_log(record, name))
+
+
+def home_sync(record):
+    """No sync of a home file is made."""
+    return without(record, lambda _, name: is_home(record, name))
+
+
+def folder_sync(record):
+    """The folder of files that were made is not synced."""
+    return without(record, lambda _, name: name == '')
+
+
+def emptied_first(record):
+    """Each log is emptied, and that is synced, before the last sync of its home file, and not behind it."""
+    events = [list(event) for event in record.events]
+    for place in record.places:
+        begun = last = None
+        for number, event in enumerate(record.events):
+            for part in event:
+                if part.name == place.home and part.kind == 'b':
+                    begun = number
+                elif part.name == place.home and part.kind == 'e':
+                    last = begun
+                elif part.name == place.log and part.kind == 't' and last is not None:
+                    move(record, events, number, place.log, last)
+    return record._replace(events=events)
+
+
+def move(record, events, number, log, to):
+    """Moves the emptying of a log with its sync in front of another event."""
+    moved = []
+    for later in range(number, len(events)):
+        parts = [part for part in record.events[later] if part.name == log and part.kind in 'tbe']
+        for part in parts:
+            events[later].remove(part)
+        moved += parts
+        if any(part.kind == 'e' for part in parts):
+            break
+    events[to] = moved + events[to]
+
+
+def texts_of(record, log):
+    """Of each text that a log was written: the events with which it begins and ends, and its blocks."""
+    content, begins, at = b'', [], 0
+    for number, event in enumerate(record.events):
+        for part in event:
+            if part.name != log or part.kind not in 'tw':
+                continue
+            if part.kind == 't':
+                content, begins, at = b'', [], 0
+                continue
+            begins.append((len(content), number))
+            content += part.data
+            try:
+                _, items, end = read_text(content, at)
+            except EOFError:
+                continue
+            yield begins[bisect.bisect_right(begins, (at, len(record.events))) - 1][1], number, items
+            at = end
+
+
+def home_first(record):
+    """A block is written home before the text that has it, and not behind that."""
+    events = [list(event) for event in record.events]
+    for place in record.places:
+        texts = list(texts_of(record, place.log))
+        for number, event in enumerate(record.events):
+            for part in [part for part in event if part.name == place.home and part.kind == 'w']:
+                begins = [begin for begin, end, items in texts if end < number and items.get(part.offset // place.size)]
+                if begins:
+                    events[number].remove(part)
+                    events[begins[-1]].insert(0, part)
+    return record._replace(events=events)
+
+
+def barrier_sync(record):
+    """The end mark of a text is written before the rest of it is synced."""
+    left_out = set()
+    for place in record.places:
+        sync = []
+        for number, event in enumerate(record.events):
+            for part in event:
+                if part.name != place.log:
+                    continue
+                if part.kind == 'b':
+                    sync = [number]
+                elif part.kind == 'e':
+                    sync.append(number)
+                elif part.kind == 'w' and len(part.data) == 16:
+                    left_out.update((at, place.log) for at in sync)
+    return without(record, lambda number, name: (number, name) in left_out)
+
+
+def early_answer(record):
+    """It is answered that a change is safe where the sync of its log has only begun."""
+    places = []
+    for place in record.places:
+        begins = [number for number, event in enumerate(record.events) if any(part.kind == 'b' and part.name == place.log for part in event)]
+        places.append(place._replace(histories=[earlier(history, begins) for history in place.histories]))
+    return record._replace(places=places)
+
+
+def earlier(history, begins):
+    """A history in which each promise is made where the last sync before it begins."""
+    other = History(history.size, history.count, history.base, history.owned)
+    other.commits = list(history.commits)
+    for event, number in history.promised:
+        place = bisect.bisect_left(begins, event)
+        other.told(begins[place - 1] if place else event, number)
+    other.close()
+    return other
+
+
+def has(kind, suits):
+    """Whether a record has an event of a kind on some file."""
+    return lambda record: any(part.kind == kind and suits(record, part.name) for event in record.events for part in event)
+
+
+# of each fault what it makes of a record, and of which records it makes something else
+FAULTS = {
+    'log-sync': (log_sync, has('w', is_log)),
+    'home-sync': (home_sync, has('t', is_log)),
+    'emptied-first': (emptied_first, has('t', is_log)),
+    'home-first': (home_first, lambda record: has('m', is_log)(record) and has('w', is_home)(record)),
+    'folder-sync': (folder_sync, has('m', is_log)),
+    'barrier-sync': (barrier_sync, lambda record: record.has_barrier),
+    'early-answer': (early_answer, lambda record: any(history.promised for place in record.places for history in place.histories)),
+}
+# faults of logs that there are none of yet
+NOT_TRIED = {
+    'older-last': 'no log has two files, of which the older one has to be emptied first',
+    'seal-unread': 'no log has seals, of which one could be passed over',
+}
