@@ -1,7 +1,6 @@
 -- At every crash the bytes of the log, laid over the home image, give what was committed.
-use mathlib.Core.List.{reverse_aux}
 use Rattle.std.proofs.Common.{◌≡◌, ◌∙◌, ◌⊎◌, ◌∷◌, ◌++◌, List, None, Option, Some, [], ap, arith, inl, inr, length, map, refl, subst, sym, ℕ}
-use Rattle.std.proofs.lemmas.List.{append-nil}
+use Rattle.std.proofs.lemmas.List.{append-nil, reverse-reverse}
 use Rattle.std.specs.Prelude.{reverse, unwrap_or, ◌<◌}
 use Rattle.xt_base.proofs.MapLemmas.{some_none}
 use Rattle.xt_base.specs.Alone.{after}
@@ -54,11 +53,12 @@ found_whole s d bytes log all parts texts = record {
 }
 
 -- a text that stands behind the others is one of the grammar
-last_proper : (s : Lone) (d : Disks) (w : CheckpointText) → SlotInvariant d s → IsLastText s d w → IsWellFormed d.form w
+pub last_proper : (s : Lone) (d : Disks) (w : CheckpointText) → SlotInvariant d s → IsLastText s d w → IsWellFormed d.form w
 last_proper s d w h (inl flight) = subst (IsWellFormed d.form) (sym flight.2) (flying_in s.mounted d flight.0 h.proper.mount flight.1).proper
 last_proper s d w h (inr left) = (h.failed w left).proper
 
-last_then : (s : Lone) (d : Disks) (w : CheckpointText) → IsLastText s d w → IsLogAfterCrash s.mounted d (w ∷ d.log)
+-- and with it on the log, that is one that a crash may leave
+pub last_then : (s : Lone) (d : Disks) (w : CheckpointText) → IsLastText s d w → IsLogAfterCrash s.mounted d (w ∷ d.log)
 last_then s d w (inl flight) = inr (inl (flight.0, flight.1, ap (λ (x : CheckpointText). x ∷ d.log) flight.2))
 last_then s d w (inr left) = inr (inr (w, left, refl))
 
@@ -88,16 +88,8 @@ crash_found s d bytes h left =
           ]
     ]
 
--- what is turned round twice is as it was
-turned : {A : Type 0} (xs ys zs : List A) → reverse_aux (reverse_aux xs ys) zs ≡ reverse_aux ys (xs ++ zs)
-turned [] ys zs = refl
-turned (x ∷ xs) ys zs = turned xs (x ∷ ys) zs
-
-reverse-reverse : {A : Type 0} (xs : List A) → reverse (reverse xs) ≡ xs
-reverse-reverse xs = turned xs [] [] ∙ append-nil xs
-
 -- the same image, said over what was read
-kept_read : (s : Lone) (d : Disks) (home : Image) (log : List CheckpointText) (texts : List (List Entry)) → Each (IsWellFormed d.form) log → texts ≡ map entries_of log → IsCommittedImage s d home (recovered_image log home) → IsCommittedImage s d home (replayed_image texts home)
+pub kept_read : (s : Lone) (d : Disks) (home : Image) (log : List CheckpointText) (texts : List (List Entry)) → Each (IsWellFormed d.form) log → texts ≡ map entries_of log → IsCommittedImage s d home (recovered_image log home) → IsCommittedImage s d home (replayed_image texts home)
 kept_read s d home log texts all is kept =
     let same : (b k : ℕ) → replayed_image texts home b k ≡ recovered_image log home b k = λ b k. ap (λ ts. replayed_image ts home b k) is ∙ ap (λ o. unwrap_or o (home b k)) (said_found d.form log b k all) in
     elim kept [

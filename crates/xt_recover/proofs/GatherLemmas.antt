@@ -61,7 +61,7 @@ texts_more : (ts : List (List Entry)) (t : List Entry) (l : Overlaid) → with_t
 texts_more [] t l = refl
 texts_more (x ∷ xs) t l = texts_more xs t (with_items x l)
 
-whole_more : (size : Option ℕ) (front text : List ℕ) (number : ℕ) (ts : List (List Entry)) (t : List Entry) → AreTexts size front ts → IsTextIn size text number t → AreTexts size (front ++ text) (ts ++ t ∷ [])
+pub whole_more : (size : Option ℕ) (front text : List ℕ) (number : ℕ) (ts : List (List Entry)) (t : List Entry) → AreTexts size front ts → IsTextIn size text number t → AreTexts size (front ++ text) (ts ++ t ∷ [])
 whole_more size front text number [] t none is = (text, [], number, is, ap (λ xs. xs ++ text) none ∙ sym (append-nil text), refl)
 whole_more size front text number (x ∷ xs) t whole is =
     (whole.0, whole.1 ++ text, whole.2, whole.3, ap (λ ys. ys ++ text) whole.4 ∙ append_assoc whole.0 whole.1 text, whole_more size whole.1 text number xs t whole.5 is)

@@ -30,9 +30,13 @@ pub record IsLogLeft (s : Lone) (d : Disks) (bytes : List ℕ) : Type 0 where
   pub parts : bytes ≡ bytes_of_log d.form d.log ++ tail
   pub begins : (tail ≡ []) ⊎ ((w : CheckpointText) × (more : List ℕ) × IsLastText s d w × (text_bytes d.form w ≡ tail ++ more))
 
--- what a crash may leave: at home each chunk as it is, or as a flush under way writes it; on the log the landed texts and a beginning of the next
+-- what a crash may leave at home: each chunk as it is, or as a flush under way writes it
+abbrev pub IsHomeLeft : Lone → Disks → Image → Type 0
+IsHomeLeft s d home = (b k : ℕ) → (home b k ≡ d.home b k) ⊎ IsFlushing s.mounted b k (home b k)
+
+-- what a crash may leave: that at home; on the log the landed texts and a beginning of the next
 pub record IsCrashBytes (s : Lone) (d : Disks) (home : Image) (bytes : List ℕ) : Type 0 where
-  pub chunks : (b k : ℕ) → (home b k ≡ d.home b k) ⊎ IsFlushing s.mounted b k (home b k)
+  pub chunks : IsHomeLeft s d home
   pub log : IsLogLeft s d bytes
 
 -- the bytes of the log are texts that say what the form says, and an unfinished end, read in one way; laid over the home image, the newest first, they give what was committed
