@@ -3,6 +3,8 @@ pub mod SizeLemmas
 pub mod SaidLemmas
 pub mod ReadLemmas
 pub mod BytesTheorem
+pub mod SealedReads
+pub mod SealedTheorem
 pub mod AgainLemmas
 pub mod PlaceLemmas
 pub mod WholeLemmas

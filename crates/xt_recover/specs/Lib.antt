@@ -2,6 +2,7 @@ pub mod Sizes
 pub mod Reading
 pub mod Replay
 pub mod Promise
+pub mod SealedPromise
 pub mod Chunks
 pub mod Overlaid
 pub mod Gathering
