@@ -5,6 +5,7 @@ pub mod ReadLemmas
 pub mod BytesTheorem
 pub mod SealedReads
 pub mod SealedTheorem
+pub mod FilesTheorem
 pub mod AgainLemmas
 pub mod PlaceLemmas
 pub mod WholeLemmas

@@ -3,6 +3,7 @@ pub mod Reading
 pub mod Replay
 pub mod Promise
 pub mod SealedPromise
+pub mod SealedFiles
 pub mod Chunks
 pub mod Overlaid
 pub mod Gathering
