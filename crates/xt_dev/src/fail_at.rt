@@ -65,6 +65,7 @@ impl<D: LogDevice> FailAt<D, LogOffer> {
         ensures tells { ⟦<FailAt<D, LogOffer> as LogDevice>⟧.log_tells result ≡ true }
         ensures taken { ⟦<FailAt<D, LogOffer> as LogDevice>⟧.log_taken result ≡ [] }
         ensures failures { ⟦<FailAt<D, LogOffer> as LogDevice>⟧.log_failures result ≡ D.log_failures device }
+        ensures loses { ⟦<FailAt<D, LogOffer> as LogDevice>⟧.log_loses result ≡ D.log_loses device }
     {
         FailAt::new(alloc, device, at)
     }
@@ -107,10 +108,13 @@ impl<D: LogDevice> LogDevice for FailAt<D, LogOffer> {
 
     ghost log_failures = { λ d. D.log_failures d.device + (if d.left == 0 then 1 else 0) };
 
+    ghost log_loses = { λ d. D.log_loses d.device };
+
     fn append(&mut self, piece: &[u8]) -> Result<(), DevFault>
         requires short { length piece.now ≤ PIECE_BYTES }
         ensures told { Tells (⟦<FailAt<D, LogOffer> as LogDevice>⟧.log_tells self.old) (⟦<FailAt<D, LogOffer> as LogDevice>⟧.log_taken self.old) (LogOffer.Piece piece.now (is_ok result) ∷ []) (⟦<FailAt<D, LogOffer> as LogDevice>⟧.log_tells self.new) (⟦<FailAt<D, LogOffer> as LogDevice>⟧.log_taken self.new) }
         ensures failures { ⟦<FailAt<D, LogOffer> as LogDevice>⟧.log_failures self.new ≡ failures_after (is_ok result) (⟦<FailAt<D, LogOffer> as LogDevice>⟧.log_failures self.old) }
+        ensures loses { ⟦<FailAt<D, LogOffer> as LogDevice>⟧.log_loses self.new ≡ ⟦<FailAt<D, LogOffer> as LogDevice>⟧.log_loses self.old }
         ensures left { self.new.left ≡ self.old.left - 1 }
         ensures fails { self.old.left ≡ 1 → IsErr result }
         ensures kept_back { self.old.left ≡ 1 → self.new.device ≡ self.old.device }
@@ -130,6 +134,7 @@ impl<D: LogDevice> LogDevice for FailAt<D, LogOffer> {
     fn sync(&mut self) -> Result<(), DevFault>
         ensures told { Tells (⟦<FailAt<D, LogOffer> as LogDevice>⟧.log_tells self.old) (⟦<FailAt<D, LogOffer> as LogDevice>⟧.log_taken self.old) (LogOffer.Sync (is_ok result) ∷ []) (⟦<FailAt<D, LogOffer> as LogDevice>⟧.log_tells self.new) (⟦<FailAt<D, LogOffer> as LogDevice>⟧.log_taken self.new) }
         ensures failures { ⟦<FailAt<D, LogOffer> as LogDevice>⟧.log_failures self.new ≡ failures_after (is_ok result) (⟦<FailAt<D, LogOffer> as LogDevice>⟧.log_failures self.old) }
+        ensures loses { ⟦<FailAt<D, LogOffer> as LogDevice>⟧.log_loses self.new ≡ ⟦<FailAt<D, LogOffer> as LogDevice>⟧.log_loses self.old }
         ensures left { self.new.left ≡ self.old.left - 1 }
         ensures fails { self.old.left ≡ 1 → IsErr result }
         ensures kept_back { self.old.left ≡ 1 → self.new.device ≡ self.old.device }
@@ -147,11 +152,24 @@ impl<D: LogDevice> LogDevice for FailAt<D, LogOffer> {
     }
 
     /// It is handed on, and counts as no call.
+    fn make_room(&mut self, bytes: u64)
+        ensures tells { ⟦<FailAt<D, LogOffer> as LogDevice>⟧.log_tells self.new ≡ ⟦<FailAt<D, LogOffer> as LogDevice>⟧.log_tells self.old }
+        ensures taken { ⟦<FailAt<D, LogOffer> as LogDevice>⟧.log_taken self.new ≡ ⟦<FailAt<D, LogOffer> as LogDevice>⟧.log_taken self.old }
+        ensures failures { ⟦<FailAt<D, LogOffer> as LogDevice>⟧.log_failures self.new ≡ ⟦<FailAt<D, LogOffer> as LogDevice>⟧.log_failures self.old }
+        ensures cuts { ⟦<FailAt<D, LogOffer> as LogDevice>⟧.log_cuts self.new ≡ ⟦<FailAt<D, LogOffer> as LogDevice>⟧.log_cuts self.old }
+        ensures loses { ⟦<FailAt<D, LogOffer> as LogDevice>⟧.log_loses self.new ≡ ⟦<FailAt<D, LogOffer> as LogDevice>⟧.log_loses self.old }
+        ensures left { self.new.left ≡ self.old.left }
+    {
+        self.device.make_room(bytes);
+    }
+
+    /// It is handed on, and counts as no call.
     fn cut(&mut self, size: u32)
         ensures tells { ⟦<FailAt<D, LogOffer> as LogDevice>⟧.log_tells self.new ≡ ⟦<FailAt<D, LogOffer> as LogDevice>⟧.log_tells self.old }
         ensures taken { ⟦<FailAt<D, LogOffer> as LogDevice>⟧.log_taken self.new ≡ ⟦<FailAt<D, LogOffer> as LogDevice>⟧.log_taken self.old }
         ensures failures { ⟦<FailAt<D, LogOffer> as LogDevice>⟧.log_failures self.new ≡ ⟦<FailAt<D, LogOffer> as LogDevice>⟧.log_failures self.old }
         ensures cuts { IsCut size (⟦<FailAt<D, LogOffer> as LogDevice>⟧.log_taken self.old) (⟦<FailAt<D, LogOffer> as LogDevice>⟧.log_cuts self.old) (⟦<FailAt<D, LogOffer> as LogDevice>⟧.log_cuts self.new) }
+        ensures loses { ⟦<FailAt<D, LogOffer> as LogDevice>⟧.log_loses self.new ≡ ⟦<FailAt<D, LogOffer> as LogDevice>⟧.log_loses self.old }
         ensures left { self.new.left ≡ self.old.left }
         ensures handed_on { IsCut size (D.log_taken self.old.device) (D.log_cuts self.old.device) (D.log_cuts self.new.device) }
     {

@@ -95,6 +95,7 @@ impl<D: LogDevice> GateLog<D> {
         ensures tells { ⟦<GateLog<D> as LogDevice>⟧.log_tells result ≡ true }
         ensures taken { ⟦<GateLog<D> as LogDevice>⟧.log_taken result ≡ [] }
         ensures failures { ⟦<GateLog<D> as LogDevice>⟧.log_failures result ≡ D.log_failures device }
+        ensures loses { ⟦<GateLog<D> as LogDevice>⟧.log_loses result ≡ D.log_loses device }
     {
         GateLog {
             device,
@@ -121,6 +122,8 @@ impl<D: LogDevice> LogDevice for GateLog<D> {
 
     ghost log_failures = { λ d. D.log_failures d.device + d.failures.count };
 
+    ghost log_loses = { λ d. D.log_loses d.device };
+
     fn append(&mut self, piece: &[u8]) -> Result<(), DevFault> {
         let answer = if self.meeting.is_kept() {
             self.device.append(piece)
@@ -137,6 +140,10 @@ impl<D: LogDevice> LogDevice for GateLog<D> {
         let ok = answer.is_ok();
         self.kept.note(Some(LogOffer::Sync { ok }));
         answer
+    }
+
+    fn make_room(&mut self, bytes: u64) {
+        self.device.make_room(bytes);
     }
 
     fn cut(&mut self, size: u32) {
