@@ -18,7 +18,10 @@ pub mod mem_log;
 pub mod offer;
 pub mod offer_home;
 mod record;
+mod sealed_files;
+pub mod sealed_log;
 mod sectors;
+mod segment;
 mod tail;
 
 pub use call::HomeCall;
@@ -32,4 +35,5 @@ pub use home::HomeDevice;
 pub use log::LogDevice;
 pub use mem_home::MemHome;
 pub use mem_log::MemLog;
+pub use sealed_log::SealedLog;
 pub use sectors::FILE_BLOCKS;

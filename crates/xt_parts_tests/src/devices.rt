@@ -8,6 +8,7 @@ ghost use Rattle.xt_dev.specs.Devices.{failures_after};
 
 mod files;
 mod gates;
+mod sealed;
 
 use bytes::Bytes;
 use std::alloc::Global;
@@ -309,7 +310,7 @@ fn small_blocks_in_memory(rt: HostRuntime) {
 }
 
 /// Offers two pieces.
-fn offer_two(log: &mut FailAt<MemLog, LogOffer>) -> LogAnswers {
+fn offer_two(log: &mut dyn LogDevice) -> LogAnswers {
     offer(
         log,
         &[Bytes::from_static(b"ab"), Bytes::from_static(b"cde")],

@@ -10,7 +10,7 @@ use xt_dev::offer::offer;
 use xt_dev::{FILE_BLOCKS, FileFault, FileHome, FileLog, HomeDevice, LogDevice};
 
 /// A path of this process where nothing is.
-fn fresh_path(rt: &HostRuntime, name: &str) -> Result<PathBuf, Fail> {
+pub fn fresh_path(rt: &HostRuntime, name: &str) -> Result<PathBuf, Fail> {
     let name = format!(in rt.alloc(); "xt-dev-{}-{name}", process::id(rt.process()))?;
     let path = env::temp_dir(rt)?.join(rt.alloc(), name.as_str())?;
     let _ = fs::remove_file(rt, path.as_path());
@@ -23,7 +23,7 @@ fn is_not_empty(opened: &Result<FileLog, FileFault>) -> bool {
 }
 
 /// Whether a file has just these bytes; it is removed.
-fn had(rt: &HostRuntime, path: Path<'_>, bytes: &[u8]) -> Result<bool, Fail> {
+pub fn had(rt: &HostRuntime, path: Path<'_>, bytes: &[u8]) -> Result<bool, Fail> {
     let read = fs::read(rt, path)?;
     fs::remove_file(rt, path)?;
     Ok(read.as_slice() == bytes)
@@ -59,7 +59,7 @@ fn empty_log_is_opened_again(rt: HostRuntime) -> Result<(), Fail> {
 }
 
 /// Whether a file has just these bytes.
-fn has(rt: &HostRuntime, path: Path<'_>, bytes: &[u8]) -> Result<bool, Fail> {
+pub fn has(rt: &HostRuntime, path: Path<'_>, bytes: &[u8]) -> Result<bool, Fail> {
     Ok(fs::read(rt, path)?.as_slice() == bytes)
 }
 
