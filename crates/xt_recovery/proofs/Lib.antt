@@ -30,9 +30,10 @@ pub mod FormedLemmas
 pub mod FailedLemmas
 pub mod LifeTheorem
 pub mod HostLemmas
-pub mod Witness
 pub mod LengthLemmas
 pub mod LogMatching
 pub mod CountLemmas
 pub mod LogSteps
 pub mod TurnLemmas
+pub mod QuietSteps
+pub mod Witness

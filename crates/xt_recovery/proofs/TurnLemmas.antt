@@ -50,10 +50,10 @@ costs_bytes form (w ∷ ws) all =
     sum_by-append second (costs_of form.ends ws) (here ∷ [])
     ∙ omega (arith, costs_bytes form ws all.1, sum_by-cons second here [], text_cost form w all.0, sum_by-cons (λ v. length (text_bytes form v)) w ws)
 
--- and so has the one in flight
-flight_cost : (o : Option Flight) (d : Disks) → ((f : Flight) → o ≡ Some f → IsWellFormed d.form (flight_text f d)) → flight_length o d ≤ cost d.form.ends (flight_items o)
-flight_cost None d proper = omega arith
-flight_cost (Some f) d proper = omega (arith, text_cost d.form (flight_text f d) (proper f refl))
+-- and so has the one in flight, if there is one
+pub flight_cost : (o : Option Flight) (d : Disks) → ((f : Flight) → o ≡ Some f → IsWellFormed d.form (flight_text f d)) → flight_length o d ≡ cost d.form.ends (flight_items o)
+flight_cost None d proper = refl
+flight_cost (Some f) d proper = text_cost d.form (flight_text f d) (proper f refl)
 
 module _ (d : Disks) (m : State) (sound : IsSound m) (form : m.form ≡ d.form) (fits : FitsTexts d m) (proper : Each (IsWellFormed d.form) d.log) (counted : still_needed m.items.ail (costs_of d.form.ends d.log) ≡ m.items.landed)
     (falls : AreFalling d.log) where

@@ -1,7 +1,7 @@
 -- A log that is written by turns, as one in two files: it drops its older texts once the newer ones have more bytes than the log of its mount.
-use Rattle.std.specs.Prelude.{List, None, Option, Some, [], length, sum_by, true, ℕ, ◌++◌, ◌+◌, ◌<◌, ◌∷◌, ◌≡◌, ◌⊎◌}
+use Rattle.std.specs.Prelude.{List, None, Option, Some, [], length, sum_by, true, ℕ, ◌++◌, ◌+◌, ◌<◌, ◌∷◌, ◌≡◌, ◌≤◌, ◌⊎◌}
 use Rattle.xt_base.specs.Alone.{after, alone}
-use Rattle.xt_base.specs.Form.{Form}
+use Rattle.xt_base.specs.Form.{Form, form_one}
 use Rattle.xt_base.specs.State.{Flight, Lone, State, empty}
 use Rattle.xt_base.specs.declared.steps.Step.{Step}
 use Rattle.xt_recovery.specs.Crash.{IsCommittedImage, IsCrash}
@@ -45,3 +45,7 @@ TurnsAreCuts = (steps : List Step) → AllSuit steps empty → (form : Form) (st
 abbrev pub RecoversByTurns : Type 0
 RecoversByTurns = (steps : List Step) → AllSuit steps empty → (form : Form) (start : Image) (d : Disks) → AreStepsByTurns steps empty (new_disks form start) d
     → (home : Image) (log : List CheckpointText) → IsCrash (after steps empty) d home log → IsCommittedImage (after steps empty) d home (recovered_image log home)
+
+-- over any home image there are steps, which suit, after which a log may drop a text by a turn
+abbrev pub LogTurns : Type 0
+LogTurns = (start : Image) → (steps : List Step) × (d e : Disks) × (m : State) × AllSuit steps empty × AreDiskSteps steps empty (new_disks form_one start) d × ((after steps empty).mounted ≡ Some m) × (turn : IsTurn m d e) × (1 ≤ length turn.older)

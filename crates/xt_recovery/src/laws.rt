@@ -2,7 +2,7 @@
 
 ghost use Rattle.xt_recovery.specs.Crash.{HomeHasLanded, Lands, LogMayGo, Recovers};
 ghost use Rattle.xt_recovery.specs.Numbers.{NumbersFall, NumbersFollow};
-ghost use Rattle.xt_recovery.specs.Turns.{RecoversByTurns, TurnsAreCuts};
+ghost use Rattle.xt_recovery.specs.Turns.{LogTurns, RecoversByTurns, TurnsAreCuts};
 
 /// After any steps of a mount, whatever its form, at every crash, the texts of its log laid over its home image give what was committed at the
 /// begin of the last landed checkpoint, or of the one in flight, or of one whose end failed: all of it or none.
@@ -45,4 +45,9 @@ pub fn numbers_follow()
 /// The premises can be met: there are steps after which a checkpoint has landed.
 pub fn lands()
     ensures { Lands }
+{}
+
+/// And those of a turn: there are steps after which a log may drop a text that it has.
+pub fn log_turns()
+    ensures { LogTurns }
 {}
