@@ -25,8 +25,9 @@ use Rattle.xt_recovery.proofs.HostLemmas.{slot_suits}
 use Rattle.xt_recovery.proofs.LifeTheorem.{kept_at_crash}
 use Rattle.xt_recovery.proofs.MatchLemmas.{each_reverse}
 use Rattle.xt_recovery.proofs.SuitedSteps.{suited_steps}
+use Rattle.xt_recovery.proofs.TurnLemmas.{turns_are_cuts}
 use Rattle.xt_recovery.specs.Crash.{IsCommittedImage}
-use Rattle.xt_recovery.specs.DiskSteps.{IsLogAfterCrash}
+use Rattle.xt_recovery.specs.DiskSteps.{AreDiskSteps, IsLogAfterCrash}
 use Rattle.xt_recovery.specs.Disks.{Disks, flight_of, flight_text, new_disks}
 use Rattle.xt_recovery.specs.Log.{CheckpointText, Image, recovered_image, text_bytes}
 use Rattle.xt_seal.specs.Seal.{BeginsSealed, ReadsSealed, seal_of, text_seal}
@@ -241,9 +242,10 @@ appended_none s d h head before tail (inr some) forged = forged_none s d head be
 -- ---- the laws
 pub at_every_crash : (P : Lone → Disks → Image → Type 0) → ((s : Lone) (d : Disks) (home : Image) → IsCrashed s d home → P s d home) → AtEveryCrash P
 at_every_crash P law steps suit form start d went home left =
+    let cut : AreDiskSteps steps empty (new_disks form start) d = turns_are_cuts steps suit form start d went in
     law (after steps empty) d home (record {
-      invariant = stands_from steps form start d (suited_steps steps empty (new_disks form start) d suit went);
-      kept = λ log texts. kept_at_crash steps suit form start d went home log (record { chunks = left; texts = texts });
+      invariant = stands_from steps form start d (suited_steps steps empty (new_disks form start) d suit cut);
+      kept = λ log texts. kept_at_crash steps suit form start d cut home log (record { chunks = left; texts = texts });
     })
 
 pub of_each : (P : Lone → Disks → Image → Type 0) → AtEveryCrash P → AtEveryCrashOfEach P

@@ -12,9 +12,10 @@ use Rattle.xt_recover.specs.Reading.{AreTexts}
 use Rattle.xt_recover.specs.Replay.{replayed_image}
 use Rattle.xt_recover.specs.Sizes.{said_size}
 use Rattle.xt_recovery.specs.Crash.{IsCommittedImage}
-use Rattle.xt_recovery.specs.DiskSteps.{AllSuit, AreDiskSteps, IsLogAfterCrash}
+use Rattle.xt_recovery.specs.DiskSteps.{AllSuit, IsLogAfterCrash}
 use Rattle.xt_recovery.specs.Disks.{Disks, new_disks}
 use Rattle.xt_recovery.specs.Log.{CheckpointText, Image, text_bytes}
+use Rattle.xt_recovery.specs.Turns.{AreStepsByTurns}
 use Rattle.xt_seal.specs.Seal.{BeginsNoSealed, BeginsSealed, ReadsSealed, last_seal, seal_of, sealed_texts, text_seal}
 
 -- ---- a sealed log
@@ -78,14 +79,14 @@ pub record IsRecoveredSealed (s : Lone) (d : Disks) (home : Image) (head bytes :
   pub only : (size : Option ℕ) (others : List (List Entry)) → ReadsSealed size head (seal_of head) bytes others → (others ≡ texts) × IsReadBack s d home size others
 
 -- ---- at every crash
--- after any steps of a slot that suit it, on disks of any form, over anything that a crash may leave at home
+-- after any steps of a slot that suit it, on disks of any form, whose log may be cut or turn after each, over anything that a crash may leave at home
 abbrev pub AtEveryCrash : (Lone → Disks → Image → Type 0) → Type 0
-AtEveryCrash P = (steps : List Step) → AllSuit steps empty → (form : Form) (start : Image) (d : Disks) → AreDiskSteps steps empty (new_disks form start) d
+AtEveryCrash P = (steps : List Step) → AllSuit steps empty → (form : Form) (start : Image) (d : Disks) → AreStepsByTurns steps empty (new_disks form start) d
     → (home : Image) → IsHomeLeft (after steps empty) d home → P (after steps empty) d home
 
 -- the same of each slot of a host that was not refused memory, by its own steps and its own disks alone
 abbrev pub AtEveryCrashOfEach : (Lone → Disks → Image → Type 0) → Type 0
-AtEveryCrashOfEach P = (steps : List Step) (o : Told) → Tells steps o → (m : ℕ) → is_refused m o ≡ false → (form : Form) (start : Image) (d : Disks) → AreDiskSteps (strike steps m) empty (new_disks form start) d
+AtEveryCrashOfEach P = (steps : List Step) (o : Told) → Tells steps o → (m : ℕ) → is_refused m o ≡ false → (form : Form) (start : Image) (d : Disks) → AreStepsByTurns (strike steps m) empty (new_disks form start) d
     → (home : Image) → IsHomeLeft (after (strike steps m) empty) d home → P (after (strike steps m) empty) d home
 
 -- ---- the laws

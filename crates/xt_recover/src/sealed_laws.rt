@@ -1,4 +1,5 @@
-//! Laws of recovery over sealed logs, with any bytes behind the texts that were synced. Each function does nothing: its clause is the law.
+//! Laws of recovery over sealed logs, with any bytes behind the texts that were synced, whatever old texts were cut or dropped by turns. Each function does
+//! nothing: its clause is the law.
 
 ghost use Rattle.xt_recover.specs.SealedFiles.{FilesReadBackOrForged, FilesRecoverUnlessForged, PartsReadBackOrForged};
 ghost use Rattle.xt_recover.specs.SealedPromise.{AppendsForgeNothing, AtEveryCrash, AtEveryCrashOfEach, ReadsBackOrForged, ReadsOneWay, RecoversUnlessForged};
