@@ -44,6 +44,8 @@ class Record(NamedTuple):
     has_barrier: bool = False
     # a daemon that recovers the files by itself, now and then
     daemon: str = ''
+    # the events at which a fault was planted, where it shows near them alone
+    planted: list = []
 
 
 class Told(NamedTuple):
@@ -225,6 +227,7 @@ def interesting(record):
             files.append(number)
         weight = max((crucial(record, part) for part in record.events[number]), default=0)
         near += weight * [number + far for far in NEAR if 0 <= number + far < len(record.events)]
+    near += [number + far for number in record.planted for far in 4 * NEAR if 0 <= number + far < len(record.events)]
     return logs, files, near
 
 

@@ -1,4 +1,7 @@
-"""Faults planted in a record, as a program would make them that syncs too little, too late, or answers too soon. Each must be found."""
+"""Faults planted in a record, as a program would make them that syncs too little, too late, or answers too soon. Each must be found.
+
+Of a fault that shows near some events alone these are noted (`planted`), and cut more often.
+"""
 import bisect
 
 from plain_logs import read_text
@@ -33,7 +36,7 @@ def folder_sync(record):
 
 def emptied_first(record):
     """Each log is emptied, and that is synced, before the last sync of its home file, and not behind it."""
-    events = [list(event) for event in record.events]
+    events, planted = [list(event) for event in record.events], []
     for place in record.places:
         begun = last = None
         for number, event in enumerate(record.events):
@@ -44,7 +47,8 @@ def emptied_first(record):
                     last = begun
                 elif part.name == place.log and part.kind == 't' and last is not None:
                     move(record, events, number, place.log, last)
-    return record._replace(events=events)
+                    planted.append(last)
+    return record._replace(events=events, planted=planted)
 
 
 def move(record, events, number, log, to):
@@ -82,7 +86,7 @@ def texts_of(record, log):
 
 def home_first(record):
     """A block is written home before the text that has it, and not behind that."""
-    events = [list(event) for event in record.events]
+    events, planted = [list(event) for event in record.events], []
     for place in record.places:
         texts = list(texts_of(record, place.log))
         for number, event in enumerate(record.events):
@@ -91,12 +95,13 @@ def home_first(record):
                 if begins:
                     events[number].remove(part)
                     events[begins[-1]].insert(0, part)
-    return record._replace(events=events)
+                    planted.append(begins[-1])
+    return record._replace(events=events, planted=planted)
 
 
 def barrier_sync(record):
     """The end mark of a text is written before the rest of it is synced."""
-    left_out = set()
+    left_out, planted = set(), []
     for place in record.places:
         sync = []
         for number, event in enumerate(record.events):
@@ -109,7 +114,8 @@ def barrier_sync(record):
                     sync.append(number)
                 elif part.kind == 'w' and len(part.data) == 16:
                     left_out.update((at, place.log) for at in sync)
-    return without(record, lambda number, name: (number, name) in left_out)
+                    planted.append(number)
+    return without(record, lambda number, name: (number, name) in left_out)._replace(planted=planted)
 
 
 def early_answer(record):
@@ -142,7 +148,8 @@ FAULTS = {
     'log-sync': (log_sync, has('w', is_log)),
     'home-sync': (home_sync, has('t', is_log)),
     'emptied-first': (emptied_first, has('t', is_log)),
-    'home-first': (home_first, lambda record: has('m', is_log)(record) and has('w', is_home)(record)),
+    # not of a daemon: what it writes home stands in an earlier text of the same log too, nearly always, and that is laid over what came too early
+    'home-first': (home_first, lambda record: not record.daemon and has('m', is_log)(record) and has('w', is_home)(record)),
     'folder-sync': (folder_sync, has('m', is_log)),
     'barrier-sync': (barrier_sync, lambda record: record.has_barrier),
     'early-answer': (early_answer, lambda record: any(history.promised for place in record.places for history in place.histories)),
