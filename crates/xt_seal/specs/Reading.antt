@@ -2,6 +2,7 @@
 use Rattle.std.specs.Prelude.{List, Option, [], drop, length, take, ℕ, ◌+◌, ◌++◌, ◌<◌, ◌≡◌, ◌≤◌, ◌⊎◌}
 use Rattle.xt_ckpt.specs.Fields.{IsUnfinished}
 use Rattle.xt_ckpt.specs.Grammar.{Entry, IsTextIn, entries}
+use Rattle.xt_ckpt.specs.Reading.{Begins}
 use Rattle.xt_ckpt.specs.declared.reading.Checkpoint.{Checkpoint}
 use Rattle.xt_seal.specs.Seal.{BeginsNoSealed, BeginsSealed, Seals, text_seal}
 use Rattle.xt_seal.specs.Sums.{Sums}
@@ -23,6 +24,11 @@ IsSealedNext head before input Sealed.More new = BeginsNoSealed head before inpu
 abbrev pub IsSameUnless : Sealed → Sums → Sums → Type 0
 IsSameUnless (Sealed.Text c len) old new = Unit {0}
 IsSameUnless other old new = new ≡ old
+
+-- a text that was found begins the input, whatever was summed up
+abbrev pub IsTextFound : List ℕ → Sealed → Type 0
+IsTextFound input (Sealed.Text c len) = Begins input c len
+IsTextFound input other = Unit {0}
 
 -- a text that was found, and its seal, are in the input
 abbrev pub HasRoom : List ℕ → Sealed → Type 0

@@ -2,7 +2,7 @@
 
 ghost use Rattle.std.specs.Prelude.{◌≡◌, ◌+◌, ◌++◌, ◌≤◌, [], List, IfOk, drop, false, length, take, true, ℕ};
 ghost use Rattle.xt_ckpt.specs.Reading.{Begins};
-ghost use Rattle.xt_seal.specs.Reading.{HasRoom, IsSameUnless, IsSealedNext, IsStillDue};
+ghost use Rattle.xt_seal.specs.Reading.{HasRoom, IsSameUnless, IsSealedNext, IsStillDue, IsTextFound};
 ghost use Rattle.xt_seal.specs.Seal.{Seals, text_seal};
 
 use crate::sealer::{SEAL_BYTES, Sealer};
@@ -28,6 +28,7 @@ pub fn judge_sealed(
 ) -> Result<Sealed, AllocError>
     ensures judged { IfOk result (λ found. (head before : List ℕ) → Seals sealer.old head before [] → IsSealedNext head before input.now found sealer.new) }
     ensures same { IfOk result (λ found. IsSameUnless found sealer.old sealer.new) }
+    ensures text { IfOk result (IsTextFound input.now) }
     ensures room { IfOk result (HasRoom input.now) }
     ensures more { IfOk result (IsStillDue input.now) }
 {
@@ -53,6 +54,7 @@ fn judge_text(
     requires begins { Begins input.now checkpoint len }
     ensures judged { (head before : List ℕ) → Seals sealer.old head before [] → IsSealedNext head before input.now result sealer.new }
     ensures same { IsSameUnless result sealer.old sealer.new }
+    ensures text { IsTextFound input.now result }
     ensures room { HasRoom input.now result }
     ensures more { IsStillDue input.now result }
 {

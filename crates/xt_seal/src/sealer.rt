@@ -41,6 +41,17 @@ impl Sealer {
         (Sealer { head: hasher, text }, seal)
     }
 
+    /// A log that goes on behind a seal: of the header and that seal all is summed up, and nothing of a text behind them.
+    pub fn behind(head: &[u8], seal: &[u8]) -> Sealer
+        ensures { Seals result head.now seal.now [] }
+    {
+        let mut hasher = DefaultHasher::new();
+        hasher.write(head);
+        let mut text = hasher;
+        text.write(seal);
+        Sealer { head: hasher, text }
+    }
+
     /// Takes a piece of a text.
     pub fn note(&mut self, piece: &[u8])
         ensures { (head before text : List ℕ) → Seals self.old head before text → Seals self.new head before (text ++ piece.now) }
