@@ -1,1 +1,4 @@
 pub mod WindowLemmas
+pub mod StartLemmas
+pub mod RestLemmas
+pub mod WayLemmas

@@ -1,20 +1,22 @@
 -- A window over a reader: what is ahead of it in a log.
 use Rattle.std.proofs.Common.{Bool, [], inl, inr, true, ◌⊎◌, ◌≡◌, ◌∙◌, ◌+◌, ◌<◌, ◌≤◌, ◌++◌, ℕ, List, Option, Some, None, append-nil, append_assoc, ap, arith, drop, false, length, refl, subst, sym, take, true≢false}
-use Rattle.std.proofs.lemmas.List.{drop-append-le, length-append, take-append-le}
+use Rattle.std.proofs.lemmas.List.{append_cancel_left, drop-append-le, length-append, take-append-drop, take-append-le, take_at}
 use Rattle.std.specs.Io.KnownBytes.{Keeps}
 use Rattle.std.specs.Prelude.{IfSome}
 use Rattle.xt_ckpt.specs.Fields.{IsFaultAt, IsUnfinished}
 use Rattle.xt_ckpt.specs.Grammar.{IsTextIn, entries}
 use Rattle.xt_ckpt.specs.Reading.{Begins}
 use Rattle.xt_ckpt.specs.declared.reading.Checkpoint.{Checkpoint}
+use Rattle.xt_seal.proofs.SealLemmas.{length_seal}
 use Rattle.xt_seal.specs.Reading.{IsFoundSealed, IsSealedNext}
 use Rattle.xt_seal.specs.declared.reading.Sealed.{Sealed}
 use Rattle.xt_seal.specs.Seal.{BeginsNoSealed, Seals, text_seal}
 use Rattle.xt_seal.specs.Sums.{Sums}
-use Rattle.xt_window.specs.Window.{ahead, is_too_long, unread, Held, IsAhead, IsAheadSealed, IsNext, IsNextSealed, IsOfGrammar, IsRefilled, IsTakenSealed, IsTied, IsWhy}
+use Rattle.xt_window.specs.Window.{ahead, is_too_long, unread, Held, IsAhead, IsAheadSealed, IsNext, IsNextSealed, IsOfGrammar, IsRefilled, IsTakenSealed, IsTextSealed, IsTied, IsWhy}
 use Rattle.xt_window.specs.declared.fault.LogFault.{LogFault}
 use Rattle.xt_window.specs.declared.fault.LogFault.TheVariants.{Io, Memory, TooLong}
 use Rattle.xt_window.specs.declared.window.Found.{Found}
+use Rattle.xt_window.specs.declared.window.SealedText.{SealedText}
 
 -- ---- a front of a log, and the log
 -- a text that begins a front begins the whole
@@ -156,15 +158,21 @@ sealed_of_front head before front more c len sums found =
       next = subst (λ t. Seals sums head (text_seal head before t) []) (sym same) found.next;
     }
 
-sealed_known : (head before : List ℕ) (old : Held) (log left : List ℕ) (mid new : Held) (found : Option Checkpoint) (sums : Sums) → mid.offset ≡ old.offset → mid.bytes ++ left ≡ log → IsTied mid (Some left)
+text_sealed_of_front : (head before front more : List ℕ) (t : SealedText) (len : ℕ) (sums : Sums) → IsTextSealed head before front t len sums → IsTextSealed head before (front ++ more) t len sums
+text_sealed_of_front head before front more t len sums is = record {
+  found = sealed_of_front head before front more t.checkpoint len sums is.found;
+  seal = is.seal ∙ ap (text_seal head before) (sym (take-append-le len front more (omega (arith, is.found.room))));
+}
+
+sealed_known : (head before : List ℕ) (old : Held) (log left : List ℕ) (mid new : Held) (found : Option SealedText) (sums : Sums) → mid.offset ≡ old.offset → mid.bytes ++ left ≡ log → IsTied mid (Some left)
     → IsNextSealed head before mid (Some found) sums new → IsAheadSealed head before old log found sums new (Some left)
-sealed_known head before old log left mid new (Some c) sums place joined tied (len, (found, is)) = (
+sealed_known head before old log left mid new (Some t) sums place joined tied (len, (found, is)) = (
   len,
   (
-    subst (λ t. IsFoundSealed head before t c len sums) joined (sealed_of_front head before mid.bytes left c len sums found),
+    subst (λ xs. IsTextSealed head before xs t len sums) joined (text_sealed_of_front head before mid.bytes left t len sums found),
     (
       ap (λ h. h.offset) is ∙ ap (λ n. n + (len + 8)) place,
-      ap (λ h. Some (h.bytes ++ left)) is ∙ ap Some (sym (drop-append-le (len + 8) mid.bytes left found.room) ∙ ap (drop (len + 8)) joined),
+      ap (λ h. Some (h.bytes ++ left)) is ∙ ap Some (sym (drop-append-le (len + 8) mid.bytes left found.found.room) ∙ ap (drop (len + 8)) joined),
     ),
   ),
 )
@@ -176,24 +184,36 @@ sealed_known head before old log left mid new None sums place joined tied (inr (
 )
 
 -- what comes next of a sealed log, where it is known
-pub is_ahead_sealed : (head before : List ℕ) (old mid new : Held) (had left : Option (List ℕ)) (found : Option Checkpoint) (sums : Sums) → IsRefilled old mid had left
+pub is_ahead_sealed : (head before : List ℕ) (old mid new : Held) (had left : Option (List ℕ)) (found : Option SealedText) (sums : Sums) → IsRefilled old mid had left
     → IsNextSealed head before mid (Some found) sums new → IfSome (ahead old had) (λ log. IsAheadSealed head before old log found sums new left)
 is_ahead_sealed head before old mid new None left found sums read next = tt
 is_ahead_sealed head before old mid new (Some xs) None found sums read next = absurd read.same
 is_ahead_sealed head before old mid new (Some xs) (Some ys) found sums read next = sealed_known head before old (old.bytes ++ xs) ys mid new found sums read.place read.same read.tied next
 
 -- the same for each way in which it is known
-pub for_all_sums : (old new : Held) (had left : Option (List ℕ)) (found : Option Checkpoint) (start sums : Sums)
+pub for_all_sums : (old new : Held) (had left : Option (List ℕ)) (found : Option SealedText) (start sums : Sums)
     → ((head before : List ℕ) → Seals start head before [] → IfSome (ahead old had) (λ log. IsAheadSealed head before old log found sums new left))
     → IfSome (ahead old had) (λ log. (head before : List ℕ) → Seals start head before [] → IsAheadSealed head before old log found sums new left)
 for_all_sums old new None left found start sums each = tt
 for_all_sums old new (Some xs) left found start sums each = λ head before seals. each head before seals
 
 -- a text that was taken is of the grammar, and summed up
-pub taken_sealed : (mid new : Held) (found : Option Checkpoint) (start sums : Sums) → ((head before : List ℕ) → Seals start head before [] → IsNextSealed head before mid (Some found) sums new)
-    → IfSome found (λ c. (head before : List ℕ) → Seals start head before [] → IsTakenSealed head before c sums)
+pub taken_sealed : (mid new : Held) (found : Option SealedText) (start sums : Sums) → ((head before : List ℕ) → Seals start head before [] → IsNextSealed head before mid (Some found) sums new)
+    → IfSome found (λ t. (head before : List ℕ) → Seals start head before [] → IsTakenSealed head before t sums)
 taken_sealed mid new None start sums each = tt
-taken_sealed mid new (Some c) start sums each = λ head before seals. let next = each head before seals in (take next.0 mid.bytes, (next.1.0.begins.is, next.1.0.next))
+taken_sealed mid new (Some t) start sums each = λ head before seals.
+    let next = each head before seals in
+    let is : IsTextSealed head before mid.bytes t next.0 sums = next.1.0 in
+    (take next.0 mid.bytes, (is.found.begins.is, (is.seal, subst (λ xs. Seals sums head xs []) (sym is.seal) is.found.next)))
+
+-- a text, and the seal that was read behind it
+pub text_next : (head before input bytes seal : List ℕ) (found : Sealed) (c : Checkpoint) (len : ℕ) (sums : Sums) → found ≡ Sealed.Text c len → input ≡ bytes → seal ≡ take 8 (drop len bytes) → IsSealedNext head before input found sums
+    → IsTextSealed head before bytes (record { checkpoint = c; seal = seal }) len sums
+text_next head before input bytes seal found c len sums is same read next =
+    let text : IsFoundSealed head before bytes c len sums = subst (λ xs. IsFoundSealed head before xs c len sums) same (subst (λ f. IsSealedNext head before input f sums) is next) in
+    let due : List ℕ = text_seal head before (take len bytes) in
+    let behind : drop len bytes ≡ due ++ drop (len + 8) bytes = append_cancel_left (take len bytes) (drop len bytes) (due ++ drop (len + 8) bytes) (take-append-drop len bytes ∙ text.begins.parts) in
+    record { found = text; seal = read ∙ ap (take 8) behind ∙ take_at due (drop (len + 8) bytes) 8 (length_seal (head ++ before ++ take len bytes)) }
 
 -- no text with its seal, whatever follows
 pub nothing_next : (head before input bytes : List ℕ) (found : Sealed) (new : Sums) (ended : Bool) → found ≡ Sealed.Nothing → input ≡ bytes → IsSealedNext head before input found new

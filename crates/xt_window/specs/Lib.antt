@@ -1,1 +1,4 @@
 pub mod Window
+pub mod Start
+pub mod Rest
+pub mod Ways

@@ -1,6 +1,6 @@
 -- A log that is read piece by piece: what is held of it, what is ahead, and why it was not read further.
 use Rattle.std.specs.Io.KnownBytes.{IsAtEnd, Keeps, prepend_known}
-use Rattle.std.specs.Prelude.{Bool, List, None, Option, Some, [], drop, false, length, true, ℕ, ◌+◌, ◌++◌, ◌<◌, ◌≡◌, ◌≤◌, ◌⊎◌}
+use Rattle.std.specs.Prelude.{Bool, List, None, Option, Some, [], drop, false, length, take, true, ℕ, ◌+◌, ◌++◌, ◌<◌, ◌≡◌, ◌≤◌, ◌⊎◌}
 use Rattle.xt_ckpt.specs.Fields.{IsFaultAt, IsUnfinished}
 use Rattle.xt_ckpt.specs.Grammar.{IsTextIn, entries}
 use Rattle.xt_ckpt.specs.Reading.{Begins}
@@ -11,6 +11,7 @@ use Rattle.xt_seal.specs.Sums.{Sums}
 use Rattle.xt_window.specs.declared.fault.LogFault.{LogFault}
 use Rattle.xt_window.specs.declared.fault.LogFault.TheVariants.{TooLong}
 use Rattle.xt_window.specs.declared.window.Found.{Found}
+use Rattle.xt_window.specs.declared.window.SealedText.{SealedText}
 
 -- what is held of a log: bytes that are not taken yet, their offset, whether the log ends with them, and the most bytes that it may have
 pub record Held : Type 0 where
@@ -76,22 +77,33 @@ is_too_long TooLong = true
 is_too_long other = false
 
 -- ---- a sealed log
+-- a text and the seal behind it begin the bytes, and both are summed up
+pub record IsTextSealed (head before bytes : List ℕ) (t : SealedText) (len : ℕ) (sums : Sums) : Type 0 where
+  pub found : IsFoundSealed head before bytes t.checkpoint len sums
+  pub seal : t.seal ≡ text_seal head before (take len bytes)
+
 -- what is held begins with a text and its seal, which are taken; or the log ends here, whatever stands here, and nothing is taken; or more is to be read
-abbrev pub IsNextSealed : List ℕ → List ℕ → Held → Option (Option Checkpoint) → Sums → Held → Type 0
-IsNextSealed head before old (Some (Some c)) sums new = (len : ℕ) × (IsFoundSealed head before old.bytes c len sums × (new ≡ taken (len + 8) old))
+abbrev pub IsNextSealed : List ℕ → List ℕ → Held → Option (Option SealedText) → Sums → Held → Type 0
+IsNextSealed head before old (Some (Some t)) sums new = (len : ℕ) × (IsTextSealed head before old.bytes t len sums × (new ≡ taken (len + 8) old))
 IsNextSealed head before old (Some None) sums new = (((more : List ℕ) → BeginsNoSealed head before (old.bytes ++ more)) ⊎ ((old.is_ended ≡ true) × BeginsNoSealed head before old.bytes)) × (new ≡ old)
 IsNextSealed head before old None sums new = (old.is_ended ≡ false) × (new ≡ old)
 
 -- what comes next of a sealed log that has these bytes from the offset on: a text with its seal, behind which the others are ahead; or none, and all of them are still ahead
-abbrev pub IsAheadSealed : List ℕ → List ℕ → Held → List ℕ → Option Checkpoint → Sums → Held → Option (List ℕ) → Type 0
-IsAheadSealed head before old log (Some c) sums new has = (len : ℕ) × (IsFoundSealed head before log c len sums × ((new.offset ≡ old.offset + (len + 8)) × (ahead new has ≡ Some (drop (len + 8) log))))
+abbrev pub IsAheadSealed : List ℕ → List ℕ → Held → List ℕ → Option SealedText → Sums → Held → Option (List ℕ) → Type 0
+IsAheadSealed head before old log (Some t) sums new has = (len : ℕ) × (IsTextSealed head before log t len sums × ((new.offset ≡ old.offset + (len + 8)) × (ahead new has ≡ Some (drop (len + 8) log))))
 IsAheadSealed head before old log None sums new has = BeginsNoSealed head before log × ((new.offset ≡ old.offset) × (ahead new has ≡ Some log))
 
 -- a text of the grammar was taken, and it and its seal are summed up
-abbrev pub IsTakenSealed : List ℕ → List ℕ → Checkpoint → Sums → Type 0
-IsTakenSealed head before c new = (text : List ℕ) × (IsTextIn c.size text c.no (entries c.items.items) × Seals new head (text_seal head before text) [])
+abbrev pub IsTakenSealed : List ℕ → List ℕ → SealedText → Sums → Type 0
+IsTakenSealed head before t new =
+    (text : List ℕ) × (IsTextIn t.checkpoint.size text t.checkpoint.no (entries t.checkpoint.items.items) × ((t.seal ≡ text_seal head before text) × Seals new head t.seal []))
+
+-- a text that was taken is one of the grammar, whatever was summed up
+abbrev pub IsTextTaken : Option SealedText → Type 0
+IsTextTaken (Some t) = (text : List ℕ) × IsTextIn t.checkpoint.size text t.checkpoint.no (entries t.checkpoint.items.items)
+IsTextTaken None = Unit {0}
 
 -- where no text is taken, nothing more is summed up
-abbrev pub IsSameUnlessTaken : Option (Option Checkpoint) → Sums → Sums → Type 0
-IsSameUnlessTaken (Some (Some c)) old new = Unit {0}
+abbrev pub IsSameUnlessTaken : Option (Option SealedText) → Sums → Sums → Type 0
+IsSameUnlessTaken (Some (Some t)) old new = Unit {0}
 IsSameUnlessTaken other old new = new ≡ old

@@ -2,4 +2,7 @@
 #![tactic(auto)]
 
 pub mod fault;
+pub mod rest;
+pub mod start;
+pub mod way;
 pub mod window;

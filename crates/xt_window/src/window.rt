@@ -1,8 +1,8 @@
 //! A log read piece by piece, of which only what is not yet taken as texts is held.
 
-ghost use Rattle.std.specs.Prelude.{◌+◌, ◌<◌, ◌≤◌, ◌≡◌, [], IfErr, IfOk, IfSome, IsNone, List, OnOk, false, length, ◌^◌, ℕ};
+ghost use Rattle.std.specs.Prelude.{◌+◌, ◌<◌, ◌≤◌, ◌≡◌, [], IfErr, IfOk, IfSome, IsNone, List, OnOk, drop, false, length, take, ◌^◌, ℕ};
 ghost use Rattle.xt_seal.specs.Seal.{Seals};
-ghost use Rattle.xt_window.specs.Window.{ahead, is_too_long, taken, unread, with_more, IsAhead, IsAheadSealed, IsNext, IsNextSealed, IsOfGrammar, IsRefilled, IsSameUnlessTaken, IsTakenSealed, IsTied, IsWhy};
+ghost use Rattle.xt_window.specs.Window.{ahead, is_too_long, taken, unread, with_more, IsAhead, IsAheadSealed, IsNext, IsNextSealed, IsOfGrammar, IsRefilled, IsSameUnlessTaken, IsTakenSealed, IsTextTaken, IsTied, IsWhy};
 
 use crate::fault::LogFault;
 use std::alloc::{AllocError, Global};
@@ -26,6 +26,13 @@ pub enum Found {
     Rest(u64),
     /// A field that breaks its rule, by its offset in the log.
     Fault(u64),
+}
+
+/// A text of a sealed log, and the seal that stands behind it.
+#[derive(Debug, Drop)]
+pub struct SealedText {
+    pub checkpoint: Checkpoint,
+    pub seal: [u8; SEAL_BYTES],
 }
 
 /// What is held of a log that is read. Clauses see the bytes that are not taken yet, their offset in the log, whether the log ends
@@ -68,7 +75,7 @@ impl Window {
     }
 
     /// The bytes that are not taken.
-    fn held(&self) -> &[u8]
+    pub(crate) fn held(&self) -> &[u8]
         ensures { result.now ≡ self.now.bytes }
     {
         &self.bytes[self.taken..]
@@ -83,14 +90,14 @@ impl Window {
     }
 
     /// Whether the log ends with them.
-    fn is_ended(&self) -> bool
+    pub(crate) fn is_ended(&self) -> bool
         ensures { result ≡ self.now.is_ended }
     {
         self.is_ended
     }
 
     /// The first bytes are taken.
-    fn take(&mut self, len: usize)
+    pub(crate) fn take(&mut self, len: usize)
         requires { len ≤ length self.old.bytes }
         ensures { self.new ≡ taken len self.old }
     {
@@ -162,10 +169,11 @@ impl Window {
         piece: &mut [u8],
         rooms: &mut Rooms,
         sealer: &mut Sealer,
-    ) -> Result<Option<Checkpoint>, LogFault>
+    ) -> Result<Option<SealedText>, LogFault>
         requires room { 0 < length piece.old }
         requires ended { IsTied self.old (R.remaining reader.old) }
-        ensures grammar { IfOk result (λ found. IfSome found (λ checkpoint. (head before : List ℕ) → Seals sealer.old head before [] → IsTakenSealed head before checkpoint sealer.new)) }
+        ensures grammar { IfOk result (λ found. IfSome found (λ text. (head before : List ℕ) → Seals sealer.old head before [] → IsTakenSealed head before text sealer.new)) }
+        ensures text { IfOk result IsTextTaken }
         ensures found { IfOk result (λ found. IfSome (ahead self.old (R.remaining reader.old)) (λ log. (head before : List ℕ) → Seals sealer.old head before [] → IsAheadSealed head before self.old log found sealer.new self.new (R.remaining reader.new))) }
         ensures none { IfOk result (λ found. IsNone found → sealer.new ≡ sealer.old) }
         ensures tied { OnOk result (IsTied self.new (R.remaining reader.new)) }
@@ -186,8 +194,9 @@ impl Window {
         &mut self,
         rooms: &mut Rooms,
         sealer: &mut Sealer,
-    ) -> Result<Option<Option<Checkpoint>>, LogFault>
+    ) -> Result<Option<Option<SealedText>>, LogFault>
         ensures judged { IfOk result (λ found. (head before : List ℕ) → Seals sealer.old head before [] → IsNextSealed head before self.old found sealer.new self.new) }
+        ensures text { IfOk result (λ found. IfSome found IsTextTaken) }
         ensures same { IfOk result (λ found. IsSameUnlessTaken found sealer.old sealer.new) }
         ensures more { IfOk result (λ found. IsNone found → (self.old.is_ended ≡ false) × (self.new ≡ self.old)) }
         ensures ended { OnOk result (self.new.is_ended ≡ self.old.is_ended) }
@@ -205,8 +214,9 @@ impl Window {
         &mut self,
         rooms: &mut Rooms,
         sealer: &mut Sealer,
-    ) -> Result<Option<Option<Checkpoint>>, LogFault>
+    ) -> Result<Option<Option<SealedText>>, LogFault>
         ensures judged { IfOk result (λ found. (head before : List ℕ) → Seals sealer.old head before [] → IsNextSealed head before self.old found sealer.new self.new) }
+        ensures text { IfOk result (λ found. IfSome found IsTextTaken) }
         ensures same { IfOk result (λ found. IsSameUnlessTaken found sealer.old sealer.new) }
         ensures more { IfOk result (λ found. IsNone found → (self.old.is_ended ≡ false) × (self.new ≡ self.old)) }
         ensures ended { OnOk result (self.new.is_ended ≡ self.old.is_ended) }
@@ -215,8 +225,8 @@ impl Window {
     {
         match judge_sealed(rooms, sealer, self.held()) {
             Ok(Sealed::Text(checkpoint, len)) => {
-                self.take(len + SEAL_BYTES);
-                Ok(Some(Some(checkpoint)))
+                let seal = self.take_sealed(len);
+                Ok(Some(Some(SealedText { checkpoint, seal })))
             }
             Ok(Sealed::Nothing) => Ok(Some(None)),
             Ok(Sealed::More) if self.is_ended() => Ok(Some(None)),
@@ -225,8 +235,24 @@ impl Window {
         }
     }
 
+    /// A text of so many bytes is taken, and the seal behind it, which is answered.
+    fn take_sealed(&mut self, len: usize) -> [u8; SEAL_BYTES]
+        requires { len + 8 ≤ length self.old.bytes }
+        ensures seal { result ≡ take 8 (drop len self.old.bytes) }
+        ensures taken { self.new ≡ taken (len + 8) self.old }
+    {
+        let mut seal = [0; SEAL_BYTES];
+        seal.copy_from_slice(&self.held()[len..len + SEAL_BYTES]);
+        self.take(len + SEAL_BYTES);
+        seal
+    }
+
     /// Reads some more bytes behind what is held.
-    fn refill<R: Read>(&mut self, reader: &mut R, piece: &mut [u8]) -> Result<(), LogFault>
+    pub(crate) fn refill<R: Read>(
+        &mut self,
+        reader: &mut R,
+        piece: &mut [u8],
+    ) -> Result<(), LogFault>
         requires room { 0 < length piece.old }
         requires going { self.old.is_ended ≡ false }
         ensures more { OnOk result (IsRefilled self.old self.new (R.remaining reader.old) (R.remaining reader.new)) }
