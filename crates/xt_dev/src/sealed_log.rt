@@ -18,13 +18,16 @@ use std::io;
 use std::path::AsPath;
 use std::rt::Files;
 use xt_base::sizes::PIECE_BYTES;
-use xt_seal::Header;
+use xt_seal::{HEADER_BYTES, Header};
 
 /// A log in two files, which are written by turns. Each begins with a header, and behind each text stands its seal, so that a reader tells the texts that
 /// were written whole from whatever a loss of power left behind them. A text stands in one file, whole. Where one comes with which the texts of the file
 /// that is written would have more bytes than the log of the mount, `log_bytes` of the header, the other file is emptied and written from then on. What it had is
 /// of no use any more: the texts behind it have more bytes than all that a mount may still need. No text is longer than the log of its mount. So a file
 /// has at most as many bytes of texts as that log, 8 for each text's seal, and 64 of the header, unless the system refuses to empty the other one.
+///
+/// Behind its texts a file may have zeros, written ahead so that a sync makes no new length safe: whole pages, never beyond the header and as many bytes as
+/// the log has, nor more than 263,212 bytes behind the last seal that is safe, which a reader takes for a torn end.
 ///
 /// A failed call may leave a part of its bytes at the end; from then on each call fails, since what would stand behind such a part could not be read.
 #[derive(Drop)]
@@ -51,8 +54,9 @@ impl SealedLog {
         ensures loses { IfOk result (λ log. ⟦<SealedLog as LogDevice>⟧.log_loses log ≡ Some header.log_bytes) }
         ensures fault { IfOk result (λ log. sealed_fault log ≡ None) }
     {
-        let first = LogFile::open(files, first)?;
-        let second = LogFile::open(files, second)?;
+        let most = u64::from(header.log_bytes) + HEADER_BYTES as u64;
+        let first = LogFile::open(files, first, most)?;
+        let second = LogFile::open(files, second, most)?;
         Ok(SealedLog {
             files: SealedFiles::begin(first, second, header)?,
             fault: None,
