@@ -12,7 +12,7 @@ use Rattle.std.specs.List.{AllByRecursion}
 use Rattle.std.proofs.lemmas.List.Elements.{All-from_recursion}
 use Rattle.xt_recover.proofs.LaidLemmas.{items_size, read_entry}
 use Rattle.xt_recover.specs.Reading.{AreTexts, IsMixedAt, IsStoppedAt, ReadsAs}
-use Rattle.xt_recover.specs.Gathering.{IsGathered, IsItemWithin, IsWhyLog, IsWhyNotLaid, SaysAlike, SaysOther, for_text, has_offset}
+use Rattle.xt_recover.specs.Gathering.{IsGathered, IsItemWithin, IsWhyLog, IsWhyNotLaid, SaysAlike, SaysOther, for_text, is_of_log}
 use Rattle.xt_recover.specs.declared.gather.LogCounts.{LogCounts}
 use Rattle.xt_recover.specs.declared.gather.LogFault.{LogFault}
 use Rattle.xt_ckpt.specs.declared.reading.Checkpoint.{Checkpoint}
@@ -35,7 +35,7 @@ so_far_none log size = record { done = []; front = []; parts = refl; place = ref
 
 -- ---- what a text says of the size of a block
 -- the overlay for a text has its size
-size_for : (count : ℕ) (size : Option ℕ) (l : Overlaid) → SaysAlike count size l → (for_text count size l).size ≡ size
+pub size_for : (count : ℕ) (size : Option ℕ) (l : Overlaid) → SaysAlike count size l → (for_text count size l).size ≡ size
 size_for count size l (inl first) = ap (λ (t : Bool). (if t then nothing size else l).size) (eq-eqb count 0 first)
 size_for count size l (inr same) = by_first (count == 0)
   where
@@ -57,7 +57,7 @@ so_far_for log at (suc n) size now so =
     subst (IsSoFar log at (suc n)) (sym (ap (λ (t : Bool). if t then nothing size else now) (ne_eqb (suc n) 0 (λ same. omega (arith, same))))) so
 
 -- ---- one text more
-texts_more : (ts : List (List Entry)) (t : List Entry) (l : Overlaid) → with_texts (ts ++ t ∷ []) l ≡ with_items t (with_texts ts l)
+pub texts_more : (ts : List (List Entry)) (t : List Entry) (l : Overlaid) → with_texts (ts ++ t ∷ []) l ≡ with_items t (with_texts ts l)
 texts_more [] t l = refl
 texts_more (x ∷ xs) t l = texts_more xs t (with_items x l)
 
@@ -103,7 +103,7 @@ so_far_end log at counts now so rest ends = record {
 read_item : (size : Option ℕ) (here : List ℕ) (item : Item) → IsItem size here (entry item) → HasForm item × IsItemWithin size item
 read_item size here item is = let one = read_entry size here (entry item) is in (one.form, one.within)
 
-forms_of : (size : Option ℕ) (least : ℕ) (bytes : List ℕ) (items : List Item) → AreItems size least bytes (entries items) → AllByRecursion HasForm items × AllByRecursion (IsItemWithin size) items
+pub forms_of : (size : Option ℕ) (least : ℕ) (bytes : List ℕ) (items : List Item) → AreItems size least bytes (entries items) → AllByRecursion HasForm items × AllByRecursion (IsItemWithin size) items
 forms_of size least bytes [] h = (tt, tt)
 forms_of size least bytes (i ∷ is) h =
     let one = read_item size h.0 i h.4 in
@@ -133,13 +133,18 @@ pub record Stands (log : List ℕ) (h : Held) (left : Option (List ℕ)) (count 
   pub so : IsSoFar log h.offset count now
   pub same : ahead h left ≡ Some (drop h.offset log)
 
--- nothing is read
-pub stands_first : (limit : ℕ) (had : Option (List ℕ)) (h : Held) (l : Overlaid) → h ≡ unread limit → l ≡ nothing None → IfSome had (λ log. Stands log h had 0 l)
-stands_first limit None h l is none = tt
-stands_first limit (Some log) h l is none = record {
-  so = subst (λ n. IsSoFar log n 0 l) (sym (ap (λ w. w.offset) is)) (subst (IsSoFar log 0 0) (sym none) (so_far_none log None));
-  same = ap (λ w. Some (w.bytes ++ log)) is ∙ ap (λ n. Some (drop n log)) (sym (ap (λ w. w.offset) is));
+-- nothing is taken
+pub stands_first : (left : Option (List ℕ)) (h : Held) (l : Overlaid) → h.offset ≡ 0 → l ≡ nothing None → IfSome (ahead h left) (λ log. Stands log h left 0 l)
+stands_first None h l first none = tt
+stands_first (Some xs) h l first none = let log : List ℕ = h.bytes ++ xs in record {
+  so = subst (λ n. IsSoFar log n 0 l) (sym first) (subst (IsSoFar log 0 0) (sym none) (so_far_none log None));
+  same = ap (λ n. Some (drop n log)) (sym first);
 }
+
+-- what is ahead of a window of which nothing is read is the log
+pub ahead_unread : (limit : ℕ) (h : Held) (left : Option (List ℕ)) (P : List ℕ → Type 0) → h ≡ unread limit → IfSome (ahead h left) P → IfSome left P
+ahead_unread limit h None P is x = tt
+ahead_unread limit h (Some log) P is x = subst P (ap (λ w. w.bytes ++ log) is) x
 
 -- what is ahead is the rest of the log
 rest_of : (log : List ℕ) (h : Held) (left : Option (List ℕ)) (count : ℕ) (now : Overlaid) (P : List ℕ → Type 0) → Stands log h left count now → IfSome (ahead h left) P → P (drop h.offset log)
@@ -219,10 +224,13 @@ why_not_laid (Some log) h past left has count now found c offset fault is s next
     (mixed_of log h past left has count now c offset s (subst (λ f. IsAhead h (drop h.offset log) f past has) is (rest_of log h left count now (λ t. IsAhead h t found past has) s next)) other.1 at)
 
 -- another fault
-pub why_other : (had : Option (List ℕ)) (fault : LogFault) → has_offset fault ≡ false → IfSome had (λ log. IsWhyLog log fault)
+pub why_other : (had : Option (List ℕ)) (fault : LogFault) → is_of_log fault ≡ false → IfSome had (λ log. IsWhyLog log fault)
 why_other None fault other = tt
 why_other (Some log) (LogFault.Broken offset) other = absurd (true≢false other)
 why_other (Some log) (LogFault.Mixed offset) other = absurd (true≢false other)
+why_other (Some log) (LogFault.Rotten which offset) other = absurd (true≢false other)
+why_other (Some log) LogFault.Strange other = absurd (true≢false other)
+why_other (Some log) (LogFault.Foreign whose) other = absurd (true≢false other)
 why_other (Some log) LogFault.Memory other = tt
 why_other (Some log) LogFault.Read other = tt
 

@@ -8,11 +8,13 @@ use Rattle.xt_base.specs.Maps.{at, has}
 use Rattle.xt_base.specs.Sound.{RisesFrom}
 use Rattle.xt_base.specs.Text.{chunk, chunk_bytes, content_at, zeros}
 use Rattle.xt_dev.specs.declared.call.HomeCall.{HomeCall}
-use Rattle.xt_recover.proofs.LaidLemmas.{IsGoodSet, IsWellLaid, chunk_laid, gathered_kept, gathered_says, good_of}
+use Rattle.xt_recover.proofs.LaidLemmas.{AreOfGrammar, IsGoodSet, IsWellLaid, chunk_laid, gathered_kept, gathered_says, good_of, read_of_grammar}
 use Rattle.xt_recover.proofs.SaidLemmas.{chunk_found}
 use Rattle.xt_recover.specs.Gathering.{IsGathered, IsWhyLog}
-use Rattle.xt_recover.specs.Overlaid.{Overlaid, overlaid_chunk}
-use Rattle.xt_recover.specs.Recovering.{AreAnswered, CanBreakOff, HaveBytes, HaveNoSync, IsCounted, IsTorn, IsWhy, MayLeave, TellsBrokenOff, TellsRecovered, with_block}
+use Rattle.xt_ckpt.specs.Grammar.{Entry}
+use Rattle.xt_recover.specs.Overlaid.{Overlaid, nothing, overlaid_chunk, with_texts}
+use Rattle.xt_recover.specs.Reading.{ReadsAs}
+use Rattle.xt_recover.specs.Recovering.{AreAnswered, CanBreakOff, HaveBytes, HaveNoSync, IsCounted, IsTorn, IsWhy, MayLeave, TellsBrokenOff, TellsBrokenOffBy, TellsRecovered, TellsRecoveredBy, with_block}
 use Rattle.xt_recover.specs.declared.gather.LogCounts.{LogCounts}
 use Rattle.xt_recover.specs.declared.gather.LogFault.{LogFault}
 use Rattle.xt_recover.specs.declared.recovering.RecoverFault.{RecoverFault}
@@ -146,37 +148,54 @@ others_left l calls first old left h (GoOn.block b content read ok rest own whol
     others_left l rest first may.1.0 left h goes may.1.2 (torn_others l b content read first old may.1.0 h own whole may.0 may.1.1 others)
 others_left l calls first old left h (GoOn.sync ok) may others = agrees_others l first old left may others
 
--- what was gathered says what the texts say
-gathered_chunk : (log : List ℕ) (counts : LogCounts) (l : Overlaid) (gathered : IsGathered log counts l) (b k : ℕ) → HasChunk (block_size l.size) k → overlaid_chunk l b k ≡ chunk_in_texts (reverse gathered.texts) b k
-gathered_chunk log counts l gathered b k less = ap (λ m. overlaid_chunk m b k) gathered.laid ∙ gathered_says l.size log gathered.texts b k gathered.read less
+-- texts that are read so, and were laid one after another
+pub record AreLaid (Reads : Option ℕ → List (List Entry) → Type 0) (l : Overlaid) : Type 0 where
+  pub texts : List (List Entry)
+  pub read : Reads l.size texts
+  pub grammar : AreOfGrammar l.size texts
+  pub laid : l ≡ with_texts texts (nothing l.size)
 
-well_laid : (log : List ℕ) (counts : LogCounts) (l : Overlaid) → IsGathered log counts l → IsWellLaid l
-well_laid log counts l gathered = subst IsWellLaid (sym gathered.laid) (gathered_kept l.size log gathered.texts gathered.read)
+pub laid_as : (log : List ℕ) (counts : LogCounts) (l : Overlaid) → IsGathered log counts l → AreLaid (λ size texts. ReadsAs size log texts) l
+laid_as log counts l gathered = record { texts = gathered.texts; read = gathered.read; grammar = read_of_grammar l.size log gathered.texts gathered.read; laid = gathered.laid }
 
-can_break_off : (log : List ℕ) (counts : LogCounts) (l : Overlaid) (calls : List HomeCall) (gathered : IsGathered log counts l) → GoOn l calls → CanBreakOff (block_size l.size) gathered.texts calls
-can_break_off log counts l calls gathered goes n old left may b k less =
-    let others : HasOthers l old left = others_left l (take n calls) old old left (well_laid log counts l gathered) (go_on_take l n calls goes) may (λ q j small none. refl) in
-    replayed_again (reverse gathered.texts) old left b k (λ none. others b k less (gathered_chunk log counts l gathered b k less ∙ none))
+-- what was laid says what the texts say
+laid_chunk : (Reads : Option ℕ → List (List Entry) → Type 0) (l : Overlaid) (from : AreLaid Reads l) (b k : ℕ) → HasChunk (block_size l.size) k → overlaid_chunk l b k ≡ chunk_in_texts (reverse from.texts) b k
+laid_chunk Reads l from b k less = ap (λ m. overlaid_chunk m b k) from.laid ∙ gathered_says l.size from.texts b k from.grammar less
+
+well_laid : (Reads : Option ℕ → List (List Entry) → Type 0) (l : Overlaid) → AreLaid Reads l → IsWellLaid l
+well_laid Reads l from = subst IsWellLaid (sym from.laid) (gathered_kept l.size from.texts from.grammar)
+
+can_break_off : (Reads : Option ℕ → List (List Entry) → Type 0) (l : Overlaid) (calls : List HomeCall) (from : AreLaid Reads l) → GoOn l calls → CanBreakOff (block_size l.size) from.texts calls
+can_break_off Reads l calls from goes n old left may b k less =
+    let others : HasOthers l old left = others_left l (take n calls) old old left (well_laid Reads l from) (go_on_take l n calls goes) may (λ q j small none. refl) in
+    replayed_again (reverse from.texts) old left b k (λ none. others b k less (laid_chunk Reads l from b k less ∙ none))
 
 -- a call of the device failed
-pub broken_off : (log : List ℕ) (counts : LogCounts) (l : Overlaid) (told tell : Bool) (before after : List HomeCall) → IsGathered log counts l → TellsStopped l told before tell after → TellsBrokenOff log told before tell after
-broken_off log counts l told tell before after from stopped =
-    record { size = l.size; texts = from.texts; read = from.read; calls = stopped.calls; bytes = have_bytes l stopped.calls (well_laid log counts l from) stopped.goes; tells = stopped.tells; again = can_break_off log counts l stopped.calls from stopped.goes }
+pub broken_off : (Reads : Option ℕ → List (List Entry) → Type 0) (l : Overlaid) (told tell : Bool) (before after : List HomeCall) → AreLaid Reads l → TellsStopped l told before tell after → TellsBrokenOffBy Reads told before tell after
+broken_off Reads l told tell before after from stopped = record {
+  size = l.size;
+  texts = from.texts;
+  read = from.read;
+  calls = stopped.calls;
+  bytes = have_bytes l stopped.calls (well_laid Reads l from) stopped.goes;
+  tells = stopped.tells;
+  again = can_break_off Reads l stopped.calls from stopped.goes;
+}
 
 -- no block that is written asks for a sync
 no_sync : (l : Overlaid) (es : List (ℕ × List ℕ)) (calls : List HomeCall) → AreWritten l es calls → HaveNoSync calls
 no_sync l [] calls written = subst HaveNoSync (sym written) tt
 no_sync l (e ∷ es) calls written = subst HaveNoSync (sym written.4) (no_sync l es written.1 written.5)
 
--- what was gathered of a log and written over a device
-pub recovered_tells : (log : List ℕ) (counts : LogCounts) (l : Overlaid) (told tell : Bool) (before after : List HomeCall) → IsGathered log counts l → TellsWritten l told before tell after → TellsRecovered log told before tell after
-recovered_tells log counts l told tell before after gathered written =
-    let kept : IsWellLaid l = well_laid log counts l gathered in
+-- what was laid, written over a device
+pub recovered_tells : (Reads : Option ℕ → List (List Entry) → Type 0) (l : Overlaid) (told tell : Bool) (before after : List HomeCall) → AreLaid Reads l → TellsWritten l told before tell after → TellsRecoveredBy Reads told before tell after
+recovered_tells Reads l told tell before after from written =
+    let kept : IsWellLaid l = well_laid Reads l from in
     let goes : GoOn l (written.calls ++ []) = go_written l l.contents written.calls [] written.written GoOn.nothing in
     record {
       size = l.size;
-      texts = gathered.texts;
-      read = gathered.read;
+      texts = from.texts;
+      read = from.read;
       calls = written.calls;
       bytes = subst (HaveBytes (block_size l.size)) (append-nil written.calls) (have_bytes l (written.calls ++ []) kept goes);
       unsynced = no_sync l l.contents written.calls written.written;
@@ -184,18 +203,18 @@ recovered_tells log counts l told tell before after gathered written =
       image = λ old new answered b k less.
           image_written l 0 l.contents written.calls old new b k kept kept.contents_rise kept.whole written.written answered less
           ∙ says_at l b k (at b l.contents) (old b k) refl kept
-          ∙ ap (λ o. unwrap_or o (old b k)) (gathered_chunk log counts l gathered b k less);
-      again = subst (CanBreakOff (block_size l.size) gathered.texts) (append-nil written.calls) (can_break_off log counts l (written.calls ++ []) gathered goes);
+          ∙ ap (λ o. unwrap_or o (old b k)) (laid_chunk Reads l from b k less);
+      again = subst (CanBreakOff (block_size l.size) from.texts) (append-nil written.calls) (can_break_off Reads l (written.calls ++ []) from goes);
     }
 
 -- ---- a log that is known, or not
 pub recovered_known : (had : Option (List ℕ)) (counts : LogCounts) (l : Overlaid) (told tell : Bool) (before after : List HomeCall) → IfSome had (λ log. IsGathered log counts l) → TellsWritten l told before tell after → IfSome had (λ log. TellsRecovered log told before tell after)
 recovered_known None counts l told tell before after gathered written = tt
-recovered_known (Some log) counts l told tell before after gathered written = recovered_tells log counts l told tell before after gathered written
+recovered_known (Some log) counts l told tell before after gathered written = recovered_tells (λ size texts. ReadsAs size log texts) l told tell before after (laid_as log counts l gathered) written
 
 pub broken_known : (had : Option (List ℕ)) (counts : LogCounts) (l : Overlaid) (told tell : Bool) (before after : List HomeCall) → IfSome had (λ log. IsGathered log counts l) → TellsStopped l told before tell after → IfSome had (λ log. TellsBrokenOff log told before tell after)
 broken_known None counts l told tell before after gathered stopped = tt
-broken_known (Some log) counts l told tell before after gathered stopped = broken_off log counts l told tell before after gathered stopped
+broken_known (Some log) counts l told tell before after gathered stopped = broken_off (λ size texts. ReadsAs size log texts) l told tell before after (laid_as log counts l gathered) stopped
 
 -- how much that was
 pub counted_known : (had : Option (List ℕ)) (counts : LogCounts) (l : Overlaid) (blocks : ℕ) → IfSome had (λ log. IsGathered log counts l) → blocks ≡ length l.contents → IfSome had (λ log. IsCounted log (record { texts = counts.texts; blocks = blocks; rest = counts.rest }))

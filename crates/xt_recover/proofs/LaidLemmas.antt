@@ -18,7 +18,7 @@ use Rattle.xt_base.specs.Form.{form_of, is_size}
 use Rattle.xt_base.specs.Sized.{IsWithin}
 use Rattle.xt_base.specs.Sound.{IsRising}
 use Rattle.xt_base.specs.Text.{chunk, content_at, zeros}
-use Rattle.xt_ckpt.specs.Grammar.{AreItems, Entry, IsItem}
+use Rattle.xt_ckpt.specs.Grammar.{AreItems, Entry, IsItem, IsTextIn}
 use Rattle.xt_recover.proofs.PlaceLemmas.{places_are}
 use Rattle.xt_recover.proofs.SizeLemmas.{within_map}
 use Rattle.xt_recover.specs.Sizes.{block_size}
@@ -369,34 +369,43 @@ read_entries size n bytes (e ∷ es) h =
 chunk_below : (size : Option ℕ) (k : ℕ) → is_size size ≡ true → HasChunk (block_size size) k → k < 32
 chunk_below size k one_of there = chunk_small (form_of size) (form_is size one_of) k there
 
--- what is gathered of texts that are read gives what they give
-texts_say : (bytes : List ℕ) (ts done : List (List Entry)) (l : Overlaid) (b k : ℕ) → ReadsAs l.size bytes ts → IsWellLaid l → HasChunk (block_size l.size) k → overlaid_chunk l b k ≡ chunk_in_texts done b k
+-- texts of the grammar, which all say this of the size of a block
+abbrev pub AreOfGrammar : Option ℕ → List (List Entry) → Type 0
+AreOfGrammar size [] = Unit {0}
+AreOfGrammar size (t ∷ ts) = (text : List ℕ) × (number : ℕ) × IsTextIn size text number t × AreOfGrammar size ts
+
+pub read_of_grammar : (size : Option ℕ) (bytes : List ℕ) (ts : List (List Entry)) → ReadsAs size bytes ts → AreOfGrammar size ts
+read_of_grammar size bytes [] read = tt
+read_of_grammar size bytes (t ∷ ts) read = (read.0, read.2, read.3, read_of_grammar size read.1 ts read.5)
+
+-- what is gathered of such texts gives what they give
+texts_say : (ts done : List (List Entry)) (l : Overlaid) (b k : ℕ) → AreOfGrammar l.size ts → IsWellLaid l → HasChunk (block_size l.size) k → overlaid_chunk l b k ≡ chunk_in_texts done b k
     → (overlaid_chunk (with_texts ts l) b k ≡ chunk_in_texts (reverse_aux ts done) b k) × IsWellLaid (with_texts ts l)
-texts_say bytes [] done l b k read h there same = (same, h)
-texts_say bytes (t ∷ ts) done l b k read h there same =
-    let text = read.3 in
+texts_say [] done l b k texts h there same = (same, h)
+texts_say (t ∷ ts) done l b k texts h there same =
+    let text = texts.2 in
     let parts = read_entries l.size 0 text.body t text.each in
     let one = items_say 0 t l b k parts.0 parts.1 h (chunk_below l.size k text.sized there) in
     let next : Overlaid = with_items t l in
     let size : next.size ≡ l.size = items_size t l in
-    texts_say read.1 ts (t ∷ done) next b k (subst (λ s. ReadsAs s read.1 ts) (sym size) read.5) one.1 (subst (λ s. HasChunk (block_size s) k) (sym size) there) (one.0 ∙ ap (chunk_over (entry_of b t) k) same)
+    texts_say ts (t ∷ done) next b k (subst (λ s. AreOfGrammar s ts) (sym size) texts.3) one.1 (subst (λ s. HasChunk (block_size s) k) (sym size) there) (one.0 ∙ ap (chunk_over (entry_of b t) k) same)
 
 -- nothing is well laid
 nothing_laid : (size : Option ℕ) → IsWellLaid (nothing size)
 nothing_laid size = record { chunks_rise = tt; contents_rise = tt; whole = λ c v is. absurd (cc); both = λ c none. refl; sets = λ c set is. absurd (cc) }
 
-pub gathered_says : (size : Option ℕ) (bytes : List ℕ) (ts : List (List Entry)) (b k : ℕ) → ReadsAs size bytes ts → HasChunk (block_size size) k → overlaid_chunk (with_texts ts (nothing size)) b k ≡ chunk_in_texts (reverse ts) b k
-gathered_says size bytes ts b k read there = (texts_say bytes ts [] (nothing size) b k read (nothing_laid size) there refl).0
+pub gathered_says : (size : Option ℕ) (ts : List (List Entry)) (b k : ℕ) → AreOfGrammar size ts → HasChunk (block_size size) k → overlaid_chunk (with_texts ts (nothing size)) b k ≡ chunk_in_texts (reverse ts) b k
+gathered_says size ts b k texts there = (texts_say ts [] (nothing size) b k texts (nothing_laid size) there refl).0
 
--- texts that are read leave what is gathered well laid
-texts_kept : (bytes : List ℕ) (ts : List (List Entry)) (l : Overlaid) → ReadsAs l.size bytes ts → IsWellLaid l → IsWellLaid (with_texts ts l)
-texts_kept bytes [] l read h = h
-texts_kept bytes (t ∷ ts) l read h =
-    let text = read.3 in
+-- texts leave what is gathered well laid
+texts_kept : (ts : List (List Entry)) (l : Overlaid) → AreOfGrammar l.size ts → IsWellLaid l → IsWellLaid (with_texts ts l)
+texts_kept [] l texts h = h
+texts_kept (t ∷ ts) l texts h =
+    let text = texts.2 in
     let parts = read_entries l.size 0 text.body t text.each in
     let one = items_say 0 t l 0 0 parts.0 parts.1 h (omega arith) in
-    texts_kept read.1 ts (with_items t l) (subst (λ s. ReadsAs s read.1 ts) (sym (items_size t l)) read.5) one.1
+    texts_kept ts (with_items t l) (subst (λ s. AreOfGrammar s ts) (sym (items_size t l)) texts.3) one.1
 
 -- contents that are gathered are whole, and both maps rise
-pub gathered_kept : (size : Option ℕ) (bytes : List ℕ) (ts : List (List Entry)) → ReadsAs size bytes ts → IsWellLaid (with_texts ts (nothing size))
-gathered_kept size bytes ts read = texts_kept bytes ts (nothing size) read (nothing_laid size)
+pub gathered_kept : (size : Option ℕ) (ts : List (List Entry)) → AreOfGrammar size ts → IsWellLaid (with_texts ts (nothing size))
+gathered_kept size ts texts = texts_kept ts (nothing size) texts (nothing_laid size)

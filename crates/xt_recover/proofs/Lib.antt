@@ -13,3 +13,5 @@ pub mod LaidLemmas
 pub mod GatherLemmas
 pub mod WriteLemmas
 pub mod ImageLemmas
+pub mod FilesLemmas
+pub mod LookLemmas

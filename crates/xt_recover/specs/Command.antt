@@ -45,6 +45,8 @@ abbrev pub IsOutcomePrinted : Result Recovered CommandFault → Option (List ℕ
 IsOutcomePrinted (Ok found) old new status = IsPrintedOr1 0 (recovered_lines found) old new status
 IsOutcomePrinted (Err (CommandFault.Recover (RecoverFault.Log (LogFault.Broken offset)))) old new status = IsPrintedOr1 3 (fault_line offset) old new status
 IsOutcomePrinted (Err (CommandFault.Recover (RecoverFault.Log (LogFault.Mixed offset)))) old new status = IsPrintedOr1 3 (fault_line offset) old new status
+IsOutcomePrinted (Err (CommandFault.Recover (RecoverFault.Log (LogFault.Rotten which offset)))) old new status = IsPrintedOr1 3 (fault_line offset) old new status
+IsOutcomePrinted (Err (CommandFault.Recover (RecoverFault.Log LogFault.Strange))) old new status = IsPrintedOr1 3 (fault_line 0) old new status
 IsOutcomePrinted (Err other) old new status = (status ≡ 1) × Keeps old new
 
 -- the exit statuses

@@ -1,10 +1,10 @@
 -- What was gathered of a log.
-use Rattle.std.specs.Prelude.{Bool, List, Option, false, if◌then◌else◌, length, take, true, ℕ, ◌<◌, ◌==◌, ◌≡◌, ◌≢◌, ◌≤◌, ◌⊎◌}
+use Rattle.std.specs.Prelude.{Bool, List, Option, false, if◌then◌else◌, length, true, ℕ, ◌<◌, ◌==◌, ◌≡◌, ◌≢◌, ◌⊎◌}
 use Rattle.xt_base.specs.Sized.{IsWithin}
-use Rattle.xt_ckpt.specs.Grammar.{Entry, IsTextIn}
+use Rattle.xt_ckpt.specs.Grammar.{Entry}
 use Rattle.xt_ckpt.specs.declared.item.Item.{Item}
 use Rattle.xt_recover.specs.Reading.{HasTexts, IsBrokenAt, IsMixedAt, ReadsAs}
-use Rattle.xt_recover.specs.Overlaid.{Overlaid, nothing, with_items, with_texts}
+use Rattle.xt_recover.specs.Overlaid.{Overlaid, nothing, with_texts}
 use Rattle.xt_recover.specs.Sizes.{block_size}
 use Rattle.xt_recover.specs.declared.gather.LogCounts.{LogCounts}
 use Rattle.xt_recover.specs.declared.gather.LogFault.{LogFault}
@@ -38,14 +38,17 @@ pub record IsGathered (log : List ℕ) (counts : LogCounts) (l : Overlaid) : Typ
   pub laid : l ≡ with_texts texts (nothing l.size)
 
 -- why a log was not gathered: the field at the offset that is told breaks its rule, or the text that begins there says something else of the size
--- of a block than those before it; of want of memory, and of a reader, nothing is said
+-- of a block than those before it; of want of memory, and of a reader, nothing is said; any other fault is one of a log in two files
 abbrev pub IsWhyLog : List ℕ → LogFault → Type 0
 IsWhyLog log (LogFault.Broken offset) = IsBrokenAt offset log
 IsWhyLog log (LogFault.Mixed offset) = IsMixedAt offset log
+IsWhyLog log (LogFault.Rotten which offset) = ⊥
+IsWhyLog log LogFault.Strange = ⊥
+IsWhyLog log (LogFault.Foreign whose) = ⊥
 IsWhyLog log other = Unit {0}
 
--- whether a fault tells of an offset
-abbrev pub has_offset : LogFault → Bool
-has_offset (LogFault.Broken offset) = true
-has_offset (LogFault.Mixed offset) = true
-has_offset other = false
+-- whether a fault is one of the log, and not of memory or its reader
+abbrev pub is_of_log : LogFault → Bool
+is_of_log LogFault.Memory = false
+is_of_log LogFault.Read = false
+is_of_log other = true

@@ -6,7 +6,10 @@ pub mod SealedPromise
 pub mod SealedFiles
 pub mod Chunks
 pub mod Overlaid
+pub mod FilesRead
+pub mod FilesGathering
 pub mod Gathering
 pub mod Writing
 pub mod Recovering
 pub mod Command
+pub mod FilesCommand

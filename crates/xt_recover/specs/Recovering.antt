@@ -5,11 +5,15 @@ use Rattle.xt_base.specs.declared.steps.HomeOffer.{HomeOffer}
 use Rattle.xt_ckpt.specs.Grammar.{Entry}
 use Rattle.xt_dev.specs.Devices.{Tells}
 use Rattle.xt_dev.specs.declared.call.HomeCall.{HomeCall}
+use Rattle.xt_recover.specs.FilesRead.{IsRead, ReadsLog}
+use Rattle.xt_recover.specs.FilesGathering.{IsWhyLogFiles}
 use Rattle.xt_recover.specs.Gathering.{IsWhyLog}
-use Rattle.xt_recover.specs.Overlaid.{nothing, with_texts}
+use Rattle.xt_recover.specs.Overlaid.{Overlaid, nothing, with_texts}
 use Rattle.xt_recover.specs.Reading.{HasTexts, ReadsAs}
 use Rattle.xt_recover.specs.Replay.{replayed_image}
 use Rattle.xt_recover.specs.Sizes.{block_size}
+use Rattle.xt_recover.specs.declared.gather.LogCounts.{LogCounts}
+use Rattle.xt_recover.specs.declared.recovering.FilesRecovered.{FilesRecovered}
 use Rattle.xt_recover.specs.declared.recovering.RecoverFault.{RecoverFault}
 use Rattle.xt_recover.specs.declared.recovering.Recovered.{Recovered}
 use Rattle.xt_recover.specs.declared.writing.WriteFault.{WriteFault}
@@ -59,12 +63,12 @@ MayLeave bytes (HomeCall.Offer (HomeOffer.Sync ok) ∷ cs) old left = MayLeave b
 abbrev pub CanBreakOff : ℕ → List (List Entry) → List HomeCall → Type 0
 CanBreakOff bytes texts calls = (n : ℕ) (old left : Image) → MayLeave bytes (take n calls) old left → Agree bytes (replayed_image (reverse texts) left) (replayed_image (reverse texts) old)
 
--- the device was told calls that end with their one sync, of blocks of the size that the texts say, and if it answered them as an image does, its
--- image is the one that the texts of the log, laid over it the newest first, give
-pub record TellsRecovered (log : List ℕ) (told : Bool) (before : List HomeCall) (tell : Bool) (after : List HomeCall) : Type 0 where
+-- the device was told calls that end with their one sync, of blocks of the size that the texts say which are read so, and if it answered them as an image
+-- does, its image is the one that these texts, laid over it the newest first, give
+pub record TellsRecoveredBy (Reads : Option ℕ → List (List Entry) → Type 0) (told : Bool) (before : List HomeCall) (tell : Bool) (after : List HomeCall) : Type 0 where
   pub size : Option ℕ
   pub texts : List (List Entry)
-  pub read : ReadsAs size log texts
+  pub read : Reads size texts
   pub calls : List HomeCall
   pub bytes : HaveBytes (block_size size) calls
   pub unsynced : HaveNoSync calls
@@ -73,14 +77,28 @@ pub record TellsRecovered (log : List ℕ) (told : Bool) (before : List HomeCall
   pub again : CanBreakOff (block_size size) texts calls
 
 -- the device was told such calls up to one that failed, and recovery can be run again over what they left
-pub record TellsBrokenOff (log : List ℕ) (told : Bool) (before : List HomeCall) (tell : Bool) (after : List HomeCall) : Type 0 where
+pub record TellsBrokenOffBy (Reads : Option ℕ → List (List Entry) → Type 0) (told : Bool) (before : List HomeCall) (tell : Bool) (after : List HomeCall) : Type 0 where
   pub size : Option ℕ
   pub texts : List (List Entry)
-  pub read : ReadsAs size log texts
+  pub read : Reads size texts
   pub calls : List HomeCall
   pub bytes : HaveBytes (block_size size) calls
   pub tells : Tells told before calls tell after
   pub again : CanBreakOff (block_size size) texts calls
+
+-- the same of the texts of a log without seals
+abbrev pub TellsRecovered : List ℕ → Bool → List HomeCall → Bool → List HomeCall → Type 0
+TellsRecovered log = TellsRecoveredBy (λ size texts. ReadsAs size log texts)
+
+abbrev pub TellsBrokenOff : List ℕ → Bool → List HomeCall → Bool → List HomeCall → Type 0
+TellsBrokenOff log = TellsBrokenOffBy (λ size texts. ReadsAs size log texts)
+
+-- the same of those of a log in two files
+abbrev pub TellsRecoveredFiles : List ℕ → List ℕ → Bool → List HomeCall → Bool → List HomeCall → Type 0
+TellsRecoveredFiles one other = TellsRecoveredBy (λ size texts. ReadsLog size one other texts)
+
+abbrev pub TellsBrokenOffFiles : List ℕ → List ℕ → Bool → List HomeCall → Bool → List HomeCall → Type 0
+TellsBrokenOffFiles one other = TellsBrokenOffBy (λ size texts. ReadsLog size one other texts)
 
 -- whether the home device failed; before memory was refused it was not asked anything
 abbrev pub has_failed : WriteFault → Bool
@@ -99,6 +117,23 @@ pub record IsCounted (log : List ℕ) (found : Recovered) : Type 0 where
   pub parts : HasTexts size log texts found.rest
   pub count : found.texts ≡ length texts
   pub blocks : found.blocks ≡ length (with_texts texts (nothing size)).contents
+
+-- how much was recovered, by what was gathered
+abbrev pub IsCountOf : LogCounts → Overlaid → Recovered → Type 0
+IsCountOf counts l found = (found.texts ≡ counts.texts) × (found.blocks ≡ length l.contents) × (found.rest ≡ counts.rest)
+
+-- how much was recovered of a log in two files, of which this one is older
+pub record IsCountedFiles (one other : List ℕ) (found : FilesRecovered) : Type 0 where
+  pub size : Option ℕ
+  pub texts : List (List Entry)
+  pub read : IsRead found.older size one other texts found.recovered.rest
+  pub count : found.recovered.texts ≡ length texts
+  pub blocks : found.recovered.blocks ≡ length (with_texts texts (nothing size)).contents
+
+-- why it was not recovered
+abbrev pub IsWhyFiles : List ℕ → List ℕ → RecoverFault → Type 0
+IsWhyFiles one other (RecoverFault.Log fault) = IsWhyLogFiles one other fault
+IsWhyFiles one other (RecoverFault.Home fault) = Unit {0}
 
 -- why a log was not recovered: the field at the offset that is told breaks its rule; of other faults nothing is said
 abbrev pub IsWhy : List ℕ → RecoverFault → Type 0

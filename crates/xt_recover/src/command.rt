@@ -3,16 +3,21 @@
 ghost use Rattle.std.specs.Prelude.{◌≡◌, ◌⊎◌, ℕ, IfErr, IfOk, IfSome, MatchResult, OnOk, Bool, false, true};
 ghost use Rattle.std.specs.Io.KnownBytes.{Appends};
 ghost use Rattle.xt_recover.specs.Reading.{IsStoppedAt};
-ghost use Rattle.xt_recover.specs.Recovering.{IsCounted, IsWhy, TellsRecovered, is_home_fault};
+ghost use Rattle.xt_recover.specs.FilesCommand.{AreEmptied, IsOlderFirst, IsStoppedFilesAt};
+ghost use Rattle.xt_recover.specs.FilesGathering.{IfBoth, IsOfWanted};
+ghost use Rattle.xt_recover.specs.Recovering.{IsCounted, IsCountedFiles, IsWhy, IsWhyFiles, TellsRecovered, TellsRecoveredFiles, is_home_fault};
+ghost use Rattle.xt_recover.specs.declared.recovering.FilesRecovered.{FilesRecovered as AFilesRecovered};
 ghost use Rattle.xt_recover.specs.declared.recovering.Recovered.{Recovered as ARecovered};
 ghost use Rattle.xt_recover.specs.Command.{IfNotEmptied, IfStopped, IsCommandStatus, IsOutcomePrinted, fault_line, recovered_lines, rest_lines};
 
+use crate::files::{Files, Wanted};
 use crate::gather::LogFault;
-use crate::recovering::{RecoverFault, Recovered, recover};
+use crate::recovering::{FilesRecovered, RecoverFault, Recovered, recover, recover_files};
 use std::alloc::Global;
 use std::io::{self, Read, Write};
 use thiserror::Error;
 use xt_dev::home::HomeDevice;
+use xt_window::way::Which;
 
 /// A log that can be emptied, once what it says stands on the home device.
 pub trait Emptied: Drop {
@@ -60,6 +65,78 @@ pub fn recover_log<L: Read, C: Emptied, H: HomeDevice>(
     }
 }
 
+/// What is asked of a recovery from a log in two files.
+#[derive(Clone, Copy, Debug, PartialEq, Eq)]
+pub struct Asked {
+    /// What a header has to say, so that its log is laid; None where any is.
+    pub wanted: Option<Wanted>,
+    /// Whether the log is emptied then.
+    pub is_cut: bool,
+}
+
+/// Lays what a log in two files says over a home device, and makes it safe. Then both files are emptied, where that is asked, the older one first,
+/// and the other only once that is done. `logs` are what `readers` read.
+pub fn recover_log_files<L: Read, C: Emptied, H: HomeDevice>(
+    alloc: Global,
+    readers: &mut Files<L>,
+    home: &mut H,
+    logs: &mut Files<C>,
+    asked: Asked,
+) -> Result<FilesRecovered, CommandFault>
+    ensures recovered { OnOk result (IfBoth (L.remaining readers.old.one) (L.remaining readers.old.other) (λ one other. TellsRecoveredFiles one other (H.home_tells home.old) (H.home_taken home.old) (H.home_tells home.new) (H.home_taken home.new))) }
+    ensures counts { IfOk result (λ found. IfBoth (L.remaining readers.old.one) (L.remaining readers.old.other) (λ one other. IsCountedFiles one other found)) }
+    ensures wanted { OnOk result (IfBoth (L.remaining readers.old.one) (L.remaining readers.old.other) (λ one other. IsOfWanted asked.wanted one other)) }
+    ensures why { IfErr result (λ fault. IfStopped fault (λ found. IfBoth (L.remaining readers.old.one) (L.remaining readers.old.other) (λ one other. IsWhyFiles one other found))) }
+    ensures untouched { IfErr result (λ fault. IfStopped fault (λ found. is_home_fault found ≡ false → home.new ≡ home.old)) }
+    ensures order { IfErr result (λ fault. IfStopped fault (λ _. logs.new ≡ logs.old)) }
+    ensures before { IfErr result (λ fault. IfNotEmptied fault (IfBoth (L.remaining readers.old.one) (L.remaining readers.old.other) (λ one other. TellsRecoveredFiles one other (H.home_tells home.old) (H.home_taken home.old) (H.home_tells home.new) (H.home_taken home.new)))) }
+    ensures safe { (logs.new ≡ logs.old) ⊎ IfBoth (L.remaining readers.old.one) (L.remaining readers.old.other) (λ one other. TellsRecoveredFiles one other (H.home_tells home.old) (H.home_taken home.old) (H.home_tells home.new) (H.home_taken home.new)) }
+    ensures emptied { OnOk result (asked.is_cut ≡ true → AreEmptied C.is_emptied logs.new) }
+    // Of the files that were read, the newer one is as it was unless the older one was emptied.
+    ensures older { IfErr result (λ fault. IfNotEmptied fault (IfBoth (L.remaining readers.old.one) (L.remaining readers.old.other) (λ one other. (found : AFilesRecovered) × IsCountedFiles one other found × IsOlderFirst C.is_emptied found.older logs.old logs.new))) }
+    ensures uncut { asked.is_cut ≡ false → logs.new ≡ logs.old }
+{
+    match recover_files(alloc, readers, asked.wanted, home) {
+        Ok(found) => empty_files(logs, asked.is_cut, found),
+        Err(why) => Err(CommandFault::Recover(why)),
+    }
+}
+
+/// Empties the files of what was recovered, where that is asked.
+fn empty_files<C: Emptied>(
+    logs: &mut Files<C>,
+    is_cut: bool,
+    found: FilesRecovered,
+) -> Result<FilesRecovered, CommandFault>
+    ensures same { IfOk result (λ told. told ≡ found) }
+    ensures fault { IfErr result (λ fault. IfStopped fault (λ _. ⊥)) }
+    ensures emptied { OnOk result (is_cut ≡ true → AreEmptied C.is_emptied logs.new) }
+    ensures older { IsOlderFirst C.is_emptied found.older logs.old logs.new }
+    ensures uncut { is_cut ≡ false → logs.new ≡ logs.old }
+{
+    if !is_cut {
+        return Ok(found);
+    }
+    let emptied = match found.older {
+        Which::One => empty_both(&mut logs.one, &mut logs.other),
+        Which::Other => empty_both(&mut logs.other, &mut logs.one),
+    };
+    match emptied {
+        Ok(()) => Ok(found),
+        Err(error) => Err(CommandFault::Empty(error)),
+    }
+}
+
+/// Empties the older file, and then the newer one. Were that one emptied first, and the power lost, older texts alone would be laid over what newer
+/// ones gave.
+fn empty_both<C: Emptied>(older: &mut C, newer: &mut C) -> io::Result<()>
+    ensures emptied { OnOk result ((C.is_emptied older.new ≡ true) × (C.is_emptied newer.new ≡ true)) }
+    ensures order { (newer.new ≡ newer.old) ⊎ (C.is_emptied older.new ≡ true) }
+{
+    older.empty()?;
+    newer.empty()
+}
+
 /// Empties the log of what was recovered, where that is asked.
 fn empty_log<C: Emptied>(
     log: &mut C,
@@ -80,8 +157,8 @@ fn empty_log<C: Emptied>(
     }
 }
 
-/// Recovers a home device from a log, which is emptied after that where it is asked, and prints what was recovered. Answers the exit status:
-/// 0; 3 after `fault OFFSET` of a log with a field that breaks its rule, or with texts that say different sizes of a block, and then the home device and
+/// Recovers a home device from a log, which is emptied after that where it is asked, and prints what was recovered. Answers the exit status: 0; 3
+/// after `fault OFFSET` of a log with a field that breaks its rule, or with texts that say different sizes of a block, and then the home device and
 /// the log are as they were; 1 after another fault, which is printed on `err`.
 #[tactic(auto, using(crate::proofs::GatherLemmas::broken_stops, crate::proofs::GatherLemmas::mixed_stops))]
 pub fn run<L: Read, C: Emptied, H: HomeDevice, W: Write, E: Write>(
@@ -106,6 +183,34 @@ pub fn run<L: Read, C: Emptied, H: HomeDevice, W: Write, E: Write>(
     print_end(writer, err, &end)
 }
 
+/// Recovers a home device from a log in two files, and prints what was recovered, as `run` does. The exit status is 3 too after `fault OFFSET` of a
+/// sealed log, counted in the file that has the fault, and after `fault 0` of two files that are no log; 1 where it is another volume's.
+pub fn run_files<L: Read, C: Emptied, H: HomeDevice, W: Write, E: Write>(
+    alloc: Global,
+    readers: &mut Files<L>,
+    home: &mut H,
+    logs: &mut Files<C>,
+    asked: Asked,
+    writer: &mut W,
+    err: &mut E,
+) -> u8
+    ensures status { IsCommandStatus result }
+    ensures recovered { result ≡ 0 → IfBoth (L.remaining readers.old.one) (L.remaining readers.old.other) (λ one other. TellsRecoveredFiles one other (H.home_tells home.old) (H.home_taken home.old) (H.home_tells home.new) (H.home_taken home.new)) }
+    ensures printed { result ≡ 0 → (found : AFilesRecovered) × Appends (W.contents writer.old) (W.contents writer.new) (recovered_lines found.recovered) × IfBoth (L.remaining readers.old.one) (L.remaining readers.old.other) (λ one other. IsCountedFiles one other found) }
+    ensures emptied { result ≡ 0 → asked.is_cut ≡ true → AreEmptied C.is_emptied logs.new }
+    ensures wanted { result ≡ 0 → IfBoth (L.remaining readers.old.one) (L.remaining readers.old.other) (λ one other. IsOfWanted asked.wanted one other) }
+    ensures broken { result ≡ 3 → (offset : ℕ) × Appends (W.contents writer.old) (W.contents writer.new) (fault_line offset) × IfBoth (L.remaining readers.old.one) (L.remaining readers.old.other) (λ one other. IsStoppedFilesAt offset one other) }
+    ensures untouched { result ≡ 3 → (home.new ≡ home.old) × (logs.new ≡ logs.old) }
+    ensures safe { (logs.new ≡ logs.old) ⊎ IfBoth (L.remaining readers.old.one) (L.remaining readers.old.other) (λ one other. TellsRecoveredFiles one other (H.home_tells home.old) (H.home_taken home.old) (H.home_tells home.new) (H.home_taken home.new)) }
+    ensures uncut { asked.is_cut ≡ false → logs.new ≡ logs.old }
+{
+    let end = match recover_log_files(alloc, readers, home, logs, asked) {
+        Ok(found) => Ok(found.recovered),
+        Err(fault) => Err(fault),
+    };
+    print_end(writer, err, &end)
+}
+
 /// Prints how recovery ended: the exit status.
 fn print_end<W: Write, E: Write>(
     writer: &mut W,
@@ -121,6 +226,12 @@ fn print_end<W: Write, E: Write>(
         }
         Err(CommandFault::Recover(RecoverFault::Log(LogFault::Mixed(start)))) => {
             status_printed(err, print_stopped(writer, *start), 3)
+        }
+        Err(CommandFault::Recover(RecoverFault::Log(LogFault::Rotten(_, place)))) => {
+            status_printed(err, print_stopped(writer, *place), 3)
+        }
+        Err(CommandFault::Recover(RecoverFault::Log(LogFault::Strange))) => {
+            status_printed(err, print_stopped(writer, 0), 3)
         }
         Err(fault) => {
             let _ = writeln!(err, "fault: {fault}");

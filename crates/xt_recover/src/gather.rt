@@ -4,15 +4,18 @@ ghost use Rattle.std.specs.Prelude.{◌≡◌, ◌<◌, All, IfErr, IfOk, IfSome
 ghost use Rattle.xt_base.specs.Form.{is_size};
 ghost use Rattle.xt_ckpt.specs.Grammar.{entries};
 ghost use Rattle.xt_ckpt.specs.Items.{HasForm};
-ghost use Rattle.xt_recover.specs.Gathering.{for_text, has_offset, IsGathered, IsItemWithin, IsWhyLog, IsWhyNotLaid, SaysAlike, SaysOther};
+ghost use Rattle.xt_recover.specs.Gathering.{for_text, IsGathered, IsItemWithin, IsWhyLog, IsWhyNotLaid, SaysAlike, SaysOther, is_of_log};
 ghost use Rattle.xt_recover.specs.Overlaid.{nothing, overlaid, with_items};
+ghost use Rattle.xt_window.specs.Window.{ahead, IsTied};
 
+use crate::files::Whose;
 use crate::overlay::Overlay;
 use std::alloc::{AllocError, Global};
 use std::io::Read;
 use thiserror::Error;
 use xt_ckpt::{Checkpoint, Rooms};
 use xt_window::fault::LogFault as WindowFault;
+use xt_window::way::Which;
 use xt_window::window::{Found, PIECE_BYTES, Window};
 
 /// Why a log was not gathered.
@@ -24,6 +27,18 @@ pub enum LogFault {
     /// The text that begins at this offset of the log says something else of the size of a block than those before it. No volume writes such a log.
     #[error("fault {0}")]
     Mixed(u64),
+    /// The sealed texts of this file end at this offset of it, and not as a loss of power ends them: behind the newest text, a later one with its
+    /// seal stands, or more bytes than a text and a seal have; or the older file's texts do not end with the seal behind which the newer one goes on;
+    /// or a text says something else of the size of a block than those before it.
+    #[error("fault {1}")]
+    Rotten(Which, u64),
+    /// The two files are no log: what begins them is neither two headers, one next to the other in one life, nor a header beside a file that has no
+    /// text.
+    #[error("fault 0")]
+    Strange,
+    /// The log is another volume's, by its newer header.
+    #[error("{0}")]
+    Foreign(Whose),
     /// Memory was refused.
     #[error("out of memory")]
     Memory,
@@ -64,27 +79,30 @@ fn gather_from<L: Read>(alloc: Global, log: &mut L, piece: &mut [u8]) -> Result<
     ensures gathered { IfOk result (λ gathered. IfSome (L.remaining log.old) (λ bytes. IsGathered bytes gathered.counts (overlaid gathered.overlay))) }
     ensures why { IfErr result (λ fault. IfSome (L.remaining log.old) (λ bytes. IsWhyLog bytes fault)) }
 {
+    let mut window = Window::new(alloc, u64::MAX);
     let mut overlay = Overlay::new(alloc, None);
-    match gather_by_pieces(alloc, log, piece, &mut overlay) {
+    match gather_by_pieces(alloc, log, piece, &mut window, &mut overlay) {
         Ok(counts) => Ok(Gathered { overlay, counts }),
         Err(fault) => Err(fault),
     }
 }
 
-/// The same, over an overlay that has nothing.
+/// The same, by way of a window of which nothing is taken, over an overlay that has nothing.
 #[tactic(auto, using(crate::proofs::GatherLemmas::why_other))]
-fn gather_by_pieces<L: Read>(
+pub(crate) fn gather_by_pieces<L: Read>(
     alloc: Global,
     log: &mut L,
     piece: &mut [u8],
+    window: &mut Window,
     overlay: &mut Overlay,
 ) -> Result<LogCounts, LogFault>
     requires room { 0 < length piece.old }
+    requires first { window.old.offset ≡ 0 }
+    requires ended { IsTied window.old (L.remaining log.old) }
     requires none { overlaid overlay.old ≡ nothing None }
-    ensures gathered { IfOk result (λ counts. IfSome (L.remaining log.old) (λ bytes. IsGathered bytes counts (overlaid overlay.new))) }
-    ensures why { IfErr result (λ fault. IfSome (L.remaining log.old) (λ bytes. IsWhyLog bytes fault)) }
+    ensures gathered { IfOk result (λ counts. IfSome (ahead window.old (L.remaining log.old)) (λ bytes. IsGathered bytes counts (overlaid overlay.new))) }
+    ensures why { IfErr result (λ fault. IfSome (ahead window.old (L.remaining log.old)) (λ bytes. IsWhyLog bytes fault)) }
 {
-    let mut window = Window::new(alloc, u64::MAX);
     let mut rooms = Rooms::new(alloc);
     for texts in 0..u64::MAX {
         let offset = window.offset();
@@ -102,8 +120,8 @@ fn gather_by_pieces<L: Read>(
 }
 
 /// Why a window read no further. A log of 2^64 bytes, which nothing has, counts as one that cannot be read.
-fn why_unread(fault: &WindowFault) -> LogFault
-    ensures { has_offset result ≡ false }
+pub(crate) fn why_unread(fault: &WindowFault) -> LogFault
+    ensures { is_of_log result ≡ false }
 {
     match fault {
         WindowFault::TooLong | WindowFault::Io(_) => LogFault::Read,
@@ -113,7 +131,7 @@ fn why_unread(fault: &WindowFault) -> LogFault
 
 /// Lays the items of a text that begins at an offset, behind so many texts.
 #[tactic(auto, using(crate::proofs::GatherLemmas::within_text))]
-fn lay_text(
+pub(crate) fn lay_text(
     alloc: Global,
     overlay: &mut Overlay,
     texts: u64,
