@@ -1,23 +1,25 @@
 -- Texts of a log: how long their items are, and what is printed of them.
-use Rattle.std.proofs.Common.{Bool, ◌≡◌, ◌∙◌, ◌+◌, ◌≤◌, ◌∷◌, ◌++◌, ℕ, suc, List, [], Option, Some, None, inl, inr, ap, arith, drop, false, length, map, subst, sym}
+use Rattle.std.proofs.Common.{Bool, ◌≡◌, ◌∙◌, ◌+◌, ◌≤◌, ◌∷◌, ◌++◌, ℕ, suc, List, [], Option, Some, None, inl, inr, ap, arith, drop, false, length, map, refl, rules, subst, sym, true, true≢false}
 use Rattle.std.proofs.lemmas.List.{drop-drop, length-drop}
 use Rattle.std.proofs.lemmas.List.Elements.{All-cons, All-nil}
 use Rattle.std.proofs.lemmas.List.Sums.{count_by-le-length, length-filter}
 use Rattle.std.specs.Int.{bit_at}
 use Rattle.std.specs.Io.KnownBytes.{Appends, Keeps}
-use Rattle.std.specs.Prelude.{All, IfSome, unwrap_or, ◌==◌}
+use Rattle.std.specs.Prelude.{All, IfSome, if◌then◌else◌, unwrap_or, ◌==◌}
 use Rattle.xt_base.proofs.MapLemmas.{some_none}
 use Rattle.xt_base.specs.Chunks.{below, chunks_where, places_of}
 use Rattle.xt_ckpt.specs.Grammar.{AreItems, Entry, IsItem, entry}
 use Rattle.xt_ckpt.specs.declared.item.Item.{Item}
 use Rattle.xt_ckpt.specs.declared.reading.Checkpoint.{Checkpoint}
 use Rattle.xt_offline.proofs.AppendLemmas.{appends_kept, appends_more, appends_none, begins_all, begins_same, begins_then, keeps_same}
-use Rattle.xt_offline.specs.LogDump.{checkpoint_lines, fault_line, found_lines, rest_lines, status_after, AreShort, IsDumpWhy, IsDumped, IsLogBegun, IsLogPrinted, IsLogRun, IsLogStatus, IsTold, Texts}
+use Rattle.xt_offline.specs.LogDump.{checkpoint_lines, fault_line, found_lines, rest_lines, status_after, whole_log, AreShort, IsBareBegun, IsBarePrinted, IsDumpWhy, IsDumped, IsLogStatus, IsTold, Texts}
 use Rattle.xt_offline.specs.Printing.{Begins}
+use Rattle.xt_offline.specs.SealedDump.{IsFileWhy, IsLogBegun, IsLogPrinted, IsLogRun, IsOneBegun}
 use Rattle.xt_offline.specs.declared.fault.DumpFault.{DumpFault}
-use Rattle.xt_offline.specs.declared.fault.DumpFault.TheVariants.{Log, Memory, Output}
+use Rattle.xt_offline.specs.declared.fault.DumpFault.TheVariants.{Log, Memory, Output, Second}
 use Rattle.xt_window.proofs.WindowLemmas.{why_any}
-use Rattle.xt_window.specs.Window.{ahead, is_too_long, unread, Held, IsAhead, IsOfGrammar}
+use Rattle.xt_window.specs.Window.{ahead, is_too_long, Held, IsAhead, IsOfGrammar}
+use Rattle.xt_window.specs.declared.way.Which.{Which}
 use Rattle.xt_window.specs.declared.window.Found.{Found}
 
 -- a block has 32 chunks
@@ -52,16 +54,20 @@ pub record Stands (most : ℕ) (log : List ℕ) (h : Held) (left old new : Optio
   pub written : Appends old new out
 
 -- nothing is printed
-pub stands_first : (most : ℕ) (had : Option (List ℕ)) (h : Held) (old : Option (List ℕ)) → h ≡ unread most → IfSome had (λ log. Stands most log h had old old)
-stands_first most None h old is = tt
-stands_first most (Some log) h old is = record {
+stands_at : (front : Bool) (known : Option (List ℕ)) (h : Held) (left old : Option (List ℕ)) → (front ≡ true → h.offset ≡ 0) → known ≡ ahead h left → IfSome (if front then known else None) (λ log. Stands h.limit log h left old old)
+stands_at false known h left old front is = tt
+stands_at true None h left old front is = tt
+stands_at true (Some log) h left old front is = record {
   out = [];
-  texts = subst (λ n. Texts log n []) (sym (ap (λ w. w.offset) is)) (Texts.none log);
-  within = omega (arith, ap (λ w. w.offset) is);
-  limit = ap (λ w. w.limit) is;
-  same = ap (λ w. Some (w.bytes ++ log)) is ∙ ap (λ n. Some (drop n log)) (sym (ap (λ w. w.offset) is));
+  texts = subst (λ n. Texts log n []) (sym (front refl)) (Texts.none log);
+  within = omega (arith, front refl);
+  limit = refl;
+  same = sym is ∙ ap (λ n. Some (drop n log)) (sym (front refl));
   written = appends_none old;
 }
+
+pub stands_first : (h : Held) (left old : Option (List ℕ)) → IfSome (whole_log h left) (λ log. Stands h.limit log h left old old)
+stands_first h left old = stands_at (h.offset == 0) (ahead h left) h left old (λ e. search (rules, e)) refl
 
 -- what is ahead is the rest of the log
 rest_of : (most : ℕ) (log : List ℕ) (h : Held) (left old new : Option (List ℕ)) (P : List ℕ → Type 0) → Stands most log h left old new → IfSome (ahead h left) P → P (drop h.offset log)
@@ -103,7 +109,7 @@ whole_found most log h now left has old mid (Found.Rest count) status s is over 
 whole_found most log h now left has old mid (Found.Fault place) status s is over =
     subst (λ n. IsDumped most log (s.out ++ fault_line place) n) (ap (λ o. unwrap_or o 0) over) (whole_fault most log h now left has old mid place s is)
 
-pub printed_found : (most : ℕ) (had : Option (List ℕ)) (h now : Held) (left has old mid new : Option (List ℕ)) (found : Found) (status : ℕ) → IfSome had (λ log. Stands most log h left old mid) → IfSome (ahead h left) (λ log. IsAhead h log found now has) → Appends mid new (found_lines found) → status_after found ≡ Some status → IfSome had (λ log. IsLogPrinted most log old new status)
+pub printed_found : (most : ℕ) (had : Option (List ℕ)) (h now : Held) (left has old mid new : Option (List ℕ)) (found : Found) (status : ℕ) → IfSome had (λ log. Stands most log h left old mid) → IfSome (ahead h left) (λ log. IsAhead h log found now has) → Appends mid new (found_lines found) → status_after found ≡ Some status → IfSome had (λ log. IsBarePrinted most log old new status)
 printed_found most None h now left has old mid new found status s is printed over = tt
 printed_found most (Some log) h now left has old mid new found status s is printed over =
     (s.out ++ found_lines found, (whole_found most log h now left has old mid found status s (rest_of most log h left old mid (λ t. IsAhead h t found now has) s is) over, appends_more old mid new s.out (found_lines found) s.written printed))
@@ -118,15 +124,15 @@ status_found (Found.Fault place) status over = inr (inr (ap (λ o. unwrap_or o 3
 -- before anything is read
 pub begun_none : (most : ℕ) (had : Option (List ℕ)) (old : Option (List ℕ)) → IfSome had (λ log. IsLogBegun most log old old)
 begun_none most None old = tt
-begun_none most (Some log) old = ([], (inl (0, Texts.none log), begins_same old []))
+begun_none most (Some log) old = ([], (IsOneBegun.bare 0 [] (Texts.none log), begins_same old []))
 
 -- behind some texts
-pub begun_here : (most : ℕ) (had : Option (List ℕ)) (h : Held) (left old new : Option (List ℕ)) → IfSome had (λ log. Stands most log h left old new) → IfSome had (λ log. IsLogBegun most log old new)
+pub begun_here : (most : ℕ) (had : Option (List ℕ)) (h : Held) (left old new : Option (List ℕ)) → IfSome had (λ log. Stands most log h left old new) → IfSome had (λ log. IsBareBegun most log old new)
 begun_here most None h left old new s = tt
 begun_here most (Some log) h left old new s = (s.out, (inl (h.offset, s.texts), begins_all old new s.out s.written))
 
 -- in what was found there
-begun_in : (most : ℕ) (log : List ℕ) (h now : Held) (left has old mid new : Option (List ℕ)) (found : Found) (s : Stands most log h left old mid) → IsAhead h (drop h.offset log) found now has → Begins mid new (found_lines found) → IsLogBegun most log old new
+begun_in : (most : ℕ) (log : List ℕ) (h now : Held) (left has old mid new : Option (List ℕ)) (found : Found) (s : Stands most log h left old mid) → IsAhead h (drop h.offset log) found now has → Begins mid new (found_lines found) → IsBareBegun most log old new
 begun_in most log h now left has old mid new (Found.Text c) s is begun =
     (s.out ++ checkpoint_lines c, (inl (h.offset + is.0, Texts.more log s.out h.offset is.0 c s.texts is.1.0), begins_then old mid new s.out (checkpoint_lines c) s.written begun))
 begun_in most log h now left has old mid new (Found.Rest count) s is begun =
@@ -134,16 +140,16 @@ begun_in most log h now left has old mid new (Found.Rest count) s is begun =
 begun_in most log h now left has old mid new (Found.Fault place) s is begun =
     (s.out ++ fault_line place, (inr (3, whole_fault most log h now left has old mid place s is), begins_then old mid new s.out (fault_line place) s.written begun))
 
-pub begun_found : (most : ℕ) (had : Option (List ℕ)) (h now : Held) (left has old mid new : Option (List ℕ)) (found : Found) → IfSome had (λ log. Stands most log h left old mid) → IfSome (ahead h left) (λ log. IsAhead h log found now has) → Begins mid new (found_lines found) → IfSome had (λ log. IsLogBegun most log old new)
+pub begun_found : (most : ℕ) (had : Option (List ℕ)) (h now : Held) (left has old mid new : Option (List ℕ)) (found : Found) → IfSome had (λ log. Stands most log h left old mid) → IfSome (ahead h left) (λ log. IsAhead h log found now has) → Begins mid new (found_lines found) → IfSome had (λ log. IsBareBegun most log old new)
 begun_found most None h now left has old mid new found s is begun = tt
 begun_found most (Some log) h now left has old mid new found s is begun = begun_in most log h now left has old mid new found s (rest_of most log h left old mid (λ t. IsAhead h t found now has) s is) begun
 
 -- why a log was given up
-pub why_whole : (most : ℕ) (had : Option (List ℕ)) (h : Held) (left old new : Option (List ℕ)) (fault : DumpFault) → IfSome had (λ log. Stands most log h left old new) → IfSome (ahead h left) (λ log. IsDumpWhy h.limit (h.offset + length log) fault) → IfSome had (λ log. IsDumpWhy most (length log) fault)
+pub why_whole : (most : ℕ) (had : Option (List ℕ)) (h : Held) (left old new : Option (List ℕ)) (fault : DumpFault) → IfSome had (λ log. Stands most log h left old new) → IfSome (ahead h left) (λ log. IsFileWhy Which.One h.limit (h.offset + length log) fault) → IfSome had (λ log. IsFileWhy Which.One most (length log) fault)
 why_whole most None h left old new fault s why = tt
 why_whole most (Some log) h left old new fault s why =
     let joined : h.offset + length (drop h.offset log) ≡ length log = omega (arith, length-drop h.offset log, s.within) in
-    subst (λ n. IsDumpWhy most n fault) joined (subst (λ m. IsDumpWhy m (h.offset + length (drop h.offset log)) fault) s.limit (rest_of most log h left old new (λ t. IsDumpWhy h.limit (h.offset + length t) fault) s why))
+    subst (λ n. IsFileWhy Which.One most n fault) joined (subst (λ m. IsFileWhy Which.One m (h.offset + length (drop h.offset log)) fault) s.limit (rest_of most log h left old new (λ t. IsFileWhy Which.One h.limit (h.offset + length t) fault) s why))
 
 -- whether a fault says that a log has too many bytes
 abbrev pub is_of_length : DumpFault → Bool
@@ -152,12 +158,29 @@ is_of_length other = false
 
 why_other : (most size : ℕ) (fault : DumpFault) → is_of_length fault ≡ false → IsDumpWhy most size fault
 why_other most size (Log fault) other = why_any most size fault other
+why_other most size (Second fault) other = tt
 why_other most size (Output error) other = tt
 why_other most size (Memory error) other = tt
 
 pub why_known : (most : ℕ) (had : Option (List ℕ)) (fault : DumpFault) → is_of_length fault ≡ false → IfSome had (λ log. IsDumpWhy most (length log) fault)
 why_known most None fault other = tt
 why_known most (Some log) fault other = why_other most (length log) fault other
+
+-- the same of one that is read without seals
+abbrev pub is_of_file : DumpFault → Bool
+is_of_file (Log fault) = is_too_long fault
+is_of_file (Second fault) = true
+is_of_file other = false
+
+bare_other : (most size : ℕ) (fault : DumpFault) → is_of_file fault ≡ false → IsFileWhy Which.One most size fault
+bare_other most size (Log fault) other = why_any most size fault other
+bare_other most size (Second fault) other = absurd (true≢false other)
+bare_other most size (Output error) other = tt
+bare_other most size (Memory error) other = tt
+
+pub why_bare : (most : ℕ) (had : Option (List ℕ)) (fault : DumpFault) → is_of_file fault ≡ false → IfSome had (λ log. IsFileWhy Which.One most (length log) fault)
+why_bare most None fault other = tt
+why_bare most (Some log) fault other = bare_other most (length log) fault other
 
 -- ---- all that was held back is written too
 pub log_printed_kept : (most : ℕ) (had : Option (List ℕ)) (old mid new : Option (List ℕ)) (status : ℕ) → IfSome had (λ log. IsLogPrinted most log old mid status) → Keeps mid new → IfSome had (λ log. IsLogPrinted most log old new status)
@@ -166,7 +189,7 @@ log_printed_kept most (Some log) old mid new status is kept = (is.0, (is.1.0, ap
 
 pub begun_last : (most : ℕ) (had : Option (List ℕ)) (old mid new : Option (List ℕ)) (status : ℕ) → IfSome had (λ log. IsLogPrinted most log old mid status) → Keeps mid new → IfSome had (λ log. IsLogBegun most log old new)
 begun_last most None old mid new status is kept = tt
-begun_last most (Some log) old mid new status is kept = (is.0, (inr (status, is.1.0), begins_all old new is.0 (appends_kept old mid new is.0 is.1.1 kept)))
+begun_last most (Some log) old mid new status is kept = (is.0, (IsOneBegun.whole is.0 status is.1.0, begins_all old new is.0 (appends_kept old mid new is.0 is.1.1 kept)))
 
 -- ---- the whole
 -- a log was printed

@@ -4,3 +4,6 @@ pub mod PlayLemmas
 pub mod LineLemmas
 pub mod PutLemmas
 pub mod DumpLemmas
+pub mod SealedLemmas
+pub mod OpenLemmas
+pub mod FilesLemmas

@@ -1,5 +1,5 @@
 -- What is printed of a log.
-use Rattle.std.specs.Io.KnownBytes.{Appends, Keeps}
+use Rattle.std.specs.Io.KnownBytes.{Appends}
 use Rattle.std.specs.Prelude.{All, List, None, Option, Some, [], codes, drop, flat_map, if◌then◌else◌, length, ℕ, ◌+◌, ◌++◌, ◌<◌, ◌==◌, ◌≡◌, ◌≤◌, ◌⊎◌}
 use Rattle.xt_base.specs.declared.sizes.TheConstants.{DATA_BYTES}
 use Rattle.xt_ckpt.specs.Fields.{IsFaultAt, IsUnfinished}
@@ -10,7 +10,7 @@ use Rattle.xt_offline.specs.Printing.{Begins as BeginsText, ended, numbered}
 use Rattle.xt_offline.specs.declared.fault.DumpFault.{DumpFault}
 use Rattle.xt_offline.specs.declared.fault.DumpFault.TheVariants.{Log}
 use Rattle.xt_text.specs.Items.{head_text, item_text}
-use Rattle.xt_window.specs.Window.{IsWhy}
+use Rattle.xt_window.specs.Window.{ahead, Held, IsWhy}
 use Rattle.xt_window.specs.declared.fault.LogFault.TheVariants.{TooLong}
 use Rattle.xt_window.specs.declared.window.Found.{Found}
 
@@ -63,13 +63,17 @@ pub data IsDumped (limit : ℕ) : List ℕ → List ℕ → ℕ → Type 0 where
   rest : (log out : List ℕ) (len : ℕ) → Texts log len out → IsUnfinished (drop len log) → length log ≤ limit → IsDumped limit log (out ++ rest_lines (length (drop len log))) 0
   fault : (log out : List ℕ) (len at : ℕ) → Texts log len out → IsFaultAt at (drop len log) → len + at < limit → IsDumped limit log (out ++ fault_line (len + at)) 3
 
--- a log was printed
-abbrev pub IsLogPrinted : ℕ → List ℕ → Option (List ℕ) → Option (List ℕ) → ℕ → Type 0
-IsLogPrinted limit log old new status = (out : List ℕ) × (IsDumped limit log out status × Appends old new out)
+-- what a log has of which nothing is taken, where that is known
+abbrev pub whole_log : Held → Option (List ℕ) → Option (List ℕ)
+whole_log h left = if h.offset == 0 then ahead h left else None
 
--- a beginning was written of what is printed of texts at the front of a log, or of all of it
-abbrev pub IsLogBegun : ℕ → List ℕ → Option (List ℕ) → Option (List ℕ) → Type 0
-IsLogBegun limit log old new = (out : List ℕ) × ((((len : ℕ) × Texts log len out) ⊎ ((status : ℕ) × IsDumped limit log out status)) × BeginsText old new out)
+-- a log without seals was printed
+abbrev pub IsBarePrinted : ℕ → List ℕ → Option (List ℕ) → Option (List ℕ) → ℕ → Type 0
+IsBarePrinted limit log old new status = (out : List ℕ) × (IsDumped limit log out status × Appends old new out)
+
+-- a beginning was written of what is printed of texts at the front of such a log, or of all of it
+abbrev pub IsBareBegun : ℕ → List ℕ → Option (List ℕ) → Option (List ℕ) → Type 0
+IsBareBegun limit log old new = (out : List ℕ) × ((((len : ℕ) × Texts log len out) ⊎ ((status : ℕ) × IsDumped limit log out status)) × BeginsText old new out)
 
 -- that a log has too many bytes
 abbrev pub long_log_text : List ℕ
@@ -84,18 +88,6 @@ IsTold other old new = Unit {0}
 abbrev pub IsDumpWhy : ℕ → ℕ → DumpFault → Type 0
 IsDumpWhy limit size (Log why) = IsWhy limit size why
 IsDumpWhy limit size other = Unit {0}
-
--- a log was given up: at most a beginning was written, and the fault was told
-pub record IsLogGivenUp (limit : ℕ) (log : List ℕ) (old new err_old err_new : Option (List ℕ)) (status : ℕ) (fault : DumpFault) : Type 0 where
-  pub written : IsLogBegun limit log old new
-  pub why : IsDumpWhy limit (length log) fault
-  pub told : IsTold fault err_old err_new
-  pub ended : status ≡ 1
-
--- what a dump of a log wrote, by its status: 0 and 3 after all was printed, and then nothing is told of a fault; 1 after a fault
-abbrev pub IsLogRun : ℕ → List ℕ → Option (List ℕ) → Option (List ℕ) → Option (List ℕ) → Option (List ℕ) → ℕ → Type 0
-IsLogRun limit log old new err_old err_new status =
-    (IsLogPrinted limit log old new status × Keeps err_old err_new) ⊎ ((fault : DumpFault) × IsLogGivenUp limit log old new err_old err_new status fault)
 
 -- the exit statuses of a dump
 abbrev pub IsLogStatus : ℕ → Type 0

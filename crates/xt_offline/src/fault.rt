@@ -43,10 +43,23 @@ pub enum DumpFault {
     /// It was not read to its end.
     #[error("{0}")]
     Log(LogFault),
+    /// Its second file was not read to its end.
+    #[error("{0}")]
+    Second(LogFault),
     /// What is printed of it could not be written.
     #[error("fault: {0}")]
     Output(io::Error),
     /// Memory was refused.
     #[error("fault: {0}")]
     Memory(AllocError),
+}
+
+impl DumpFault {
+    /// Whether a file has more bytes than it may have.
+    pub fn is_too_long(&self) -> bool {
+        matches!(
+            self,
+            DumpFault::Log(LogFault::TooLong) | DumpFault::Second(LogFault::TooLong)
+        )
+    }
 }

@@ -3,13 +3,16 @@
 ghost use Rattle.std.specs.Prelude.{◌+◌, ◌++◌, ◌<◌, ◌≡◌, ◌≤◌, All, IfErr, IfOk, IfSome, OnErr, OnOk, length};
 ghost use Rattle.std.specs.Io.KnownBytes.{Appends};
 ghost use Rattle.xt_ckpt.specs.declared.item.Item.{Item as AnItem};
-ghost use Rattle.xt_offline.specs.LogDump.{checkpoint_lines, fault_line, found_lines, item_lines, rest_lines, status_after, AreShort, IsDumpWhy, IsLogBegun, IsLogPrinted, IsLogRun, IsLogStatus, IsTold};
+ghost use Rattle.xt_offline.specs.LogDump.{checkpoint_lines, fault_line, found_lines, item_lines, rest_lines, status_after, AreShort, IsBareBegun, IsBarePrinted, IsDumpWhy, IsLogStatus, IsTold, whole_log};
 ghost use Rattle.xt_offline.specs.Printing.{ended, Begins};
+ghost use Rattle.xt_offline.specs.SealedDump.{IsFileWhy, IsLogBegun, IsLogPrinted, IsLogRun};
 ghost use Rattle.xt_text.specs.Items.{head_text, item_text};
 ghost use Rattle.xt_window.specs.Window.{ahead, IsAhead, IsOfGrammar, IsTied};
+ghost use Rattle.xt_window.specs.declared.way.Which.{Which as AWhich};
 
 use crate::fault::DumpFault;
 use crate::printing::print_line;
+use crate::sealed::{OpenFile, SealedFile, open_file};
 use crate::writing::{write_bytes, write_numbered};
 use std::alloc::Global;
 use std::io::{self, ErrorKind, Read, Write};
@@ -18,6 +21,8 @@ use xt_ckpt::{Checkpoint, Item, Rooms};
 use xt_text::buffer::Text;
 use xt_text::print_ckpt::{print_head, print_item};
 use xt_window::fault::LogFault;
+use xt_window::start::Start;
+use xt_window::way::Which;
 use xt_window::window::{Found, PIECE_BYTES, Window};
 
 /// The most bytes of a log that is printed, where no more are asked for.
@@ -67,10 +72,16 @@ fn report<E: Write>(err: &mut E, name: &str, fault: &DumpFault) -> io::Result<()
     ensures { IsTold fault.now (E.contents err.old) (E.contents err.new) }
 {
     match fault {
-        DumpFault::Log(LogFault::TooLong) => write_bytes(err, b"fault: log too long\n"),
+        DumpFault::Log(LogFault::TooLong) | DumpFault::Second(LogFault::TooLong) => write_bytes(
+            err,
+            b"fault: log too long\n",
+        ),
         DumpFault::Log(LogFault::Io(error)) => writeln!(err, "fault: {name}: {error}"),
-        DumpFault::Log(LogFault::Memory(_)) | DumpFault::Output(_) | DumpFault::Memory(_) =>
-            writeln!(err, "{fault}"),
+        DumpFault::Second(LogFault::Io(error)) => writeln!(err, "fault: {name}.1: {error}"),
+        DumpFault::Log(LogFault::Memory(_))
+        | DumpFault::Second(LogFault::Memory(_))
+        | DumpFault::Output(_)
+        | DumpFault::Memory(_) => writeln!(err, "{fault}"),
     }
 }
 
@@ -107,12 +118,11 @@ fn dump_texts<R: Read, W: Write>(
 {
     let mut piece = vec![in alloc; 0u8; PIECE_BYTES].map_err(DumpFault::Memory)?;
     let mut text = Text::new(alloc).map_err(DumpFault::Memory)?;
-    dump_by_pieces(alloc, limit, reader, writer, &mut piece, &mut text)
+    dump_by_start(alloc, limit, reader, writer, &mut piece, &mut text)
 }
 
-/// Prints each text, and how the log ends: the status is 0, or 3 where a text breaks a rule. The log is read by way of `piece`.
-#[tactic(auto, using(crate::proofs::DumpLemmas::status_found, crate::proofs::DumpLemmas::why_known))]
-fn dump_by_pieces<R: Read, W: Write>(
+/// The same, by how the log begins: each text with its seal, where a header does. The log is read by way of `piece`.
+fn dump_by_start<R: Read, W: Write>(
     alloc: Global,
     limit: u64,
     reader: &mut R,
@@ -126,7 +136,34 @@ fn dump_by_pieces<R: Read, W: Write>(
     ensures why { IfErr result (λ fault. IfSome (R.remaining reader.old) (λ log. IsDumpWhy limit (length log) fault)) }
     ensures status { IfOk result IsLogStatus }
 {
-    let mut window = Window::new(alloc, limit);
+    let OpenFile { start, window } = open_file(alloc, Which::One, limit, reader, piece)?;
+    match start {
+        Start::Sealed(header, _) => {
+            let mut file = SealedFile::new(alloc, Which::One, window, header);
+            file.dump(reader, piece, text, writer)
+        }
+        Start::Other(_) => dump_bare(alloc, window, reader, writer, piece, text),
+    }
+}
+
+/// Prints each text of a log without seals, of which nothing is taken, and how it ends: the status is 0, or 3 where a text breaks a rule.
+#[tactic(auto, using(crate::proofs::DumpLemmas::status_found, crate::proofs::DumpLemmas::why_bare))]
+pub(crate) fn dump_bare<R: Read, W: Write>(
+    alloc: Global,
+    window: Window,
+    reader: &mut R,
+    writer: &mut W,
+    piece: &mut [u8],
+    text: &mut Text,
+) -> Result<u8, DumpFault>
+    requires room { 0 < length piece.old }
+    requires ended { IsTied window (R.remaining reader.old) }
+    ensures printed { IfOk result (λ status. IfSome (whole_log window (R.remaining reader.old)) (λ log. IsBarePrinted window.limit log (W.contents writer.old) (W.contents writer.new) status)) }
+    ensures begun { OnErr result (IfSome (whole_log window (R.remaining reader.old)) (λ log. IsBareBegun window.limit log (W.contents writer.old) (W.contents writer.new))) }
+    ensures why { IfErr result (λ fault. IfSome (whole_log window (R.remaining reader.old)) (λ log. IsFileWhy AWhich.One window.limit (length log) fault)) }
+    ensures status { IfOk result IsLogStatus }
+{
+    let mut window = window;
     let mut rooms = Rooms::new(alloc);
     for _ in 0..u64::MAX {
         let found = next_found(&mut window, reader, piece, &mut rooms)?;
@@ -152,7 +189,7 @@ fn next_found<R: Read>(
     ensures found { IfOk result (λ found. IfSome (ahead window.old (R.remaining reader.old)) (λ log. IsAhead window.old log found window.new (R.remaining reader.new))) }
     ensures tied { OnOk result (IsTied window.new (R.remaining reader.new)) }
     ensures limit { OnOk result (window.new.limit ≡ window.old.limit) }
-    ensures fault { IfErr result (λ fault. IfSome (ahead window.old (R.remaining reader.old)) (λ log. IsDumpWhy window.old.limit (window.old.offset + length log) fault)) }
+    ensures fault { IfErr result (λ fault. IfSome (ahead window.old (R.remaining reader.old)) (λ log. IsFileWhy AWhich.One window.old.limit (window.old.offset + length log) fault)) }
 {
     match window.next(reader, piece, rooms) {
         Ok(found) => Ok(found),
@@ -191,7 +228,7 @@ fn print_found<W: Write>(writer: &mut W, text: &mut Text, found: &Found) -> io::
 }
 
 /// Prints a checkpoint: its number with the count of its items, and the size of a block where its text says it; and a line for each item.
-fn print_checkpoint<W: Write>(
+pub(crate) fn print_checkpoint<W: Write>(
     writer: &mut W,
     text: &mut Text,
     checkpoint: &Checkpoint,
@@ -244,7 +281,7 @@ fn print_item_line<W: Write>(writer: &mut W, text: &mut Text, item: &Item) -> io
 
 /// Prints how many bytes stand behind the last whole text, if there are any.
 #[tactic(auto, using(crate::proofs::AppendLemmas::appends_none, crate::proofs::AppendLemmas::begins_same))]
-fn print_rest<W: Write>(writer: &mut W, count: u64) -> io::Result<()>
+pub(crate) fn print_rest<W: Write>(writer: &mut W, count: u64) -> io::Result<()>
     ensures all { OnOk result (Appends (W.contents writer.old) (W.contents writer.new) (rest_lines count)) }
     ensures part { Begins (W.contents writer.old) (W.contents writer.new) (rest_lines count) }
 {
@@ -255,7 +292,7 @@ fn print_rest<W: Write>(writer: &mut W, count: u64) -> io::Result<()>
 }
 
 /// Prints where a text breaks a rule, counted in the log from 0.
-fn print_fault<W: Write>(writer: &mut W, offset: u64) -> io::Result<()>
+pub(crate) fn print_fault<W: Write>(writer: &mut W, offset: u64) -> io::Result<()>
     ensures all { OnOk result (Appends (W.contents writer.old) (W.contents writer.new) (fault_line offset)) }
     ensures part { Begins (W.contents writer.old) (W.contents writer.new) (fault_line offset) }
 {
