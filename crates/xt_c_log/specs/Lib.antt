@@ -4,3 +4,4 @@ pub mod Texts
 pub mod Logs
 pub mod Told
 pub mod Found
+pub mod Heading

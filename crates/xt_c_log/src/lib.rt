@@ -6,6 +6,7 @@
 
 mod gathered;
 mod handle;
+mod headers;
 mod held_log;
 mod holding;
 mod logs;

@@ -2,8 +2,8 @@
 
 ghost use Rattle.std.specs.Prelude.{◌≡◌, None};
 ghost use Rattle.xt_c_log.specs.Holding.{held};
-ghost use Rattle.xt_c_log.specs.Logs.{bytes_of, texts_of};
-ghost use Rattle.xt_c_log.specs.Told.{IsBlockOf, IsEnded, IsFed, IsGathering, IsLaid, IsOpened};
+ghost use Rattle.xt_c_log.specs.Logs.{texts_of};
+ghost use Rattle.xt_c_log.specs.Told.{IsBlockOf, IsEnded, IsFed, IsGathering, IsLaid, IsOpened, IsOpenedFiles, IsTurned};
 
 use crate::handle::Handle;
 use crate::held_log::HeldLog;
@@ -43,10 +43,35 @@ pub extern "C" fn refskold_abi_log_open(
     open(alloc, handle, log, told)
 }
 
+/// The same of the texts of a log in two files, which need not be whole. 3: the texts of the file that is told end at the byte that is written, and not as a loss of
+/// power leaves them. 4: the two files are no log.
+#[unsafe(no_mangle)]
+pub extern "C" fn refskold_abi_log_open_files(
+    alloc: Global,
+    handle: &mut Handle,
+    one: &[u8],
+    other: &[u8],
+    told: &mut LogWords,
+) -> i32
+    ensures { IsOpenedFiles result one.now other.now told.new told.old (held handle.new) (held handle.old) }
+{
+    if let Some(held) = handle.take(alloc) {
+        handle.put(held);
+        return BUSY;
+    }
+    match HeldLog::of_files(alloc, one, other, told) {
+        Ok(read) => {
+            handle.put(read);
+            0
+        }
+        Err(status) => status,
+    }
+}
+
 /// Takes a piece of a log of any length, behind those that the handle holds. EBUSY where it holds what a log's texts say.
 #[unsafe(no_mangle)]
 pub extern "C" fn refskold_abi_log_feed(alloc: Global, handle: &mut Handle, piece: &[u8]) -> i32
-    ensures { IsFed (bytes_of (held handle.old)) piece.now result (held handle.new) (held handle.old) }
+    ensures { IsFed piece.now result (held handle.new) (held handle.old) }
 {
     if let Some(mut held) = handle.take(alloc) {
         let status = held.feed(piece);
@@ -54,6 +79,25 @@ pub extern "C" fn refskold_abi_log_feed(alloc: Global, handle: &mut Handle, piec
         return status;
     }
     match HeldLog::of_bytes(alloc, piece) {
+        Ok(begun) => {
+            handle.put(begun);
+            0
+        }
+        Err(_) => NO_MEMORY,
+    }
+}
+
+/// What comes of a log in pieces from here on is of its other file. EBUSY where it is already, or the handle holds what a log's texts say.
+#[unsafe(no_mangle)]
+pub extern "C" fn refskold_abi_log_other(alloc: Global, handle: &mut Handle) -> i32
+    ensures { IsTurned result (held handle.new) (held handle.old) }
+{
+    if let Some(mut held) = handle.take(alloc) {
+        let status = held.turn(alloc);
+        handle.put(held);
+        return status;
+    }
+    match HeldLog::of_nothing(alloc) {
         Ok(begun) => {
             handle.put(begun);
             0
@@ -70,7 +114,7 @@ pub extern "C" fn refskold_abi_log_end(
     handle: &mut Handle,
     told: &mut LogWords,
 ) -> i32
-    ensures { IsEnded (bytes_of (held handle.old)) result told.new told.old (held handle.new) (held handle.old) }
+    ensures { IsEnded (held handle.old) result told.new told.old (held handle.new) }
 {
     if let Some(mut held) = handle.take(alloc) {
         let status = held.end(alloc, told);

@@ -11,3 +11,6 @@ pub const NO_DEVICE: i32 = -19;
 
 /// A length is not what it must be, or there is nothing at a place.
 pub const INVALID: i32 = -22;
+
+/// Bytes are not what they must be.
+pub const ILLEGAL_SEQUENCE: i32 = -84;
