@@ -3,4 +3,5 @@ pub mod ElementLemmas
 pub mod HomeLemmas
 mod LooseSteps
 pub mod MappedLemmas
+mod SealLemmas
 pub mod WorkedLemmas

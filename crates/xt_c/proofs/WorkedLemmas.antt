@@ -7,7 +7,7 @@ use Rattle.xt_base.specs.declared.names.JobKind.TheVariants.{Flush}
 use Rattle.xt_base.specs.declared.steps.Reply.{Reply}
 use Rattle.xt_c.specs.Replies.{Shows}
 use Rattle.xt_c.specs.Status.{status_of}
-use Rattle.xt_c.specs.Working.{IsStep, IsWorked, flush_by, flush_into, flush_of, home_answers, lie_below, name_in, worked}
+use Rattle.xt_c.specs.Working.{IsFlush, IsFlushed, IsStep, IsWorked, flush_by, flush_into, flush_of, flush_status, home_answers, lie_below, name_in, worked}
 use Rattle.xt_c.specs.declared.words.ReplyWords.{ReplyWords}
 
 -- a step that was taken is told
@@ -15,6 +15,12 @@ pub goes : (wants : Reply → Bool) (m new : State) (o : Outcome) (told : Reply)
     → gives told new ≡ o → status ≡ status_of told → Shows told w → IsStep wants m (Some o) status (worked w (Some new)) (worked old (Some m))
 goes wants m new o told status w old e same shows =
     subst (λ (x : Outcome). IsStep wants m (Some x) status (worked w (Some new)) (worked old (Some m))) e (inl (record { status = same; reply = shows; mount = refl }))
+
+-- a flush that was done is told
+pub flushes : (count : ℕ) (new : State) (o : Outcome) (told : Reply) (status : ℤ) (w old : ReplyWords) (m : State)
+    → gives told new ≡ o → status ≡ flush_status count told → Shows told w → IsFlush count (Some o) status (worked w (Some new)) (worked old (Some m))
+flushes count new o told status w old m e same shows =
+    subst (λ (x : Outcome). IsFlush count (Some x) status (worked w (Some new)) (worked old (Some m))) e (record { status = same; reply = shows; mount = refl })
 
 -- the flush of a job that waits, by answers to as many writes as its plan has
 pub due : (serial count written synced : ℕ) (m : State) → is_waiting (name_in Flush serial m) m ≡ true → count ≡ length (flush_plan m)
@@ -36,3 +42,11 @@ pub moved : (wants : Reply → Bool) (step : State → Option Outcome) (old new 
 moved wants step old new m m' status w w' e f x =
     subst (λ (o : Option State). IsWorked wants step o status (worked w' new) (worked w o)) (sym e)
     (subst (λ (n : Option State). IsWorked wants step (Some m) status (worked w' n) (worked w (Some m))) (sym f) x)
+
+-- what a flush does to a mount it does to the handle that holds it
+pub flushed_behind : (serial count written synced : ℕ) (old new : Option State) (m m' : State) (status : ℤ) (w w' : ReplyWords)
+    → old ≡ Some m → new ≡ Some m' → IsFlushed serial count written synced (Some m) status (worked w' (Some m')) (worked w (Some m))
+    → IsFlushed serial count written synced old status (worked w' new) (worked w old)
+flushed_behind serial count written synced old new m m' status w w' e f x =
+    subst (λ (o : Option State). IsFlushed serial count written synced o status (worked w' new) (worked w o)) (sym e)
+    (subst (λ (n : Option State). IsFlushed serial count written synced (Some m) status (worked w' n) (worked w (Some m))) (sym f) x)

@@ -17,7 +17,7 @@ use Rattle.xt_c.specs.Replies.{Shows, room_after}
 use Rattle.xt_c.specs.Status.{refusal, status_of}
 use Rattle.xt_c.specs.declared.words.ReplyWords.{ReplyWords}
 use Rattle.xt_c.specs.declared.words.RequestWords.{RequestWords}
-use Rattle.xt_mount.specs.Come.{new_refusals, read_block}
+use Rattle.xt_mount.specs.Come.{new_refusals, read_block, spent_log}
 
 -- ---- open
 -- what refuses an open: the handle holds a mount already, a size out of its range, a last life that is the greatest
@@ -124,3 +124,14 @@ reason_status (Some reason) = pos (reason_number reason)
 abbrev pub shut_status : Option State → ℤ
 shut_status None = refusal NoDevice
 shut_status (Some m) = reason_status m.shut
+
+-- ---- log needed
+-- 0 where no text on the log is of use any more, else 1
+abbrev pub spent_status : Option ℕ → ℤ
+spent_status (Some log_bytes) = pos 0
+spent_status None = pos 1
+
+-- the same of a handle: by `spent_log` 0 is just that of a live mount with no checkpoint in flight and with no block that waits to be written home
+abbrev pub needed_status : Option State → ℤ
+needed_status None = refusal NoDevice
+needed_status (Some m) = spent_status (spent_log m)

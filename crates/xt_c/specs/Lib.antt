@@ -6,4 +6,5 @@ pub mod Replies
 pub mod Calling
 pub mod Changing
 pub mod Working
+pub mod Sealing
 pub mod Verdicts

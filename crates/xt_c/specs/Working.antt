@@ -8,11 +8,11 @@ use Rattle.xt_base.specs.State.{State}
 use Rattle.xt_base.specs.declared.names.JobKind.{JobKind}
 use Rattle.xt_base.specs.declared.names.JobKind.TheVariants.{Ckpt, Flush}
 use Rattle.xt_base.specs.declared.names.JobName.{JobName}
-use Rattle.xt_base.specs.declared.steps.Errno.TheVariants.{Invalid, NoDevice, NoMemory}
+use Rattle.xt_base.specs.declared.steps.Errno.TheVariants.{Invalid, Io, NoDevice, NoMemory}
 use Rattle.xt_base.specs.declared.steps.HomeAnswers.{HomeAnswers}
 use Rattle.xt_base.specs.declared.steps.LogAnswers.{LogAnswers}
 use Rattle.xt_base.specs.declared.steps.Reply.{Reply}
-use Rattle.xt_base.specs.declared.steps.Reply.TheVariants.{Refused}
+use Rattle.xt_base.specs.declared.steps.Reply.TheVariants.{Flushed, Refused}
 use Rattle.xt_c.specs.Replies.{Shows, StandsIn}
 use Rattle.xt_c.specs.Status.{refusal, status_of}
 use Rattle.xt_c.specs.declared.words.PlanWords.{PlanWords}
@@ -186,6 +186,27 @@ flush_by count written synced plan m = if count == length plan then Some (flush 
 -- the flush of a job that waits
 abbrev pub flush_of : ℕ → ℕ → ℕ → ℕ → State → Option Outcome
 flush_of serial count written synced m = if is_waiting (name_in Flush serial m) m then flush_by count written synced (flush_plan m) m else None
+
+-- what a flush of so many blocks returns: EIO where its reply says that it did not bring all of them home, as where a write or the sync failed
+abbrev pub flush_status : ℕ → Reply → ℤ
+flush_status count (Flushed home) = if home == count then pos 0 else refusal Io
+flush_status count other = status_of other
+
+-- the flush took place: its reply is told, the mount goes on, and this is returned
+pub record Flushes (count : ℕ) (o : Outcome) (returned : ℤ) (new : Worked) : Type 0 where
+  pub status : returned ≡ flush_status count o.reply
+  pub reply : Shows o.reply new.reply
+  pub mount : new.mount ≡ Some o.state
+
+-- a flush that may come
+abbrev pub IsFlush : ℕ → Option Outcome → ℤ → Worked → Worked → Type 0
+IsFlush count None status new old = (status ≡ refusal Invalid) × (new ≡ old)
+IsFlush count (Some o) status new old = Flushes count o status new
+
+-- the same of a handle
+abbrev pub IsFlushed : ℕ → ℕ → ℕ → ℕ → Option State → ℤ → Worked → Worked → Type 0
+IsFlushed serial count written synced None status new old = (status ≡ refusal NoDevice) × (new ≡ old)
+IsFlushed serial count written synced (Some m) status new old = IsFlush count (flush_of serial count written synced m) status new old
 
 -- ---- a flush straight into memory
 -- the flush of a job that waits, where its blocks are all whole within a home device of so many: each write was good, and the sync

@@ -6,7 +6,7 @@ ghost use Rattle.xt_base.specs.Maps.{is_in};
 ghost use Rattle.xt_base.specs.declared.steps.Errno.TheVariants.{Invalid};
 ghost use Rattle.xt_c.specs.Holding.{held};
 ghost use Rattle.xt_c.specs.Status.{refusal};
-ghost use Rattle.xt_c.specs.Working.{AreHomesOf, IsHome, IsHomeOf, IsPlanOf, IsWorked, ShowsPlan, content_in, flush_of, has_bit, home_answers, wants_none, worked};
+ghost use Rattle.xt_c.specs.Working.{AreHomesOf, IsFlushed, IsHome, IsHomeOf, IsPlanOf, ShowsPlan, content_in, flush_status, has_bit, home_answers, worked};
 ghost use Rattle.xt_mount.specs.Accounts.{IsUnchanged};
 
 use crate::handle::Handle;
@@ -16,7 +16,7 @@ use crate::status::{refusal, status_of};
 use crate::words::{PlanWords, ReplyWords};
 use std::alloc::Global;
 use xt_base::names::{Block, JobKind};
-use xt_base::steps::{Errno, HomeAnswers};
+use xt_base::steps::{Errno, HomeAnswers, Reply};
 use xt_items::plan::FlushPlan;
 use xt_mount::mount::Mount;
 
@@ -213,6 +213,22 @@ pub fn home_answers(count: u8, written: u32, synced: u32) -> HomeAnswers
     }
 }
 
+/// What a flush of so many blocks returns: an I/O error where it did not bring all of them home.
+fn flush_status(count: u32, told: &Reply) -> i32
+    ensures { result ≡ flush_status count told.now }
+{
+    match told {
+        Reply::Flushed(home) => {
+            if *home == count {
+                0
+            } else {
+                refusal(Errno::Io)
+            }
+        }
+        _ => status_of(told),
+    }
+}
+
 /// Ends a flush that waits, where its plan has so many blocks.
 fn flush(
     mount: &mut Mount,
@@ -223,7 +239,7 @@ fn flush(
     reply: &mut ReplyWords,
 ) -> i32
     requires { mount.old.slot ≡ 0 }
-    ensures flushed { IsWorked wants_none (flush_of serial count written synced) (Some mount.old) result (worked reply.new (Some mount.new)) (worked reply.old (Some mount.old)) }
+    ensures flushed { IsFlushed serial count written synced (Some mount.old) result (worked reply.new (Some mount.new)) (worked reply.old (Some mount.old)) }
     ensures slot { mount.new.slot ≡ 0 }
 {
     let Some(name) = waiting(mount, JobKind::Flush, serial) else {
@@ -236,11 +252,11 @@ fn flush(
     }
     let told = mount.flush_planned(name, &plan, home_answers(planned, written, synced));
     put_reply(reply, &told);
-    status_of(&told)
+    flush_status(count, &told)
 }
 
-/// Ends a flush by what the home device answered to the writes of its plan, of so many blocks, and writes its reply; else EINVAL, and
-/// nothing is changed.
+/// Ends a flush by what the home device answered to the writes of its plan, of so many blocks, and writes its reply: 0 where all of them are
+/// home, else EIO. Where no such flush waits EINVAL, and nothing is changed.
 #[unsafe(no_mangle)]
 pub extern "C" fn refskold_abi_flush(
     alloc: Global,
@@ -251,7 +267,7 @@ pub extern "C" fn refskold_abi_flush(
     synced: u32,
     reply: &mut ReplyWords,
 ) -> i32
-    ensures { IsWorked wants_none (flush_of serial count written synced) (held handle.old) result (worked reply.new (held handle.new)) (worked reply.old (held handle.old)) }
+    ensures { IsFlushed serial count written synced (held handle.old) result (worked reply.new (held handle.new)) (worked reply.old (held handle.old)) }
 {
     let Some(mut mount) = handle.take(alloc) else {
         return refusal(Errno::NoDevice);

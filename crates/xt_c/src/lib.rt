@@ -16,5 +16,6 @@ mod mapped;
 mod mounts;
 mod replies;
 mod requests;
+mod seals;
 mod status;
 mod words;

@@ -5,10 +5,10 @@ ghost use Rattle.xt_base.specs.Calls.{first_of};
 ghost use Rattle.xt_base.specs.Form.{form_of};
 ghost use Rattle.xt_base.specs.State.{mount_of};
 ghost use Rattle.xt_base.specs.declared.steps.Errno.TheVariants.{NoMemory};
-ghost use Rattle.xt_c.specs.Calling.{IsOpened, reason_status, shut_status};
+ghost use Rattle.xt_c.specs.Calling.{IsOpened, needed_status, reason_status, shut_status, spent_status};
 ghost use Rattle.xt_c.specs.Holding.{held};
 ghost use Rattle.xt_frames.specs.Shares.{no_contents};
-ghost use Rattle.xt_mount.specs.Come.{new_refusals};
+ghost use Rattle.xt_mount.specs.Come.{new_refusals, spent_log};
 
 use crate::handle::Handle;
 use crate::status::refusal;
@@ -20,7 +20,7 @@ use xt_frames::table::FrameTable;
 use xt_mount::mount::Mount;
 
 /// What an export of this library promises: it goes up with each change of what C sees.
-const VERSION: u32 = 2;
+const VERSION: u32 = 4;
 
 /// The version of what C sees.
 #[unsafe(no_mangle)]
@@ -164,6 +164,31 @@ pub extern "C" fn refskold_abi_shut(alloc: Global, handle: &mut Handle) -> i32
         return refusal(Errno::NoDevice);
     };
     let status = reason_status(mount.shut());
+    handle.put(mount);
+    status
+}
+
+/// Whether the log of a mount may have a text that is of use: 1, or 0.
+fn log_needed(mount: &Mount) -> i32
+    ensures { result ≡ spent_status (spent_log mount.now) }
+{
+    match mount.spent_log() {
+        Some(_) => 0,
+        None => 1,
+    }
+}
+
+/// Whether a text on the log may still be needed: 0 where the mount is live, no checkpoint is in flight, and no block waits to be written
+/// home; else 1.
+#[unsafe(no_mangle)]
+pub extern "C" fn refskold_abi_log_needed(alloc: Global, handle: &mut Handle) -> i32
+    ensures status { result ≡ needed_status (held handle.old) }
+    ensures same { held handle.new ≡ held handle.old }
+{
+    let Some(mount) = handle.take(alloc) else {
+        return refusal(Errno::NoDevice);
+    };
+    let status = log_needed(&mount);
     handle.put(mount);
     status
 }
