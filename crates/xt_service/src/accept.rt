@@ -5,11 +5,11 @@ ghost use Rattle.slab.specs.Slab.{slab_len};
 ghost use Rattle.std.specs.Arc.{arc_value};
 
 use crate::door::Door;
+use crate::stream::{Listener, Stream};
 use crate::table::Table;
 use crate::tidings::Tidings;
 use std::alloc::Global;
 use std::io::{self, ErrorKind};
-use std::net::{TcpListener, TcpStream};
 use std::sync::{Arc, Wait};
 use std::thread;
 use std::thread::Threads;
@@ -58,17 +58,17 @@ impl Waiting {
 /// where there are too many open files, is passed over.
 fn next_stream<R: Wait + Clock>(
     rt: &R,
-    listener: &TcpListener,
+    listener: Listener<'_>,
     tidings: &Tidings,
     door: &Door,
-) -> Option<TcpStream> {
+) -> Option<Stream> {
     let mut waiting = Waiting::new();
     for _ in rt.forever() {
         if door.is_shut() {
             return None;
         }
         match listener.accept() {
-            Ok((stream, _client)) => return Some(stream),
+            Ok(stream) => return Some(stream),
             Err(error) => waiting.wait_after(rt, error, tidings),
         }
     }
@@ -85,7 +85,7 @@ fn begin_session<
     rt: R,
     alloc: Global,
     host: &Arc<Host<H, D>, Global>,
-    listener: &TcpListener,
+    listener: Listener<'_>,
     table: &mut Table<H>,
     tidings: &Tidings,
     door: &Arc<Door, Global>,
@@ -118,9 +118,9 @@ pub fn accept_sessions<
     rt: R,
     alloc: Global,
     host: &Arc<Host<H, D>, Global>,
-    listener: &TcpListener,
+    listener: Listener<'_>,
     table: &mut Table<H>,
-    count: u32,
+    count: u64,
     tidings: &Tidings,
     door: &Arc<Door, Global>,
 )

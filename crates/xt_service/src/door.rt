@@ -6,13 +6,32 @@ use std::sync::atomic::{AtomicBool, Ordering};
 #[derive(Drop)]
 pub struct Door {
     is_shut: AtomicBool,
+    /// How many seconds a client may be silent; None where it may be as long as it likes.
+    patience: Option<u32>,
 }
 
 impl Door {
-    /// An open one.
+    /// An open one, through which a client may be silent.
     pub fn new() -> Self {
         Door {
             is_shut: AtomicBool::new(false),
+            patience: None,
+        }
+    }
+
+    /// The same; but a session whose client is silent for so many seconds ends.
+    pub fn with_patience(seconds: u32) -> Self {
+        Door {
+            is_shut: AtomicBool::new(false),
+            patience: Some(seconds),
+        }
+    }
+
+    /// Whether a client that was silent for so many tenths of a second may be so still.
+    pub fn bears(&self, tenths: u64) -> bool {
+        match self.patience {
+            Some(seconds) => tenths < u64::from(seconds) * 10,
+            None => true,
         }
     }
 

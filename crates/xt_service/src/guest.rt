@@ -1,8 +1,8 @@
 //! The stream of a session, which is given up once a door is shut and its client is silent.
 
 use crate::door::Door;
+use crate::stream::Stream;
 use std::io::{self, ErrorKind, Read, Write};
-use std::net::TcpStream;
 use std::sync::atomic::{AtomicBool, Ordering};
 use std::time::Duration;
 
@@ -15,13 +15,13 @@ const LAST_READS: u32 = 100;
 /// The stream of a client, and whether the client was sent away before its session began.
 #[derive(Drop)]
 pub struct Guest {
-    stream: TcpStream,
+    stream: Stream,
     is_sent_away: AtomicBool,
 }
 
 impl Guest {
     /// One that is to be served.
-    pub fn new(stream: TcpStream) -> Self {
+    pub fn new(stream: Stream) -> Self {
         Guest {
             stream,
             is_sent_away: AtomicBool::new(false),
@@ -35,10 +35,7 @@ impl Guest {
 
     /// Has its stream pass on each reply at once, and tell of silence. One that can't waits for its client as before.
     pub fn prepare(&self) {
-        let silence = Some(Duration::from_millis(SILENCE_MILLIS));
-        let _ = self.stream.set_nodelay(true);
-        let _ = self.stream.set_read_timeout(silence);
-        let _ = self.stream.set_write_timeout(silence);
+        self.stream.prepare(Duration::from_millis(SILENCE_MILLIS));
     }
 }
 
@@ -54,13 +51,15 @@ fn fault(error: io::Error, door: &Door) -> io::Error {
     }
 }
 
-/// What a client says; nothing of one that was sent away. Once the door is shut it is read until the client is silent, and a hundred times at
-/// most.
+/// What a client says; nothing of one that was sent away, or that was silent for longer than the door bears. Once that is shut it is read until the client is
+/// silent, and a hundred times at most.
 #[derive(Drop)]
 pub struct Hearing<'a> {
     guest: &'a Guest,
     door: &'a Door,
     last_reads: u32,
+    /// For how many tenths of a second the client has been silent.
+    silence: u64,
 }
 
 impl<'a> Hearing<'a> {
@@ -70,6 +69,7 @@ impl<'a> Hearing<'a> {
             guest,
             door,
             last_reads: LAST_READS,
+            silence: 0,
         }
     }
 
@@ -92,10 +92,19 @@ impl<'a> Read for Hearing<'a> {
         if !self.goes_on() {
             return Err(io::Error::from(ErrorKind::TimedOut));
         }
-        let mut stream = &self.guest.stream;
-        match stream.read(buf) {
-            Ok(count) => Ok(count),
-            Err(error) => Err(fault(error, self.door)),
+        match self.guest.stream.hear(buf) {
+            Ok(count) => {
+                self.silence = 0;
+                Ok(count)
+            }
+            Err(error) => {
+                self.silence = self.silence.saturating_add(1);
+                if self.door.bears(self.silence) {
+                    Err(fault(error, self.door))
+                } else {
+                    Err(io::Error::from(ErrorKind::TimedOut))
+                }
+            }
         }
     }
 }
@@ -116,8 +125,7 @@ impl<'a> Telling<'a> {
 
 impl<'a> Write for Telling<'a> {
     fn write(&mut self, buf: &[u8]) -> io::Result<usize> {
-        let mut stream = &self.guest.stream;
-        match stream.write(buf) {
+        match self.guest.stream.tell(buf) {
             Ok(count) => Ok(count),
             Err(error) => Err(fault(error, self.door)),
         }

@@ -1,4 +1,4 @@
-//! Sessions over a running host: what answers their lines (`host_calls`), and the service that takes them over TCP, with its workers.
+//! Sessions over a running host: what answers their lines (`host_calls`), and the service that takes them over TCP or a path, with its workers.
 #![tactic(auto)]
 
 pub mod accept;
@@ -14,6 +14,7 @@ pub mod host_session;
 mod names;
 mod room;
 pub mod service;
+pub mod stream;
 pub mod table;
 pub mod tidings;
 pub mod workplace;

@@ -15,11 +15,11 @@ use crate::bench::Bench;
 use crate::door::Door;
 use crate::ended::{Ended, PLACES};
 use crate::room::{Room, put_benches, put_seats};
+use crate::stream::Listener;
 use crate::table::Table;
 use crate::tidings::Tidings;
 use crate::workplace::Workplace;
 use std::alloc::{AllocError, Global};
-use std::net::TcpListener;
 use std::snapshot::Snapshot;
 use std::sync::{Arc, Wait};
 use std::thread;
@@ -283,7 +283,7 @@ impl<H: House + Send + Sync + 'static> Service<H> {
         })
     }
 
-    /// Serves so many sessions over the streams of a listener, at most sixteen at a time, and returns when the last has ended. Once the door
+    /// Serves so many sessions over the streams of a listener, of TCP or of a path, at most sixteen at a time, and returns when the last has ended. Once the door
     /// is shut no more are served, and each ends where its client is silent; a listener that waits for a client finds that out only then,
     /// so where the door may be shut it is to be one that does not block. A stream that can't be accepted is noted as a tiding, and tried again;
     /// a client whose session can't have a thread is noted too, and sent away.
@@ -292,8 +292,8 @@ impl<H: House + Send + Sync + 'static> Service<H> {
         rt: R,
         alloc: Global,
         host: &Arc<Host<H>, Global>,
-        listener: &TcpListener,
-        count: u32,
+        listener: Listener<'_>,
+        count: u64,
         tidings: &Tidings,
         door: &Arc<Door, Global>,
     )

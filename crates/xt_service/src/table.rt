@@ -12,9 +12,9 @@ use crate::door::Door;
 use crate::ended::{Ended, PLACES};
 use crate::guest::{Guest, Hearing, Telling};
 use crate::host_session::host_session;
+use crate::stream::Stream;
 use slab::Slab;
 use std::alloc::{AllocError, Global};
-use std::net::TcpStream;
 use std::snapshot::Snapshot;
 use std::sync::{Arc, Wait};
 use std::thread;
@@ -254,7 +254,7 @@ impl<H: House + Send + Sync + 'static> Table<H> {
         rt: R,
         alloc: Global,
         host: &Arc<Host<H, D>, Global>,
-        stream: TcpStream,
+        stream: Stream,
         door: &Arc<Door, Global>,
     ) -> bool
         requires free { 0 < vec_len self.old.free }

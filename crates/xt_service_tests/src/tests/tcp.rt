@@ -26,6 +26,7 @@ use xt_host::fault::CloseFault;
 use xt_host::host::Host;
 use xt_service::door::Door;
 use xt_service::service::{Service, ServiceEnd};
+use xt_service::stream::Listener;
 use xt_service::tidings::Tidings;
 
 /// What the clients of a service do.
@@ -199,8 +200,8 @@ fn serve_clients<
         rt,
         alloc,
         host,
-        &listener,
-        visit.sessions(),
+        Listener::Tcp(&listener),
+        u64::from(visit.sessions()),
         &Tidings::new(),
         &door,
     );
