@@ -18,12 +18,12 @@ use script::script_on_streams;
 use serve::ending::Ended;
 use serve::fault::ServeFault;
 use serve::files::{LogRules, Opened, look, open};
-use serve::making::Held;
+use serve::held::Held;
+use serve::listening::{Address, listen, take_away};
 use serve::options::{Options, serve_command};
 use serve::running::{Orders, serve};
 use std::alloc::{AllocError, Global};
 use std::io::{IsTerminal, Stderr, Stdin};
-use std::net::TcpListener;
 use std::process::ExitCode;
 use streams::fill;
 use xt_base::names::Slot;
@@ -110,6 +110,8 @@ fn details(rt: &HostRuntime, matches: &ArgMatches) -> Option<Stderr> {
 /// A service that is made ready.
 struct Ready {
     orders: Orders,
+    /// Where it listens.
+    address: Address,
     opened: Vec<Opened>,
     /// The volumes, also those that are not served, with their files locked for as long as the service runs.
     held: Vec<Held>,
@@ -125,14 +127,6 @@ enum Next {
     Serve(Ready),
 }
 
-/// Listens at a port of this machine, or at one that the system chooses.
-fn listen(rt: &HostRuntime, port: u16) -> Result<TcpListener, ServeFault> {
-    match TcpListener::bind(rt, ("127.0.0.1", port)) {
-        Ok(listener) => Ok(listener),
-        Err(error) => Err(ServeFault::Port(port, error)),
-    }
-}
-
 /// The files of volumes that are served: as they are locked, and as devices.
 type Files = (Vec<Held>, Vec<Opened>);
 
@@ -142,19 +136,18 @@ fn make_and_open(
     rt: &HostRuntime,
     alloc: Global,
     volumes: Vec<Volume>,
-    recovers: bool,
     logs: LogRules,
     held: &mut Vec<Held>,
 ) -> Result<Vec<Opened>, ServeFault> {
     held.reserve(volumes.len())?;
     for volume in volumes {
-        held.push(Held::take(rt, alloc, volume)?)?;
+        held.push(Held::take(rt, alloc, volume, logs)?)?;
     }
     for one in held.iter() {
         one.sync_made(rt, alloc)?;
     }
-    if recovers {
-        recover_volumes(rt, alloc, held.as_mut_slice())?;
+    if let LogRules::Sealed { take_any } = logs {
+        recover_volumes(rt, alloc, held.as_mut_slice(), take_any)?;
     }
     open(rt, alloc, held.as_slice(), logs)
 }
@@ -164,11 +157,10 @@ fn open_files(
     rt: &HostRuntime,
     alloc: Global,
     volumes: Vec<Volume>,
-    recovers: bool,
     logs: LogRules,
 ) -> Result<Files, ServeFault> {
     let mut held = Vec::new(alloc);
-    match make_and_open(rt, alloc, volumes, recovers, logs, &mut held) {
+    match make_and_open(rt, alloc, volumes, logs, &mut held) {
         Ok(opened) => Ok((held, opened)),
         Err(fault) => {
             for one in &held {
@@ -191,25 +183,35 @@ fn ending_input(rt: &HostRuntime, options: &Options) -> Option<Stdin> {
 /// Makes ready what a service needs: the port first, and files only where all can be devices.
 fn make_ready(rt: &HostRuntime, options: Options) -> Result<Next, ServeFault> {
     let alloc = rt.alloc();
-    look(rt, alloc, &options.volumes, options.recovers)?;
-    let listener = listen(rt, options.port)?;
-    listener.set_nonblocking(options.until_stdin_ends)?;
-    let port = listener.local_addr()?.port();
+    if let Some(note) = options.note {
+        let _ = eprintln!(rt; "{note}");
+    }
+    look(rt, alloc, &options.volumes, options.logs)?;
+    let (listening, place) = listen(rt, alloc, &options.address)?;
+    listening.set_nonblocking(options.until_stdin_ends)?;
     let input = ending_input(rt, &options);
     let logs = options.logs;
-    let (held, opened) = open_files(rt, alloc, options.volumes, options.recovers, logs)?;
+    let (held, opened) = match open_files(rt, alloc, options.volumes, logs) {
+        Ok(files) => files,
+        Err(fault) => {
+            take_away(rt, &options.address);
+            return Err(fault);
+        }
+    };
     let orders = Orders {
-        listener,
-        port,
+        listening,
+        place,
         workers: options.workers,
         sessions: options.sessions,
+        patience: options.patience,
         input,
     };
     Ok(Next::Serve(Ready {
         orders,
+        address: options.address,
         opened,
         held,
-        cuts_logs: logs.are_cut,
+        cuts_logs: logs.are_emptied(),
     }))
 }
 
@@ -307,11 +309,14 @@ fn main(rt: HostRuntime) -> ExitCode {
     };
     let Ready {
         orders,
+        address,
         opened,
         held,
         cuts_logs,
     } = ready;
-    ExitCode::from(match serve(rt, alloc, Blanks::new(), &orders, opened) {
+    let served = serve(rt, alloc, Blanks::new(), &orders, opened);
+    take_away(&rt, &address);
+    ExitCode::from(match served {
         Ok(ended) => close(&rt, &ended, &held, cuts_logs),
         Err(fault) => fail(&rt, &fault),
     })

@@ -41,6 +41,9 @@ pub enum ServeFault {
     /// A log that has something in it, which is not to be recovered.
     #[error("fault: {0}: the log is not empty; recover it with xth recover, or serve with --recover")]
     NotRecovered(String),
+    /// A file of a sealed log that is missing, and the other one.
+    #[error("fault: {0}: it is missing, and {1} is of a sealed log; with --any-log that is recovered alone")]
+    LogMissing(String, String),
     /// A volume that was not recovered: its slot, and the name of the file at fault.
     #[error("slot {}: {}: {}", .0.index(), .1, .2)]
     Recovery(Slot, String, CommandFault),
@@ -50,6 +53,12 @@ pub enum ServeFault {
     /// A port that can't be listened at.
     #[error("fault: port {0}: {1}")]
     Port(u16, io::Error),
+    /// A path that can't be listened at.
+    #[error("fault: {0}: {1}")]
+    Path(String, io::Error),
+    /// A word that is no address to listen at.
+    #[error("fault: listen '{0}': it is neither 127.0.0.1:PORT nor unix:PATH")]
+    Address(String),
     /// The service could not begin.
     #[error("fault: start {}", .0.name())]
     Start(Errno),

@@ -1,16 +1,22 @@
 //! The files of volumes, looked at before any is made, and opened as devices.
 
+ghost use Rattle.std.specs.Prelude.{◌≡◌, IfOk, Some};
+ghost use Rattle.xt_dev.specs.TwoFiles.{IsFirst};
+
+use crate::recovery::logs::is_sealed;
 use crate::serve::fault::ServeFault;
-use crate::serve::making::Held;
+use crate::serve::held::Held;
 use crate::serve::telling::{TellingHome, TellingLog, Voice};
-use std::alloc::Global;
-use std::fs::{self, Metadata};
+use std::alloc::{AllocError, Global};
+use std::fs::{self, File, Metadata};
 use std::io::{self, ErrorKind};
-use std::os::unix::fs::{FileTypeExt, MetadataExt};
+use std::os::unix::fs::{FileExt, FileTypeExt, MetadataExt};
 use std::path::{Path, PathBuf};
+use std::random::RandomSource;
 use xt_base::names::Slot;
-use xt_dev::{FileFault, FileHome, FileLog};
-use xt_volumes::Volume;
+use xt_dev::{FileFault, FileHome, FileLog, LogDevice, SealedLog};
+use xt_seal::{HEADER_BYTES, Header, SEAL_BYTES};
+use xt_volumes::{Volume, header_name};
 
 /// The number of `/dev/full` on Linux, the device that takes nothing: people try a full disk with it.
 const FULL_DEVICE: u64 = 0x107;
@@ -31,21 +37,56 @@ pub struct Geometry {
     pub size: u32,
 }
 
+/// The log of a volume: bare texts in one file, or sealed ones in two.
+#[derive(Drop)]
+pub enum OpenLog {
+    Bare(TellingLog<FileLog>),
+    Sealed(TellingLog<SealedLog>),
+}
+
 /// A volume whose files are open.
 #[derive(Drop)]
 pub struct Opened {
     pub geometry: Geometry,
     pub home: TellingHome,
-    pub log: TellingLog,
+    pub log: OpenLog,
 }
 
 /// How the logs of volumes are kept.
 #[derive(Clone, Copy, Debug)]
-pub struct LogRules {
-    /// Whether they are emptied where they are of no use any more.
-    pub are_cut: bool,
-    /// Whether the end of each text waits until what is before it is safe.
-    pub have_barrier: bool,
+pub enum LogRules {
+    /// In one file, which is empty at the start.
+    Bare {
+        /// Whether they are emptied where they are of no use any more.
+        are_cut: bool,
+        /// Whether the end of each text waits until what is before it is safe.
+        have_barrier: bool,
+    },
+    /// Sealed, in two files by turns. What these have at the start is recovered, and they are emptied where they are of no use any more.
+    Sealed {
+        /// Whether the log of another volume is recovered too.
+        take_any: bool,
+    },
+}
+
+impl LogRules {
+    /// Whether logs are sealed, and recovered before the start.
+    pub fn are_sealed(self) -> bool {
+        matches!(self, LogRules::Sealed { .. })
+    }
+
+    /// Whether logs that are of no use any more are emptied at the end of a service.
+    pub fn are_emptied(self) -> bool {
+        match self {
+            LogRules::Bare { are_cut, .. } => are_cut,
+            LogRules::Sealed { .. } => true,
+        }
+    }
+}
+
+/// The name of the second file of a log.
+pub fn second_name(alloc: Global, log: &str) -> Result<String, AllocError> {
+    format!(in alloc; "{log}.1")
 }
 
 /// A fault of a file, with its name.
@@ -137,30 +178,94 @@ pub fn look(
     rt: &HostRuntime,
     alloc: Global,
     volumes: &[Volume],
-    recovers: bool,
+    rules: LogRules,
 ) -> Result<(), ServeFault> {
     let mut places = Vec::new(alloc);
     for volume in volumes {
         look_at(rt, alloc, volume.home.as_str(), Part::Home, &mut places)?;
-        if look_at(rt, alloc, volume.log.as_str(), Part::Log, &mut places)? > 0 {
-            look_at_left(rt, alloc, volume, recovers)?;
+        let has_texts = match rules {
+            LogRules::Sealed { take_any } => {
+                look_at_both(rt, alloc, volume, take_any, &mut places)?
+            }
+            LogRules::Bare { .. } => look_at_one(rt, alloc, volume, &mut places)?,
+        };
+        if has_texts {
+            look_for(rt, alloc, volume.home.as_str())?;
         }
     }
     Ok(())
 }
 
-/// Looks at a volume whose log has something in it: it must be recovered, and its home device be there.
-fn look_at_left(
+/// Looks at both files of a sealed log: whether one has something in it. Then it is to be recovered, and the home device must be there.
+fn look_at_both(
     rt: &HostRuntime,
     alloc: Global,
     volume: &Volume,
-    recovers: bool,
+    takes_any: bool,
+    places: &mut Vec<PathBuf>,
+) -> Result<bool, ServeFault> {
+    let first = volume.log.as_str();
+    let second = second_name(alloc, first)?;
+    let first_size = look_at(rt, alloc, first, Part::Log, places)?;
+    let second_size = look_at(rt, alloc, second.as_str(), Part::Log, places)?;
+    if !takes_any {
+        look_for_both(rt, alloc, first, second.as_str())?;
+    }
+    Ok(first_size > 0 || second_size > 0)
+}
+
+/// Looks for both files of a sealed log. A service makes their names safe before either has a header: where one has, and the other is missing, somebody took
+/// that away.
+pub fn look_for_both(
+    rt: &HostRuntime,
+    alloc: Global,
+    first: &str,
+    second: &str,
 ) -> Result<(), ServeFault> {
-    if !recovers {
+    for (there, missing) in [(first, second), (second, first)] {
+        if is_missing(rt, missing) && is_sealed(rt, there) {
+            return Err(ServeFault::LogMissing(
+                String::from_str(alloc, missing)?,
+                String::from_str(alloc, there)?,
+            ));
+        }
+    }
+    Ok(())
+}
+
+/// Whether there is no file of this name.
+fn is_missing(rt: &HostRuntime, name: &str) -> bool {
+    match fs::metadata(rt, name) {
+        Ok(_found) => false,
+        Err(error) => error.kind() == ErrorKind::NotFound,
+    }
+}
+
+/// Looks at the file of a bare log, which must be empty. A second file beside it that has texts of a sealed log is a fault too: they would be lost.
+fn look_at_one(
+    rt: &HostRuntime,
+    alloc: Global,
+    volume: &Volume,
+    places: &mut Vec<PathBuf>,
+) -> Result<bool, ServeFault> {
+    if look_at(rt, alloc, volume.log.as_str(), Part::Log, places)? > 0 {
         let name = String::from_str(alloc, volume.log.as_str())?;
         return Err(ServeFault::NotRecovered(name));
     }
-    look_for(rt, alloc, volume.home.as_str())
+    let second = second_name(alloc, volume.log.as_str())?;
+    if has_sealed_texts(rt, second.as_str()) {
+        return Err(ServeFault::NotRecovered(second));
+    }
+    Ok(false)
+}
+
+/// Whether a file has more than the header of a sealed log, with which it begins. One that is not there has nothing, and one that can't be read is no log.
+fn has_sealed_texts(rt: &HostRuntime, name: &str) -> bool {
+    let mut front = [0; HEADER_BYTES + 1];
+    match File::open(rt, name) {
+        Ok(file) => { file.read_exact_at(&mut front, 0).is_ok() && Header::read(&front).is_some() }
+        Err(_) => false,
+    }
 }
 
 /// Looks for a file that must be there.
@@ -171,16 +276,74 @@ pub fn look_for(rt: &HostRuntime, alloc: Global, name: &str) -> Result<(), Serve
     }
 }
 
-/// Opens the log of a volume.
-fn open_log(rt: &HostRuntime, volume: &Volume, rules: LogRules) -> Result<FileLog, FileFault> {
-    let mut log = FileLog::open(rt, volume.log.as_str())?;
-    if rules.are_cut {
+/// Opens the file of a bare log.
+fn open_bare(
+    rt: &HostRuntime,
+    name: &str,
+    are_cut: bool,
+    have_barrier: bool,
+) -> Result<FileLog, FileFault> {
+    let mut log = FileLog::open(rt, name)?;
+    if are_cut {
         log = log.emptied_by_cuts();
     }
-    if rules.have_barrier {
+    if have_barrier {
         log = log.with_barrier();
     }
     Ok(log)
+}
+
+/// The header that begins a life of a volume.
+fn first_header<R: RandomSource>(rt: &R, volume: &Volume) -> io::Result<Header>
+    ensures first { IfOk result IsFirst }
+    ensures log_bytes { IfOk result (λ header. header.log_bytes ≡ volume.now.log_bytes) }
+{
+    let mut salt = [0; 8];
+    rt.fill_bytes(&mut salt)?;
+    Ok(Header {
+        block_size: volume.size,
+        log_bytes: volume.log_bytes,
+        generation: 1,
+        salt: u64::from_be_bytes(salt),
+        link: [0; SEAL_BYTES],
+        name: header_name(volume.home.as_str()),
+    })
+}
+
+/// Opens both files of a sealed log, which begins a life.
+fn open_sealed(rt: &HostRuntime, volume: &Volume, second: &str) -> Result<SealedLog, FileFault>
+    // A text is lost only once the newer ones have more bytes than the log of the mount.
+    ensures { IfOk result (λ log. ⟦<SealedLog as LogDevice>⟧.log_loses log ≡ Some volume.now.log_bytes) }
+{
+    let header = first_header(rt, volume)?;
+    SealedLog::open(rt, volume.log.as_str(), second, header)
+}
+
+/// Opens the log of a volume, which tells of itself by this voice.
+fn open_log(
+    rt: &HostRuntime,
+    alloc: Global,
+    volume: &Volume,
+    rules: LogRules,
+    voice: Voice,
+) -> Result<OpenLog, ServeFault> {
+    let name = volume.log.as_str();
+    match rules {
+        LogRules::Bare {
+            are_cut,
+            have_barrier,
+        } => match open_bare(rt, name, are_cut, have_barrier) {
+            Ok(log) => Ok(OpenLog::Bare(TellingLog::new(log, voice))),
+            Err(found) => Err(fault(alloc, name, found)),
+        },
+        LogRules::Sealed { .. } => {
+            let second = second_name(alloc, name)?;
+            match open_sealed(rt, volume, second.as_str()) {
+                Ok(log) => Ok(OpenLog::Sealed(TellingLog::new(log, voice))),
+                Err(found) => Err(fault(alloc, name, found)),
+            }
+        }
+    }
 }
 
 /// Opens the files of a volume.
@@ -194,10 +357,7 @@ fn open_one(
         Ok(home) => home,
         Err(found) => return Err(fault(alloc, volume.home.as_str(), found)),
     };
-    let log = match open_log(rt, volume, rules) {
-        Ok(log) => log,
-        Err(found) => return Err(fault(alloc, volume.log.as_str(), found)),
-    };
+    let voice_of_log = voice(rt, alloc, volume, volume.log.as_str())?;
     Ok(Opened {
         geometry: Geometry {
             slot: volume.slot,
@@ -206,7 +366,7 @@ fn open_one(
             size: volume.size,
         },
         home: TellingHome::new(home, voice(rt, alloc, volume, volume.home.as_str())?),
-        log: TellingLog::new(log, voice(rt, alloc, volume, volume.log.as_str())?),
+        log: open_log(rt, alloc, volume, rules, voice_of_log)?,
     })
 }
 

@@ -14,9 +14,17 @@ pub fn lock(alloc: Global, name: &str, file: &File) -> Result<(), ServeFault> {
     Ok(())
 }
 
-/// Locks the file of a device, which is made where it is missing, until the handle is let go, or this process ends.
-pub fn hold(rt: &HostRuntime, alloc: Global, name: &str) -> Result<File, ServeFault> {
-    let file = match File::options().write(true).create(true).open(rt, name) {
+/// Locks the file of a device, which is made where it is missing, until the handle is let go, or this process ends. It is open for reading too where
+/// that is wanted.
+pub fn hold(
+    rt: &HostRuntime,
+    alloc: Global,
+    name: &str,
+    is_read: bool,
+) -> Result<File, ServeFault> {
+    let mut options = File::options();
+    options.read(is_read).write(true).create(true);
+    let file = match options.open(rt, name) {
         Ok(file) => file,
         Err(error) => return Err(fault(alloc, name, FileFault::Io(error))),
     };

@@ -1,10 +1,5 @@
-//! The files of volumes, made where they are missing, and locked. Where a volume can't be served, none that was made for another is left behind.
+//! Files of volumes, made where they are missing, and locked. Where a volume can't be served, none that was made for another is left behind.
 
-ghost use Rattle.std.specs.Prelude.{◌≡◌, ◌&&◌};
-ghost use Rattle.xt_cli.specs.Ends.{is_home};
-
-use crate::recovery::emptying::LogFile;
-use crate::serve::ending::Ended;
 use crate::serve::fault::ServeFault;
 use crate::serve::files::{fault, folder_of};
 use crate::serve::holding::hold;
@@ -13,8 +8,6 @@ use std::fs::{self, File};
 use std::io::{self, ErrorKind};
 use std::path::{Path, PathBuf};
 use xt_dev::fault::FileFault;
-use xt_recover::command::Emptied;
-use xt_volumes::Volume;
 
 /// How many symbolic links are followed, one after another: as many as Linux follows.
 const LINKS: u32 = 40;
@@ -52,20 +45,26 @@ fn sync_folder(rt: &HostRuntime, folder: Path) -> io::Result<()> {
 
 /// A file of a volume, locked for as long as this is kept.
 #[derive(Drop)]
-struct Locked {
-    file: File,
+pub struct Locked {
+    pub file: File,
     /// Where it is, if it was made.
-    made: Option<PathBuf>,
+    pub made: Option<PathBuf>,
 }
 
 impl Locked {
-    /// Makes the file of a device where it is missing, and locks it. One that was made and is not to be had stays: another process has it.
-    fn take(rt: &HostRuntime, alloc: Global, name: &str) -> Result<Self, ServeFault> {
+    /// Makes the file of a device where it is missing, and locks it, open for reading too where that is wanted. One that was made and is not to be had
+    /// stays: another process has it.
+    pub fn take(
+        rt: &HostRuntime,
+        alloc: Global,
+        name: &str,
+        is_read: bool,
+    ) -> Result<Self, ServeFault> {
         let made = match make(rt, alloc, name) {
             Ok(made) => made,
             Err(error) => return Err(fault(alloc, name, FileFault::Io(error))),
         };
-        let file = hold(rt, alloc, name)?;
+        let file = hold(rt, alloc, name, is_read)?;
         Ok(Locked { file, made })
     }
 
@@ -79,7 +78,7 @@ impl Locked {
     }
 
     /// Makes a file that was made safe, with its name.
-    fn sync_made(&self, rt: &HostRuntime, alloc: Global, name: &str) -> Result<(), ServeFault> {
+    pub fn sync_made(&self, rt: &HostRuntime, alloc: Global, name: &str) -> Result<(), ServeFault> {
         match self.sync(rt) {
             Ok(()) => Ok(()),
             Err(error) => Err(fault(alloc, name, FileFault::Io(error))),
@@ -87,73 +86,9 @@ impl Locked {
     }
 
     /// Removes the file, if it was made.
-    fn remove_made(&self, rt: &HostRuntime) {
+    pub fn remove_made(&self, rt: &HostRuntime) {
         if let Some(path) = &self.made {
             let _ = fs::remove_file(rt, path);
         }
-    }
-}
-
-/// A volume, with its files locked for as long as this is kept.
-#[derive(Drop)]
-pub struct Held {
-    pub volume: Volume,
-    /// Whether it is served: not where it could not be recovered.
-    pub is_served: bool,
-    home: Locked,
-    log: Locked,
-}
-
-impl Held {
-    /// Makes the files of a volume that are missing, and locks both. After a fault none is left that was made.
-    pub fn take(rt: &HostRuntime, alloc: Global, volume: Volume) -> Result<Self, ServeFault> {
-        let home = Locked::take(rt, alloc, volume.home.as_str())?;
-        match Locked::take(rt, alloc, volume.log.as_str()) {
-            Ok(log) => Ok(Held {
-                volume,
-                is_served: true,
-                home,
-                log,
-            }),
-            Err(fault) => {
-                home.remove_made(rt);
-                Err(fault)
-            }
-        }
-    }
-
-    /// Makes the files that were made safe, with their names.
-    pub fn sync_made(&self, rt: &HostRuntime, alloc: Global) -> Result<(), ServeFault> {
-        let Volume { home, log, .. } = &self.volume;
-        self.home.sync_made(rt, alloc, home.as_str())?;
-        self.log.sync_made(rt, alloc, log.as_str())
-    }
-
-    /// Removes the files that were made, which are locked still.
-    pub fn remove_made(&self, rt: &HostRuntime) {
-        self.home.remove_made(rt);
-        self.log.remove_made(rt);
-    }
-
-    /// Whether the home file was made, so that nothing was ever served from it.
-    pub fn is_new(&self) -> bool {
-        self.home.made.is_some()
-    }
-
-    /// Whether the log has something in it.
-    pub fn has_log(&self) -> io::Result<bool> {
-        Ok(self.log.file.metadata()?.len() > 0)
-    }
-
-    /// Whether the log is of no use any more after a service: the volume was served, and all that was committed is home.
-    pub fn is_spent(&self, ended: &Ended) -> bool
-        ensures { result ≡ (self.now.is_served && is_home ended.now self.now.volume.slot) }
-    {
-        self.is_served && ended.is_home(self.volume.slot)
-    }
-
-    /// Empties the log: the file that is locked, whatever has its name now.
-    pub fn empty_log(&self) -> io::Result<()> {
-        LogFile::new(self.log.file.try_clone()?).empty()
     }
 }

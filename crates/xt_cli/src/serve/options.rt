@@ -2,6 +2,7 @@
 
 use crate::serve::fault::{ServeFault, WrongWord};
 use crate::serve::files::LogRules;
+use crate::serve::listening::Address;
 use clap::builder::ValueParser;
 use clap::{Arg, ArgAction, ArgMatches, Command};
 use std::alloc::{AllocError, Global};
@@ -12,28 +13,30 @@ use xt_volumes::{Volume, VolumeFault, volumes, word_fault};
 const VOLUME: &str = "A volume, SLOT:LOGBYTES:BLOCKS:HOMEFILE:LOGFILE[:SIZE]: \
 a slot (0 to 15), the bytes of its log (65536 to 16777216), the blocks of its home device, the files of both, which are made where they \
 are missing, and the bytes of a block (512, 1024, 2048 or 4096, which it is where it is left out); the log file must be empty, or \
---recover be said. Examples: 0:65536:1024:vol.home:vol.log 1:65536:8192:small.home:small.log:512";
+--recover be said, and then LOGFILE.1 is of the log too. Examples: 0:65536:1024:vol.home:vol.log 1:65536:8192:small.home:small.log:512";
 
 /// What a service is asked to do.
 #[derive(Debug, Drop)]
 pub struct Options {
-    /// The port of 127.0.0.1 to listen at; 0 where the system chooses.
-    pub port: u16,
+    /// Where to listen.
+    pub address: Address,
     /// How many workers, 1 to 8.
     pub workers: usize,
-    /// How many sessions, 1 to 1,000,000.
-    pub sessions: u32,
+    /// How many sessions: 1 to 1,000,000, or as many as can be counted.
+    pub sessions: u64,
+    /// For how many seconds a client may be silent; None where for ever.
+    pub patience: Option<u32>,
     /// Whether the service ends where standard input does.
     pub until_stdin_ends: bool,
-    /// Whether volumes are recovered from logs that are not empty.
-    pub recovers: bool,
-    /// How the logs are kept.
+    /// How the logs are kept, and whether volumes are recovered from those that are not empty.
     pub logs: LogRules,
+    /// That options do nothing here, if some do.
+    pub note: Option<&'static str>,
     /// The volumes, ascending by slot.
     pub volumes: Vec<Volume>,
 }
 
-/// An option that must be there, and whose value is a number within bounds.
+/// An option whose value is a number within bounds.
 fn number<'a>(
     alloc: Global,
     id: &'a str,
@@ -45,7 +48,6 @@ fn number<'a>(
         .long(id)
         .value_name(value)
         .help(help)
-        .required(true)
         .value_parser(ValueParser::unsigned(bounds.0, bounds.1))
 }
 
@@ -80,28 +82,67 @@ fn with_numbers<'a>(alloc: Global, command: Command<'a>) -> Result<Command<'a>, 
         "How many sessions are served, 1 to 1000000; then the service ends",
         (1, 1_000_000),
     );
-    command.arg(port)?.arg(workers)?.arg(sessions)
+    command
+        .arg(port.required_unless_present("listen")?)?
+        .arg(workers.required_unless_present("listen")?)?
+        .arg(sessions.required_unless_present("listen")?)
 }
 
-/// The command line of a service.
-pub fn serve_command<'a>(alloc: Global) -> Result<Command<'a>, AllocError> {
+/// Puts the options of a service that stays into its command line.
+fn with_stay<'a>(alloc: Global, command: Command<'a>) -> Result<Command<'a>, AllocError> {
+    let listen = Arg::new(alloc, "listen")
+        .long("listen")
+        .value_name("ADDRESS")
+        .help(
+            "Where to listen, 127.0.0.1:PORT or unix:PATH, in place of --port: a service that stays, with no end of sessions, 2 workers where \
+no other number is said, and --recover",
+        )
+        .conflicts_with("port")?
+        .conflicts_with("sessions")?;
+    let idle = number(
+        alloc,
+        "idle",
+        "SECONDS",
+        "Ends a session whose client says nothing for so many seconds",
+        (1, 31_536_000),
+    );
+    command.arg(listen)?.arg(idle)
+}
+
+/// Puts the options of the logs into the command line of a service.
+fn with_log_options<'a>(alloc: Global, command: Command<'a>) -> Result<Command<'a>, AllocError> {
     let recover = flag(
         alloc,
         "recover",
-        "Recovers each volume whose log is not empty, and empties that log, before the start",
+        "Recovers each volume whose log is not empty, and empties that log, before the start; from then on its log is sealed, in LOGFILE \
+and LOGFILE.1, which have at most LOGBYTES each, and what their seals take",
+    );
+    let any_log = flag(
+        alloc,
+        "any-log",
+        "Recovers a volume also from a log that tells the name or the sizes of another one",
     );
     let cut_logs = flag(
         alloc,
         "cut-logs",
         "Empties the log of a volume where all that it logs is home: while it is mounted once it has four times LOGBYTES, and at the end \
-if it was unmounted live",
+if it was unmounted live; nothing more beside --recover",
     );
     let barrier = flag(
         alloc,
         "barrier",
         "Writes the last 16 bytes of a checkpoint only once those before them are synced, for file systems that may leave other bytes \
-in what was not synced",
+in what was not synced; nothing more beside --recover",
     );
+    command
+        .arg(recover)?
+        .arg(any_log.requires_arg("recover")?)?
+        .arg(cut_logs)?
+        .arg(barrier)
+}
+
+/// The command line of a service.
+pub fn serve_command<'a>(alloc: Global) -> Result<Command<'a>, AllocError> {
     let until_stdin_ends = flag(
         alloc,
         "until-stdin-ends",
@@ -115,12 +156,8 @@ are silent end",
     let serve = Command::new(alloc, "serve").about(
         "Mounts volumes in files, and serves sessions of lines over TCP",
     );
-    with_numbers(alloc, serve)?
-        .arg(until_stdin_ends)?
-        .arg(recover)?
-        .arg(cut_logs)?
-        .arg(barrier)?
-        .arg(volume)
+    let serve = with_stay(alloc, with_numbers(alloc, serve)?)?.arg(until_stdin_ends)?;
+    with_log_options(alloc, serve)?.arg(volume)
 }
 
 /// The first of some words that names no volume that can be mounted, whatever the others name, and what is wrong with it.
@@ -153,6 +190,57 @@ fn volumes_of(alloc: Global, words: &[&str]) -> Result<Vec<Volume>, ServeFault> 
     }
 }
 
+/// Whether logs are recovered, and sealed: a service that stays always does so.
+fn recovers(serve: &ArgMatches) -> bool {
+    serve.get_flag("recover") || serve.get_str("listen").is_some()
+}
+
+/// Where to listen.
+fn address_of(alloc: Global, serve: &ArgMatches) -> Result<Address, ServeFault> {
+    let Some(word) = serve.get_str("listen") else {
+        return Ok(Address::Port(serve.get_one("port").unwrap_or(0)));
+    };
+    match Address::spelled(alloc, word)? {
+        Some(address) => Ok(address),
+        None => Err(ServeFault::Address(String::from_str(alloc, word)?)),
+    }
+}
+
+/// How many sessions are served: with no end where none is said.
+fn sessions_of(serve: &ArgMatches) -> u64 {
+    match serve.get_one::<u32>("sessions") {
+        Some(count) => u64::from(count),
+        None => u64::MAX,
+    }
+}
+
+/// How the logs are to be kept.
+fn logs_of(serve: &ArgMatches) -> LogRules {
+    if recovers(serve) {
+        LogRules::Sealed {
+            take_any: serve.get_flag("any-log"),
+        }
+    } else {
+        LogRules::Bare {
+            are_cut: serve.get_flag("cut-logs"),
+            have_barrier: serve.get_flag("barrier"),
+        }
+    }
+}
+
+/// What is told of options that do nothing more than what is done without them.
+fn note_of(serve: &ArgMatches) -> Option<&'static str> {
+    if !recovers(serve) {
+        return None;
+    }
+    match (serve.get_flag("cut-logs"), serve.get_flag("barrier")) {
+        (true, true) => Some("note: --cut-logs and --barrier do nothing more beside --recover"),
+        (true, false) => Some("note: --cut-logs does nothing more beside --recover"),
+        (false, true) => Some("note: --barrier does nothing more beside --recover"),
+        (false, false) => None,
+    }
+}
+
 impl Options {
     /// The options of a service, if that is asked.
     pub fn of(alloc: Global, matches: &ArgMatches) -> Result<Option<Self>, ServeFault> {
@@ -161,15 +249,13 @@ impl Options {
         };
         let words = serve.get_strs("VOL").unwrap_or(&[]);
         Ok(Some(Options {
-            port: serve.get_one("port").unwrap_or(0),
-            workers: usize::from(serve.get_one::<u8>("workers").unwrap_or(1)),
-            sessions: serve.get_one("sessions").unwrap_or(1),
+            address: address_of(alloc, serve)?,
+            workers: usize::from(serve.get_one::<u8>("workers").unwrap_or(2)),
+            sessions: sessions_of(serve),
+            patience: serve.get_one("idle"),
             until_stdin_ends: serve.get_flag("until-stdin-ends"),
-            recovers: serve.get_flag("recover"),
-            logs: LogRules {
-                are_cut: serve.get_flag("cut-logs"),
-                have_barrier: serve.get_flag("barrier"),
-            },
+            logs: logs_of(serve),
+            note: note_of(serve),
             volumes: volumes_of(alloc, words)?,
         }))
     }

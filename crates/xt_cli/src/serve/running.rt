@@ -8,11 +8,11 @@ ghost use Rattle.xt_cell.specs.Ledgers.{AreCut, AreNamed};
 
 use crate::serve::ending::{Ended, print_shut, status, with_shut};
 use crate::serve::fault::ServeFault;
-use crate::serve::files::{Geometry, Opened};
+use crate::serve::files::{Geometry, OpenLog, Opened};
+use crate::serve::listening::Listening;
 use std::alloc::Global;
 use std::io::{self, Eprint, Print, Stdin};
 use std::marker::Brand;
-use std::net::TcpListener;
 use std::sync::{Arc, Wait};
 use std::thread;
 use std::thread::Threads;
@@ -35,14 +35,15 @@ use xt_service::tidings::Tidings;
 /// a fold, which copies the mount, is cheap for each.
 const BOOK_LIMIT: u64 = 1_024;
 
-/// A service that is to run: where it listens and at which port, how many workers it has, how many sessions it serves, and standard input
-/// where its end ends the service; then the listener is one that does not block.
+/// A service that is to run: what it listens with, and where, as that is told; how many workers it has, how many sessions it serves, for how many seconds a
+/// client may be silent, if not for ever, and standard input where its end ends the service; then the listener is one that does not block.
 #[derive(Drop)]
 pub struct Orders {
-    pub listener: TcpListener,
-    pub port: u16,
+    pub listening: Listening,
+    pub place: String,
     pub workers: usize,
-    pub sessions: u32,
+    pub sessions: u64,
+    pub patience: Option<u32>,
     pub input: Option<Stdin>,
 }
 
@@ -51,6 +52,14 @@ fn shut_at_end(input: Stdin, door: Arc<Door, Global>) {
     let mut input = input;
     let _ = io::copy(&mut input, &mut io::sink());
     door.shut();
+}
+
+/// An open door, for clients that may be silent for so many seconds, or for ever.
+fn door_of(patience: Option<u32>) -> Door {
+    match patience {
+        Some(seconds) => Door::with_patience(seconds),
+        None => Door::new(),
+    }
 }
 
 /// Has a door shut where standard input ends. The thread that waits for that is left behind where the service ends before.
@@ -158,13 +167,13 @@ fn serve_sessions<
     requires workers { All (λ worker. (worker.promise.0.value.seat.board.board ≡ (arc_value host.now).board) × (worker.promise.0.value.pass.queue ≡ arc_value (arc_value host.now).queue)) service.crew.workers.items }
 {
     let mut service = service;
-    let served = println!(rt; "listening {}", orders.port);
+    let served = println!(rt; "listening {}", orders.place);
     if served.is_ok() {
         service.serve(
             rt,
             alloc,
             host,
-            &orders.listener,
+            orders.listening.clients(),
             orders.sessions,
             tidings,
             door,
@@ -231,11 +240,20 @@ fn run<
             home,
             log,
         } = opened;
-        let (home, log) = (Box::new(alloc, home)?, Box::new(alloc, log)?);
-        let at = mount(&rt, &host, &mut seat, geometry, home, log)?;
+        let home = Box::new(alloc, home)?;
+        let at = match log {
+            OpenLog::Bare(log) => {
+                let log = Box::new(alloc, log)?;
+                mount(&rt, &host, &mut seat, geometry, home, log)?
+            }
+            OpenLog::Sealed(log) => {
+                let log = Box::new(alloc, log)?;
+                mount(&rt, &host, &mut seat, geometry, home, log)?
+            }
+        };
         mounts.push(at)?;
     }
-    let door = Arc::new(alloc, Door::new())?;
+    let door = Arc::new(alloc, door_of(orders.patience))?;
     if let Some(input) = orders.input {
         watch_input(&rt, input, &door)?;
     }

@@ -2,9 +2,9 @@
 
 ghost use Rattle.std.specs.Prelude.{◌≡◌, [], false};
 
-use std::io::{Stderr, Write};
+use std::io::{self, Stderr, Write};
 use xt_base::names::{Block, Slot};
-use xt_dev::{DevFault, FileHome, FileLog, HomeDevice, LogDevice};
+use xt_dev::{DevFault, FileHome, FileLog, HomeDevice, LogDevice, SealedLog};
 
 /// Of how many bytes a log file says that it has them: 1 GiB.
 const LONG: u64 = 0x4000_0000;
@@ -25,19 +25,48 @@ impl Voice {
     }
 }
 
-/// A log in a file. Its first call that fails is told, since its mount is shut by that. Once it has 1 GiB, that is told too: such a log was
+/// A log in files.
+pub trait FiledLog: LogDevice {
+    /// Why each call fails, since one did; None where none failed yet.
+    fn fault(&self) -> Option<io::Error>;
+
+    /// How many bytes its files have.
+    fn bytes(&self) -> u64;
+}
+
+impl FiledLog for FileLog {
+    fn fault(&self) -> Option<io::Error> {
+        FileLog::fault(self)
+    }
+
+    fn bytes(&self) -> u64 {
+        FileLog::bytes(self)
+    }
+}
+
+impl FiledLog for SealedLog {
+    fn fault(&self) -> Option<io::Error> {
+        SealedLog::fault(self)
+    }
+
+    fn bytes(&self) -> u64 {
+        SealedLog::bytes(self)
+    }
+}
+
+/// A log in files. Its first call that fails is told, since its mount is shut by that. Once it has 1 GiB, that is told too: such a log was
 /// never cut, or some block that it logs was never home.
 #[derive(Drop)]
-pub struct TellingLog {
-    log: FileLog,
+pub struct TellingLog<L: FiledLog> {
+    log: L,
     voice: Voice,
     is_fault_told: bool,
     is_growth_told: bool,
 }
 
-impl TellingLog {
+impl<L: FiledLog> TellingLog<L> {
     /// A log that tells of itself.
-    pub fn new(log: FileLog, voice: Voice) -> Self {
+    pub fn new(log: L, voice: Voice) -> Self {
         TellingLog {
             log,
             voice,
@@ -74,12 +103,14 @@ impl TellingLog {
     }
 }
 
-impl LogDevice for TellingLog {
+impl<L: FiledLog> LogDevice for TellingLog<L> {
     ghost log_tells = { λ _. false };
 
     ghost log_taken = { λ _. [] };
 
-    ghost log_failures = { λ d. ⟦<FileLog as LogDevice>⟧.log_failures d.log };
+    ghost log_failures = { λ d. L.log_failures d.log };
+
+    ghost log_loses = { λ d. L.log_loses d.log };
 
     fn append(&mut self, piece: &[u8]) -> Result<(), DevFault> {
         self.watch_growth();
@@ -92,6 +123,10 @@ impl LogDevice for TellingLog {
         let synced = self.log.sync();
         self.watch();
         synced
+    }
+
+    fn make_room(&mut self, bytes: u64) {
+        self.log.make_room(bytes);
     }
 
     fn cut(&mut self, size: u32) {
