@@ -21,3 +21,5 @@ mod progress;
 mod rows;
 #[cfg(test)]
 mod scripts;
+#[cfg(test)]
+mod sealed;

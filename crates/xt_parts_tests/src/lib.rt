@@ -6,6 +6,8 @@ mod contents;
 #[cfg(test)]
 mod devices;
 #[cfg(test)]
+mod files;
+#[cfg(test)]
 mod items;
 #[cfg(test)]
 mod legs;

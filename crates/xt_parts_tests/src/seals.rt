@@ -13,13 +13,13 @@ const HEADER: &str =
     "58434c310000020000400000.00*11.030123456789abcdef.f0e1d2c3b4a59687.766f6c2d61.00*11.c35c45c81098c270";
 
 /// Checkpoint 1, one chunk of block 7, 180 bytes; and its seal behind the header.
-const TEXT_1: &str =
+pub const TEXT_1: &str =
     "58435032.00*7.0100000001000002.00*8.0700000002.00*6.0102.00*124.5843453200000001.00*7.01";
 
 const SEAL_1: &str = "49f5f1aa68e3e4ad";
 
 /// Checkpoint 2, a cancel of block 7, 52 bytes; and its seal behind the first.
-const TEXT_2: &str = "58435032.00*7.0200000001000002.00*8.07.00*7.015843453200000001.00*7.02";
+pub const TEXT_2: &str = "58435032.00*7.0200000001000002.00*8.07.00*7.015843453200000001.00*7.02";
 
 const SEAL_2: &str = "43b6b6e55157f76f";
 
