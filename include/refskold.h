@@ -9,12 +9,14 @@
  * That each call does what the definitions say of it is proved, of the library's code as it was before it was compiled.
  * Nothing is proved of the few lines in this header, which are tested, nor of your devices.
  *
- * An example: one change to block 7, and its checkpoint into a log.
+ * An example: one change to block 7, and its checkpoint into a sealed log, of which a reader tells what was written whole.
  *
  *     #include <fcntl.h>
  *     #include <refskold.h>
  *     #include <stdio.h>
  *     #include <unistd.h>
+ *
+ *     static unsigned char header[REFSKOLD_LOG_HEADER]; // of the log; at its end stands the last seal
  *
  *     static int write_checkpoint(refskold *mount, int log) {
  *         static unsigned char piece[REFSKOLD_BLOCK];
@@ -28,7 +30,19 @@
  *             int length = refskold_piece(mount, taken, piece, sizeof piece);
  *             if (write(log, piece, (size_t)length) != length) break;
  *         }
- *         return refskold_end(mount, serial, taken, taken == reply.pieces && fsync(log) == 0, &reply);
+ *         int is_safe = taken == reply.pieces && refskold_seal(mount, header) == 0
+ *                       && write(log, header + REFSKOLD_LOG_HEAD, REFSKOLD_SEAL) == REFSKOLD_SEAL && fsync(log) == 0;
+ *         return refskold_end(mount, serial, taken, is_safe, &reply);
+ *     }
+ *
+ *     // a log that is new: its header is safe before the first text
+ *     static int begin_log(int log) {
+ *         int random = open("/dev/urandom", O_RDONLY);
+ *         uint64_t salt;
+ *         if (read(random, &salt, sizeof salt) != sizeof salt) return -EIO;
+ *         int status = refskold_log_header(header, REFSKOLD_BLOCK, REFSKOLD_LEAST_LOG, 1, salt, NULL, NULL);
+ *         if (status < 0) return status;
+ *         return write(log, header, sizeof header) == sizeof header && fsync(log) == 0 ? 0 : -EIO;
  *     }
  *
  *     int main(void) {
@@ -36,7 +50,8 @@
  *         refskold mount = REFSKOLD_NONE;
  *         uint64_t trans, waits;
  *         int log = open("example.log", O_CREAT | O_TRUNC | O_WRONLY, 0600);
- *         int status = refskold_open(&mount, 0, REFSKOLD_LEAST_LOG, 1024);
+ *         int status = begin_log(log);
+ *         if (status == 0) status = refskold_open(&mount, 0, REFSKOLD_LEAST_LOG, 1024);
  *         if (status == 0) status = refskold_alloc(&mount, 5000, 1, 0, &trans);
  *         if (status == 0) status = refskold_read(&mount, trans, 7);
  *         if (status == REFSKOLD_ASKS) status = refskold_read_content(&mount, trans, 7, block);
@@ -76,6 +91,21 @@
  *   thread to another. Call nothing from a signal handler, nor in the child of a fork of a process with several threads.
  *   A mount that lives in parent and child is two mounts with one log: use one of them alone.
  *
+ *   Several threads may share a mount under a lock of yours. Of a job that the mount owes, one of them takes it, and
+ *   refskold_take is 0 for the others. So where refskold_force says that something waits, and no checkpoint is to be taken,
+ *   one is under way: wait until it has ended, as by a condition variable that whoever calls refskold_end signals, and force
+ *   again. A loop that only takes and forces would spin. The lock need not be held while a device works: see at
+ *   refskold_begin and refskold_flush. refskold_volume.h does all this for a volume.
+ *
+ * Words
+ *
+ *   A block is busy while a transaction has it locked, or it is held; while what was committed of it is not on the log, or
+ *   not home; and, once it was invalidated, until that has landed. A mount has at most REFSKOLD_MOST_BUSY busy blocks, which
+ *   is therefore also how many may change at once, and how many different blocks are committed before some must go home.
+ *
+ *   Home, of a block: written to the home device, by what you answered to a flush. On the log, of a commit: its checkpoint has
+ *   landed, by what you answered to refskold_end.
+ *
  * Numbers
  *
  *   Lengths and offsets are in bytes. Blocks, pieces and places of a plan count from 0; transactions, checkpoints, serials
@@ -96,7 +126,7 @@ extern "C" {
 
 /* What this header says. The library says its own by refskold_version(): they must be equal. It goes up with each change
  * that a program that was compiled earlier would notice. */
-#define REFSKOLD_VERSION 2u
+#define REFSKOLD_VERSION 4u
 
 #define REFSKOLD_BLOCK 4096u                       /* bytes of the longest block, and of the longest piece */
 #define REFSKOLD_LEAST_LOG 65536u                  /* bytes of the smallest log */
@@ -104,9 +134,14 @@ extern "C" {
 #define REFSKOLD_MOST_BLOCKS UINT64_C(1099511627776) /* blocks of the largest home device */
 #define REFSKOLD_MOST_TRANS 32u                    /* transactions that are open at once */
 #define REFSKOLD_MOST_LEGS 8u                      /* legs that a transaction is given at once */
-#define REFSKOLD_HELD 64u                     /* blocks that are busy at once, and most that a reply says are held */
+#define REFSKOLD_MOST_BUSY 64u                     /* blocks that are busy at once, and most that a reply says are held */
+#define REFSKOLD_HELD REFSKOLD_MOST_BUSY           /* its name in earlier headers */
 #define REFSKOLD_PIECES 65u                   /* pieces of the longest checkpoint */
 #define REFSKOLD_PLAN 8u                      /* blocks of a flush */
+#define REFSKOLD_TEXT 263204u                 /* bytes of the longest checkpoint, of all its pieces */
+#define REFSKOLD_LOG_HEADER 64u               /* bytes of the header of a sealed log: a head, and its seal */
+#define REFSKOLD_LOG_HEAD 56u                 /* bytes of the head */
+#define REFSKOLD_SEAL 8u                      /* bytes of a seal */
 
 /* ---- A mount ------------------------------------------------------------------------------------------------------- */
 
@@ -229,6 +264,7 @@ int32_t refskold_abi_open(refskold *mount, uint32_t last, uint32_t log_bytes, ui
 int32_t refskold_abi_open_sized(refskold *mount, uint32_t last, uint32_t log_bytes, uint64_t blocks, uint32_t size);
 void refskold_abi_close(refskold *mount);
 int32_t refskold_abi_shut(refskold *mount);
+int32_t refskold_abi_log_needed(refskold *mount);
 
 /* Serves a request. `data` are the bytes of a LOG, for other words of length 0. `answered` (enum refskold_answer) is what
  * the home device answered, with the block in `content`. `room` is filled by a VIEW, and is then as long as a block.
@@ -254,12 +290,17 @@ int32_t refskold_abi_take(refskold *mount, uint32_t kind, uint64_t *serial);
 int32_t refskold_abi_begin(refskold *mount, uint64_t serial, refskold_reply *reply);
 int32_t refskold_abi_piece(refskold *mount, uint32_t index, uint8_t *room, size_t room_len);
 
+/* `log` has REFSKOLD_LOG_HEADER bytes; -EINVAL where it has not. */
+int32_t refskold_abi_seal(refskold *mount, uint8_t *log, size_t log_len);
+
 /* It returns 0 also where the checkpoint failed: the reply's word says which. */
 int32_t refskold_abi_end(refskold *mount, uint64_t serial, uint32_t taken, uint32_t synced, refskold_reply *reply);
 int32_t refskold_abi_plan(refskold *mount, refskold_plan *plan);
 int32_t refskold_abi_home(refskold *mount, uint32_t index, uint8_t *room, size_t room_len);
 int32_t refskold_abi_homes(refskold *mount, refskold_plan *plan, uint8_t *room, size_t room_len);
 int32_t refskold_abi_homes_mapped(refskold *mount, refskold_plan *plan, uint8_t *device, size_t device_len);
+
+/* It returns -EIO, as the function below, also with the reply written. */
 int32_t refskold_abi_flush(refskold *mount, uint64_t serial, uint32_t count, uint32_t written, uint32_t synced,
                            refskold_reply *reply);
 int32_t refskold_abi_flush_mapped(refskold *mount, uint64_t serial, uint8_t *device, size_t device_len, refskold_reply *reply);
@@ -319,10 +360,16 @@ static inline uint32_t refskold_version(void)
  * empty log. That no second program has your devices is yours to see to: before you look at them, lock both files as `xth`
  * does, by flock(LOCK_EX | LOCK_NB).
  *
- * `last` is the last life of this volume, 0 at first; the mount's own is one more. `log_bytes` is the space that the
- * log's checkpoints may take, REFSKOLD_LEAST_LOG to REFSKOLD_MOST_LOG: more than that is never in use, though the log
- * itself grows until you empty it, while nothing that it says is wanted any more. `blocks` is the size of the home device,
- * 1 to REFSKOLD_MOST_BLOCKS. A block has REFSKOLD_BLOCK bytes, and the log does not say so.
+ * `last` is the last life of this volume, 0 at first; the mount's own is one more. `xth` numbers lives so; nothing that this
+ * library tells or writes of a mount depends on it, so where you count none 0 does each time.
+ *
+ * `log_bytes` is the space that the log's checkpoints may take, REFSKOLD_LEAST_LOG to REFSKOLD_MOST_LOG: more than that is
+ * never in use, though the log itself grows until you empty it (refskold_log_needed says when you may) or write it in two
+ * files by turns. A log of more than 2,105,639 bytes buys little: an eighth of it is more than all busy blocks cost, so that no
+ * checkpoint is owed which was not asked, and the rest is for more checkpoints of the same blocks before these are home.
+ *
+ * `blocks` is the size of the home device, 1 to REFSKOLD_MOST_BLOCKS. A block has REFSKOLD_BLOCK bytes, and the log does not
+ * say so.
  *
  * -EBUSY: the handle holds a mount. -EINVAL: a size out of its range. -ENOSPC: `last` is 4,294,967,295. -ENOMEM. */
 static inline int refskold_open(refskold *mount, uint32_t last, uint32_t log_bytes, uint64_t blocks)
@@ -352,6 +399,21 @@ static inline int refskold_close(refskold *mount)
 static inline int refskold_shut(refskold *mount)
 {
     return mount == NULL ? -EINVAL : refskold_abi_shut(mount);
+}
+
+/* Whether a text on the mount's log may still be wanted. 0: the mount is live, no checkpoint is begun, and each block of a
+ * checkpoint that landed is home, by what your home device answered; then the log may be emptied, at any time before the
+ * next refskold_begin, and a crash takes nothing back of what refskold_force said was on the log. Else 1; of a shut mount it
+ * is 1 for good, and the way on is a recovery.
+ *
+ * Of a log in two files the older one goes first, and that is synced before the newer one goes; then the log begins anew, as
+ * that of a new life does: a header of generation 1, with a new salt. Where you have answered flushes as synced before your
+ * home device was, sync it before the log loses any text, here or at a turn; that this loses nothing was tried, not proved.
+ *
+ * That it is 0 just where that is so is proved, and that a crash then takes nothing back (docs/use/recovery.md). */
+static inline int refskold_log_needed(refskold *mount)
+{
+    return mount == NULL ? -EINVAL : refskold_abi_log_needed(mount);
 }
 
 /* ---- Transactions -------------------------------------------------------------------------------------------------- */
@@ -546,7 +608,8 @@ static inline int refskold_force_to(refskold *mount, uint64_t number, uint64_t *
     return status;
 }
 
-/* Asks a flush, of blocks whose checkpoints are on the log. -EIO: shut. */
+/* Asks a flush, of blocks whose checkpoints are on the log. Once is enough: while blocks are left that may be written, a flush
+ * of which all was written asks the next one. -EIO: shut. */
 static inline int refskold_push(refskold *mount)
 {
     return refskold_ask_of(mount, REFSKOLD_PUSH, 0, 0);
@@ -583,8 +646,12 @@ static inline int refskold_unmount(refskold *mount)
 /* ---- Jobs ---------------------------------------------------------------------------------------------------------- */
 
 /* Takes the job of a kind (enum refskold_job) that the mount owes: REFSKOLD_TAKEN, and its serial is written; it is then
- * yours to do. 0 where none is owed. A mount owes at most one of each kind at a time. Ask after each force, push and
- * commit, and after -EAGAIN: a mount owes a checkpoint also where what is committed costs an eighth of the log.
+ * yours to do. 0 where none is owed, also because one of the kind was taken and has not ended: a mount owes at most one of
+ * each kind at a time. Ask after each force, push and commit, and after -EAGAIN: a mount owes a checkpoint also where what is
+ * committed costs an eighth of the log.
+ *
+ * Keep the serial until the job has ended, also past an error: nothing but that ends it, and who has the serial may do it. A
+ * flush that can't be done now may be ended as one of which nothing was written; refskold_push then asks another.
  *
  * -EINVAL: there is no such kind. */
 static inline int refskold_take(refskold *mount, uint32_t kind, uint64_t *serial)
@@ -611,6 +678,37 @@ static inline int refskold_begin(refskold *mount, uint64_t serial, refskold_repl
 static inline int refskold_piece(refskold *mount, uint32_t index, void *room, size_t length)
 {
     return mount == NULL || room == NULL ? -EINVAL : refskold_abi_piece(mount, index, (uint8_t *)room, length);
+}
+
+/* Copies all pieces of the checkpoint that is begun, one behind the other, to the front of a room of `length` bytes, and
+ * returns how many bytes they have: at most REFSKOLD_TEXT. `pieces` are as many as refskold_begin told.
+ *
+ * -EINVAL: it has fewer pieces, or the room is too short; then the front of the room may be written. */
+static inline int refskold_pieces(refskold *mount, uint32_t pieces, void *room, size_t length)
+{
+    size_t filled = 0;
+    uint32_t index;
+    if (room == NULL) return -EINVAL;
+    for (index = 0; index < pieces; index++) {
+        int copied = refskold_piece(mount, index, (uint8_t *)room + filled, length - filled);
+        if (copied < 0) return copied;
+        filled += (size_t)copied;
+    }
+    return (int)filled;
+}
+
+/* Makes the seal of the checkpoint that is begun, where your log is sealed: append it behind the last piece, REFSKOLD_SEAL
+ * bytes, before the sync. `log` is as refskold_log_header or the seal before has left it: log[0..55] are the head of the file
+ * that the checkpoint is written to, and log + REFSKOLD_LOG_HEAD is the last seal of that file, the header's own at first. 0,
+ * and the new seal stands there in its place. Call it once for each checkpoint, since each seal goes on from the one before;
+ * where the checkpoint fails, the log has ended, and so has its chain.
+ *
+ * That the seal is the one which the format says, of the pieces, is proved.
+ *
+ * -EINVAL: no checkpoint is begun. -ENODEV. */
+static inline int refskold_seal(refskold *mount, unsigned char log[REFSKOLD_LOG_HEADER])
+{
+    return mount == NULL || log == NULL ? -EINVAL : refskold_abi_seal(mount, log, REFSKOLD_LOG_HEADER);
 }
 
 /* Ends a checkpoint by what your log answered: it has taken so many pieces, and where these were all, `synced` not 0 says
@@ -675,13 +773,15 @@ static inline int refskold_homes_mapped(refskold *mount, refskold_plan *plan, vo
 /* Ends a flush that was taken, by what your home device answered to the writes of the plan: `count` as in the plan, bit k
  * of `written` set where the write at place k was good, `synced` not 0 where the sync after them was. Write each block of
  * the plan, also where one fails. No other call of this mount may come between the plan and the flush: else the plan may be
- * another.
+ * another. To write while other calls come, make the plan again behind the writes, by refskold_homes, and set the bits of those
+ * blocks of it alone that were written, and with the content that they have now.
  *
- * The reply, which may be NULL, tells how many blocks are home now (REFSKOLD_FLUSHED), or that there was nothing to do
- * (REFSKOLD_NOTHING). Blocks whose write failed, and all where the sync failed, are planned again at the next flush, which
- * refskold_push asks.
+ * 0: all of them are home now, or there was nothing to do. The reply, which may be NULL, tells how many are (REFSKOLD_FLUSHED),
+ * or that (REFSKOLD_NOTHING).
  *
- * -EINVAL: no flush of this serial waits, or the plan has not `count` blocks. */
+ * -EINVAL: no flush of this serial waits, or the plan has not `count` blocks. -EIO: a write or the sync failed, so fewer are
+ * home than the plan has; the flush has ended, and the reply tells how many. The mount stays live. Blocks whose write failed,
+ * and all where the sync failed, are planned again at the next flush, which refskold_push asks. */
 static inline int refskold_flush(refskold *mount, uint64_t serial, uint32_t count, uint32_t written, int synced,
                                  refskold_reply *reply)
 {
@@ -719,6 +819,8 @@ typedef struct refskold_log_told {
     uint64_t blocks;              /* blocks of which the texts say something */
     uint64_t size;                /* of a block, where the texts say it; else 0, and a block has 4,096 bytes */
     uint64_t at;                  /* -EILSEQ: at which byte the log is broken */
+    uint64_t file;                /* and in which of its files: 0, or 1 for the other one */
+    uint64_t older;               /* 0: which of its files is to be emptied first */
     uint64_t end;                 /* how the log ends: enum refskold_log_end. The exports do not write it */
 } refskold_log_told;
 
@@ -730,23 +832,75 @@ typedef struct refskold_found {
     uint64_t size;                /* of a block, where the text says it; else 0, and a block has 4,096 bytes */
 } refskold_found;
 
+/* The fields of a header, with which a file of a sealed log begins (docs/use/checkpoint-format.md). */
+typedef struct refskold_log_fields {
+    uint64_t generation;          /* which header of its life this is, from 1 */
+    uint64_t salt;                /* bytes at random, new for each life */
+    uint32_t block_size;          /* bytes of a block, 4,096 too */
+    uint32_t log_bytes;           /* as refskold_open was told */
+    unsigned char link[8];        /* the seal behind which the log goes on, the last of the other file; zeros where it begins a life */
+    unsigned char name[16];       /* of the volume; zeros where it has none */
+} refskold_log_fields;
+
 /* How a log ends. */
 enum refskold_log_end {
     REFSKOLD_WHOLE = 0,           /* as checkpoints write it, or as a crash leaves it */
     REFSKOLD_BROKEN = 1,          /* a field breaks its rule */
-    REFSKOLD_MIXED = 2            /* a text says something else of the size of a block than those before it */
+    REFSKOLD_MIXED = 2,           /* a text says something else of the size of a block than those before it */
+    REFSKOLD_ROTTEN = 3,          /* of a sealed log: a file's texts end where more were written and synced */
+    REFSKOLD_STRANGE = 4          /* two files are no log; `at` and `file` are 0 */
 };
 
-/* The struct form, as above. Of a log that is broken open and end return its enum refskold_log_end, and write told->at alone. */
+/* The struct form, as above. Of a log that is broken open, open_files and end return its enum refskold_log_end, and write
+ * told->at and told->file alone. */
 int32_t refskold_abi_log_open(refskold_recovery *recovery, const uint8_t *log, size_t log_len, refskold_log_told *told);
+int32_t refskold_abi_log_open_files(refskold_recovery *recovery, const uint8_t *one, size_t one_len, const uint8_t *other,
+                                    size_t other_len, refskold_log_told *told);
 int32_t refskold_abi_log_feed(refskold_recovery *recovery, const uint8_t *piece, size_t piece_len);
+int32_t refskold_abi_log_other(refskold_recovery *recovery);
 int32_t refskold_abi_log_end(refskold_recovery *recovery, refskold_log_told *told);
 void refskold_abi_log_close(refskold_recovery *recovery);
 int32_t refskold_abi_log_block(refskold_recovery *recovery, uint64_t index, uint64_t *block);
 int32_t refskold_abi_log_lay(refskold_recovery *recovery, uint64_t block, uint8_t *content, size_t content_len);
 
+/* `log` has REFSKOLD_LOG_HEADER bytes to be written; -EINVAL where it has not. Those that are read may be of any length. */
+int32_t refskold_abi_log_header(uint8_t *log, size_t log_len, const refskold_log_fields *fields);
+int32_t refskold_abi_log_read(const uint8_t *log, size_t log_len, refskold_log_fields *fields);
+
 /* 1 where a text was found, 0 where the input ends before it does, 2 where it is broken. */
 int32_t refskold_abi_read_checkpoint(const uint8_t *input, size_t input_len, refskold_found *found);
+
+/* Writes the header of a file of a sealed log: its REFSKOLD_LOG_HEADER bytes are the first of the file. Keep them: with
+ * refskold_seal they go on as the file's head and its last seal. A life begins with generation 1 and a link of zeros, in an
+ * empty file beside another; `salt` is 8 bytes at random, new for each life, as from getrandom(). `link` and `name` may be
+ * NULL for zeros; `link` may be the last seal of the same `log`. 0.
+ *
+ * That the bytes are those which the format says of these fields is proved. */
+static inline int refskold_log_header(unsigned char log[REFSKOLD_LOG_HEADER], uint32_t block_size, uint32_t log_bytes,
+                                      uint64_t generation, uint64_t salt, const unsigned char link[8],
+                                      const unsigned char name[16])
+{
+    refskold_log_fields fields = { 0, 0, 0, 0, { 0 }, { 0 } };
+    size_t k;
+    if (log == NULL) return -EINVAL;
+    fields.block_size = block_size;
+    fields.log_bytes = log_bytes;
+    fields.generation = generation;
+    fields.salt = salt;
+    for (k = 0; link != NULL && k < sizeof fields.link; k++) fields.link[k] = link[k];
+    for (k = 0; name != NULL && k < sizeof fields.name; k++) fields.name[k] = name[k];
+    return refskold_abi_log_header(log, REFSKOLD_LOG_HEADER, &fields);
+}
+
+/* Reads the header with which a file of a sealed log begins: 0, and its fields are written.
+ *
+ * That 0 comes just where these bytes are a header of the format, with its own seal, and of these fields, is proved.
+ *
+ * -EILSEQ: they are none. */
+static inline int refskold_log_read(const unsigned char log[REFSKOLD_LOG_HEADER], refskold_log_fields *fields)
+{
+    return log == NULL || fields == NULL ? -EINVAL : refskold_abi_log_read(log, REFSKOLD_LOG_HEADER, fields);
+}
 
 /* What a gathering returned, told as an error where the log is broken. For the functions below. */
 static inline int refskold_gathered(int status, refskold_log_told *told)
@@ -758,10 +912,11 @@ static inline int refskold_gathered(int status, refskold_log_told *told)
     return -EILSEQ;
 }
 
-/* Gathers what the texts of a whole log say, the later over the earlier; the log may then be forgotten. 0, with the counts.
- * Then lay it over your home device, sync that, and empty the log:
+/* Gathers what the texts of a log in two files say, the later over the earlier: of a sealed log, in either order, or of a bare
+ * one, which `one` has, while `other` has nothing. The files may then be forgotten. 0, with the counts. Then lay it over your
+ * home device, sync that, and empty the log: first the file that told.older says, and once that is synced the other one.
  *
- *     int status = refskold_recovery_open(&recovery, log, length, &told);
+ *     int status = refskold_recovery_open_files(&recovery, one, one_length, other, other_length, &told);
  *     for (uint64_t k = 0; status == 0 && k < told.blocks; k++) {
  *         status = refskold_recovery_block(&recovery, k, &block);
  *         // read the block into `content`; where told.size is not 0, refskold_recovery_lay_sized
@@ -771,10 +926,30 @@ static inline int refskold_gathered(int status, refskold_log_told *told)
  *     // only where status is 0: sync the home device, and then empty the log
  *
  * Broken off and done again, from the first block on, it gives the same. What refskold_force said was on the log is then
- * home, and of each checkpoint all or nothing.
+ * home, and of each checkpoint all or nothing. Of a sealed log that is so whatever a loss of power left behind the last sync,
+ * at most 263,212 bytes: zeros, old bytes, or parts of what was written; `rest` counts them. Of a bare log it is so where that
+ * is a beginning of what was written.
  *
- * -EILSEQ: the log is broken, as no crash leaves it, and nothing is gathered: told.end says how (REFSKOLD_BROKEN,
- * REFSKOLD_MIXED), and told.at at which byte; its counts are 0. -EBUSY: the handle holds something. -ENOMEM. */
+ * Whose log it is, a header says (refskold_log_read): compare its name with yours before you lay anything.
+ *
+ * -EILSEQ: the log is broken, as no crash leaves it, and nothing is gathered: told.end says how, told.at at which byte, and
+ * told.file in which file; the counts are 0. REFSKOLD_ROTTEN says that a file's texts end at that byte, though more were
+ * synced behind them: another text stands further on with its seal, more bytes than one text has are left, a text is of
+ * blocks of another size, or the newer file goes on behind another seal. -EBUSY: the handle holds something. -ENOMEM. */
+static inline int refskold_recovery_open_files(refskold_recovery *recovery, const void *one, size_t one_length,
+                                               const void *other, size_t other_length, refskold_log_told *told)
+{
+    static const uint8_t none[1] = { 0 };
+    int status;
+    if (recovery == NULL || told == NULL) return -EINVAL;
+    if ((one == NULL && one_length != 0) || (other == NULL && other_length != 0)) return -EINVAL;
+    status = refskold_abi_log_open_files(recovery, one == NULL ? none : (const uint8_t *)one, one_length,
+                                         other == NULL ? none : (const uint8_t *)other, other_length, told);
+    return refskold_gathered(status, told);
+}
+
+/* The same of a bare log, which is in one file. -EILSEQ: told.end is REFSKOLD_BROKEN or REFSKOLD_MIXED; a sealed log is broken
+ * at byte 0. */
 static inline int refskold_recovery_open(refskold_recovery *recovery, const void *log, size_t length,
                                          refskold_log_told *told)
 {
@@ -795,8 +970,17 @@ static inline int refskold_recovery_feed(refskold_recovery *recovery, const void
     return refskold_abi_log_feed(recovery, piece == NULL ? none : (const uint8_t *)piece, length);
 }
 
+/* What comes in pieces from here on is the log's other file. Without it refskold_recovery_end gathers a bare log. 0.
+ *
+ * -EBUSY: it is the other file already, or the handle holds what texts say. -ENOMEM: nothing has changed. */
+static inline int refskold_recovery_other(refskold_recovery *recovery)
+{
+    return recovery == NULL ? -EINVAL : refskold_abi_log_other(recovery);
+}
+
 /* Gathers what the texts of the log say that came in pieces: it returns and tells what refskold_recovery_open does of the
- * log whole. After 0 the handle holds that, and the bytes no more. A handle that holds nothing has a log of no bytes.
+ * log whole, and where refskold_recovery_other was called, refskold_recovery_open_files of both files. After 0 the handle
+ * holds that, and the bytes no more. A handle that holds nothing has a log of no bytes.
  *
  * -EILSEQ: the log is broken, as told says; the bytes are held until refskold_recovery_close. -EBUSY: the handle holds what
  * texts say. -ENOMEM: the bytes are held, and this may be called again. */
@@ -847,6 +1031,52 @@ static inline int refskold_read_checkpoint(const void *input, size_t length, ref
     if (found == NULL || (input == NULL && length != 0)) return -EINVAL;
     status = refskold_abi_read_checkpoint(input == NULL ? none : (const uint8_t *)input, length, found);
     return status == 2 ? -EILSEQ : status;
+}
+
+/* ---- Names and sizes ------------------------------------------------------------------------------------------------- */
+
+/* The log space that a leg asks for, the `unit` of refskold_alloc, which changes at most so many blocks of `size` bytes, all
+ * of each. Of less than whole blocks it costs less: see there. */
+static inline uint32_t refskold_unit(uint32_t blocks, uint32_t size)
+{
+    return 36 + blocks * (16 + size);
+}
+
+/* The name of an errno, as a function returns it or a reply has it, with its minus or without: "EAGAIN" for -EAGAIN. "0"
+ * for another number from 0 on, NULL for another below. */
+static inline const char *refskold_error_name(int status)
+{
+    switch (status < 0 ? -status : status) {
+    case EAGAIN: return "EAGAIN";
+    case EBUSY: return "EBUSY";
+    case EILSEQ: return "EILSEQ";
+    case EINVAL: return "EINVAL";
+    case EIO: return "EIO";
+    case ENOBUFS: return "ENOBUFS";
+    case ENODEV: return "ENODEV";
+    case ENOMEM: return "ENOMEM";
+    case ENOSPC: return "ENOSPC";
+    case EPROTO: return "EPROTO";
+    case ESTALE: return "ESTALE";
+    default: return status < 0 ? NULL : "0";
+    }
+}
+
+/* The name of an enum refskold_reason, as `xth script` prints it: "LOG_IO_ERROR". NULL for another number. */
+static inline const char *refskold_reason_name(int reason)
+{
+    static const char *const names[] = { "LIVE", "META_IO_ERROR", "LOG_IO_ERROR", "FORCE_UMOUNT", "CORRUPT_INCORE" };
+    return reason < 0 || reason > REFSKOLD_CORRUPT_INCORE ? NULL : names[reason];
+}
+
+/* The name of the word of a request, an enum refskold_word, as `xth script` reads it: "forceto". NULL for another number. */
+static inline const char *refskold_word_name(uint32_t word)
+{
+    static const char *const names[] = {
+        "alloc", "get", "read", "view", "log", "hold", "unhold", "relse", "join", "release", "inval", "commit", "roll", "cancel",
+        "force", "forceto", "push", "shutdown", "freeze", "thaw", "unmount"
+    };
+    return word > REFSKOLD_UNMOUNT ? NULL : names[word];
 }
 
 /* ---- Sixteen slots by lines ------------------------------------------------------------------------------------------ */
