@@ -2,7 +2,8 @@
  *
  *     daemon HOMEFILE LOGFILE PORT
  *
- * HOMEFILE and LOGFILE are the volume's two devices, which it locks and recovers as it starts. On this port of this machine it answers each line by a line:
+ * HOMEFILE and LOGFILE are the volume's two devices, which it locks and recovers as it starts. The log is sealed, and in two files that are written by turns:
+ * LOGFILE, and LOGFILE with `.1` behind its name. On this port of this machine it answers each line by a line:
  * `put BLOCK TEXT` by `ok` once the text is on the log, `get BLOCK` by the text; else by `error N`. All that came in at once is committed together: one
  * checkpoint, and one sync of the log, for all of it. */
 #define _GNU_SOURCE
@@ -18,13 +19,21 @@
 #include <string.h>
 #include <sys/file.h>
 #include <sys/mman.h>
+#include <sys/random.h>
 #include <unistd.h>
 
-enum { BLOCKS = 1024, CLIENTS = 16, LINE = 4096 };
+/* A file of the log has the header, texts of LOG_BYTES at most, and 8 bytes for each of them, the shortest of which has 52: that is less than FILE_BYTES. */
+enum { BLOCKS = 1024, CLIENTS = 16, LINE = 4096, LOG_BYTES = REFSKOLD_LEAST_LOG, FILE_BYTES = LOG_BYTES * 3 / 2 };
 
 /* A volume: its mount, and its devices. */
 static refskold mount;
-static int home, journal;
+static int home;
+
+/* The log: its two files, the one that is written, the header of that one, whose end becomes the last seal, how many bytes it has, and its texts alone. */
+static int journals[2], newer;
+static unsigned char header[REFSKOLD_LOG_HEADER], volume[16];
+static uint64_t generation, salt;
+static size_t filled, texts;
 
 /* Who is served: the beginning of the next line, and how many `ok` are owed to him. */
 static struct client {
@@ -41,24 +50,74 @@ static void stop(const char *what, int status)
     exit(1);
 }
 
+/* ---- The log ---- */
+
+static bool put_at(int file, const void *bytes, size_t length, size_t at)
+{
+    return pwrite(file, bytes, length, (off_t)at) == (ssize_t)length;
+}
+
+/* Empties a file, and makes that safe. */
+static bool empty(int file)
+{
+    return ftruncate(file, 0) == 0 && fdatasync(file) == 0;
+}
+
+/* Begins a file of the log that is empty. Its header is safe before anything stands behind it; then come zeros, so that no later sync changes a length. */
+static bool begin_file(int which, const unsigned char *link)
+{
+    static const uint8_t zeros[FILE_BYTES - REFSKOLD_LOG_HEADER];
+    if (refskold_log_header(header, REFSKOLD_BLOCK, LOG_BYTES, ++generation, salt, link, volume) != 0) return false;
+    if (!put_at(journals[which], header, sizeof header, 0) || fdatasync(journals[which]) != 0) return false;
+    newer = which, filled = sizeof header, texts = 0;
+    return put_at(journals[which], zeros, sizeof zeros, sizeof header);
+}
+
+/* Takes a turn where the next text would be too much for the file that is written. What the other one has is home then, or again in this one: the mount
+ * has never more than LOG_BYTES on the log that it still needs. So that one is emptied, and goes on behind the last seal of this one. */
+static bool take_turn(size_t next)
+{
+    int older = !newer;
+    if (texts + next <= LOG_BYTES) return true;
+    return empty(journals[older]) && begin_file(older, header + REFSKOLD_LOG_HEAD);
+}
+
+/* Writes the text of the checkpoint that is begun, and behind it its seal, and syncs both at once. The room has place for the seal. */
+static bool append(uint8_t *text, size_t length)
+{
+    if (!take_turn(length) || refskold_seal(&mount, header) != 0) return false;
+    memcpy(text + length, header + REFSKOLD_LOG_HEAD, REFSKOLD_SEAL);
+    if (!put_at(journals[newer], text, length + REFSKOLD_SEAL, filled) || fdatasync(journals[newer]) != 0) return false;
+    filled += length + REFSKOLD_SEAL;
+    texts += length;
+    return true;
+}
+
+/* Empties the log, once all that it says is home. The newer file alone says what came last, so it is the last to go. */
+static bool empty_log(void)
+{
+    return empty(journals[!newer]) && empty(journals[newer]);
+}
+
 /* ---- Jobs ---- */
 
 /* Does the checkpoint that is owed, if one is. */
 static int checkpoint(void)
 {
-    uint8_t piece[REFSKOLD_BLOCK];
+    static uint8_t text[REFSKOLD_PIECES * REFSKOLD_BLOCK + REFSKOLD_SEAL];
     refskold_reply reply;
     uint64_t serial;
-    uint32_t taken = 0;
+    size_t length = 0;
     int status = refskold_take(&mount, REFSKOLD_CHECKPOINT, &serial);
     if (status != REFSKOLD_TAKEN) return status;
     status = refskold_begin(&mount, serial, &reply);
     if (status != 0 || reply.word != REFSKOLD_BEGUN) return status;
-    for (; taken < reply.pieces; taken++) {
-        int length = refskold_piece(&mount, taken, piece, sizeof piece);
-        if (length < 0 || write(journal, piece, (size_t)length) != length) break;
+    for (uint32_t k = 0; k < reply.pieces; k++) {
+        if ((status = refskold_piece(&mount, k, text + length, REFSKOLD_BLOCK)) < 0) stop("a piece", status);
+        length += (size_t)status;
     }
-    return refskold_end(&mount, serial, taken, taken == reply.pieces && fdatasync(journal) == 0, NULL);
+    bool is_safe = append(text, length);
+    return refskold_end(&mount, serial, is_safe ? reply.pieces : 0, is_safe, NULL);
 }
 
 /* Does the flush that is owed, if one is: how many blocks it had. */
@@ -189,42 +248,84 @@ static void sync_folder(const char *file)
     free(name);
 }
 
-/* Opens both files, and locks them as `xth` does: nobody else may have them while this daemon lives. */
-static void open_volume(const char *home_file, const char *log_file)
+/* Opens a file, and locks it as `xth` does: nobody else may have it while this daemon lives. */
+static int open_file(const char *name)
 {
-    home = open(home_file, O_RDWR | O_CREAT | O_CLOEXEC, 0600);
-    journal = open(log_file, O_RDWR | O_CREAT | O_APPEND | O_CLOEXEC, 0600);
-    if (home < 0 || journal < 0) stop("the volume", 0);
-    if (flock(home, LOCK_EX | LOCK_NB) != 0 || flock(journal, LOCK_EX | LOCK_NB) != 0) stop("the volume is in use", 0);
-    if (ftruncate(home, (off_t)BLOCKS * REFSKOLD_BLOCK) != 0) stop("the home device", 0);
-    sync_folder(home_file);
-    sync_folder(log_file);
+    int file = open(name, O_RDWR | O_CREAT | O_CLOEXEC, 0600);
+    if (file < 0) stop("the volume", 0);
+    if (flock(file, LOCK_EX | LOCK_NB) != 0) stop("the volume is in use", 0);
+    sync_folder(name);
+    return file;
 }
 
-/* Lays over the home device what the log says, and then empties the log. */
-static void recover(void)
+/* Opens the volume's files. Its log has the home file's name, as far as that fits. */
+static void open_volume(const char *home_file, const char *log_file)
+{
+    char *other_file, *copy = strdup(home_file);
+    if (copy == NULL || asprintf(&other_file, "%s.1", log_file) < 0) stop("the names", 0);
+    const char *name = basename(copy);
+    memcpy(volume, name, strnlen(name, sizeof volume));
+    home = open_file(home_file);
+    journals[0] = open_file(log_file);
+    journals[1] = open_file(other_file);
+    if (ftruncate(home, (off_t)BLOCKS * REFSKOLD_BLOCK) != 0) stop("the home device", 0);
+    free(copy);
+    free(other_file);
+}
+
+/* What a file of the log has. */
+struct bytes {
+    void *at;
+    size_t length;
+};
+
+static struct bytes bytes_of(int file)
+{
+    struct bytes bytes = { NULL, (size_t)lseek(file, 0, SEEK_END) };
+    if (bytes.length > 0) bytes.at = mmap(NULL, bytes.length, PROT_READ, MAP_PRIVATE, file, 0);
+    if (bytes.at == MAP_FAILED) stop("the log", 0);
+    return bytes;
+}
+
+/* Lays over the home device what the texts of the log say. */
+static void lay(refskold_recovery *recovery, uint64_t blocks)
 {
     uint8_t content[REFSKOLD_BLOCK];
+    uint64_t block;
+    for (uint64_t k = 0; k < blocks; k++) {
+        int status = refskold_recovery_block(recovery, k, &block);
+        if (status != 0) stop("the log", status);
+        if (pread(home, content, sizeof content, (off_t)(block * sizeof content)) != sizeof content) stop("the home device", 0);
+        if ((status = refskold_recovery_lay(recovery, block, content)) != 0) stop("the log", status);
+        if (!put_at(home, content, sizeof content, block * sizeof content)) stop("the home device", 0);
+    }
+}
+
+/* Brings home what the log says, and then empties it. */
+static void recover(void)
+{
     refskold_recovery recovery = REFSKOLD_NONE;
     refskold_log_told told;
-    uint64_t block;
-    size_t length = (size_t)lseek(journal, 0, SEEK_END);
-    void *text = length == 0 ? NULL : mmap(NULL, length, PROT_READ, MAP_PRIVATE, journal, 0);
-    if (text == MAP_FAILED) stop("the log", 0);
-    int status = refskold_recovery_open(&recovery, text, length, &told);
-    if (status == -EILSEQ) fprintf(stderr, "daemon: the log is broken at byte %llu\n", (unsigned long long)told.at);
+    struct bytes one = bytes_of(journals[0]), other = bytes_of(journals[1]);
+    int status = refskold_recovery_open_files(&recovery, one.at, one.length, other.at, other.length, &told);
+    if (status == -EILSEQ) fprintf(stderr, "daemon: the log is broken at byte %llu of file %llu\n", (unsigned long long)told.at, (unsigned long long)told.file);
     if (status != 0 || told.size != 0) stop("the log", status < 0 ? status : -EILSEQ); // a log of other blocks is another program's
-    for (uint64_t k = 0; k < told.blocks; k++) {
-        if ((status = refskold_recovery_block(&recovery, k, &block)) != 0) stop("the log", status);
-        if (pread(home, content, sizeof content, (off_t)(block * sizeof content)) != sizeof content) stop("the home device", 0);
-        if ((status = refskold_recovery_lay(&recovery, block, content)) != 0) stop("the log", status);
-        if (pwrite(home, content, sizeof content, (off_t)(block * sizeof content)) != sizeof content) stop("the home device", 0);
-    }
+    lay(&recovery, told.blocks);
     refskold_recovery_close(&recovery);
-    if (text != NULL) munmap(text, length);
-    if (fdatasync(home) != 0 || ftruncate(journal, 0) != 0 || fdatasync(journal) != 0) stop("the volume", 0);
+    newer = told.older == 0;
+    if (one.at != NULL) munmap(one.at, one.length);
+    if (other.at != NULL) munmap(other.at, other.length);
+    if (fdatasync(home) != 0 || !empty_log()) stop("the volume", 0);
     printf("recovered %llu texts %llu blocks\n", (unsigned long long)told.texts, (unsigned long long)told.blocks);
     fflush(stdout);
+}
+
+/* Begins a life: a mount, and an empty log that no file of another life goes on. */
+static void begin_life(void)
+{
+    int status = refskold_open(&mount, 0, LOG_BYTES, BLOCKS);
+    if (status != 0) stop("the mount", status);
+    if (getrandom(&salt, sizeof salt, 0) != sizeof salt || !begin_file(0, NULL)) stop("the log", 0);
 }
 
 static int listen_at(const char *port)
@@ -260,8 +361,7 @@ int main(int argc, char **argv)
     open_volume(argv[1], argv[2]);
     int listening = listen_at(argv[3]); // before the log is emptied: a daemon that cannot be asked changes nothing
     recover();
-    int status = refskold_open(&mount, 0, REFSKOLD_LEAST_LOG, BLOCKS);
-    if (status != 0) stop("the mount", status);
+    begin_life();
     signal(SIGPIPE, SIG_IGN);
     sigaction(SIGTERM, &(struct sigaction){ .sa_handler = end }, NULL);
     for (int k = 0; k < CLIENTS; k++) polled[k] = (struct pollfd){ -1, POLLIN, 0 };
@@ -271,8 +371,8 @@ int main(int argc, char **argv)
         for (int k = 0; k < CLIENTS && polled[CLIENTS].revents != 0; k++)
             if (polled[k].fd < 0) polled[k].fd = accept4(polled[CLIENTS].fd, NULL, NULL, SOCK_CLOEXEC), polled[CLIENTS].revents = 0;
     }
-    status = settle();
+    int status = settle();
     if (status == 0) status = refskold_unmount(&mount);
-    if (status != 0 || ftruncate(journal, 0) != 0) stop("the end", status);
+    if (status != 0 || !empty_log()) stop("the end", status);
     return 0;
 }

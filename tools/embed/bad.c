@@ -154,7 +154,7 @@ static unsigned null_requests(struct rooms *rooms)
         refskold_relse(NULL, 1, 7, NULL), refskold_join(NULL, 1, 7), refskold_release(NULL, 7), refskold_inval(NULL, 1, 7),
         refskold_commit(NULL, 1, &rooms->reply), refskold_roll(NULL, 1, &rooms->reply), refskold_cancel(NULL, 1, NULL),
         refskold_force(NULL, &rooms->number), refskold_force_to(NULL, 1, &rooms->number), refskold_push(NULL),
-        refskold_shutdown(NULL), refskold_freeze(NULL), refskold_thaw(NULL), refskold_unmount(NULL), refskold_shut(NULL),
+        refskold_shutdown(NULL), refskold_freeze(NULL), refskold_thaw(NULL), refskold_unmount(NULL), refskold_shut(NULL), refskold_log_needed(NULL),
         refskold_open(NULL, 0, REFSKOLD_LEAST_LOG, 1), refskold_open_sized(NULL, 0, REFSKOLD_LEAST_LOG, 1, 512), refskold_take(NULL, REFSKOLD_CHECKPOINT, &rooms->number),
         refskold_begin(NULL, 1, &rooms->reply), refskold_piece(NULL, 0, rooms->room, REFSKOLD_BLOCK), refskold_end(NULL, 1, 0, 0, &rooms->reply),
         refskold_flush_plan(NULL, &rooms->plan), refskold_home(NULL, 0, rooms->room),

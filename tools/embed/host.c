@@ -368,7 +368,8 @@ static enum ended flush(struct host *host, unsigned worker, struct job job, cons
     }
     bool is_synced = strcmp(word(words, words->count - 1), "ok") == 0;
     int status = refskold_flush(mount, job.serial, (uint32_t)count, written, is_synced, &reply);
-    if (status < 0) return status == -ENOMEM ? NO_MEMORY : DISORDER;
+    if (status < 0 && status != -EIO) return status == -ENOMEM ? NO_MEMORY : DISORDER;
+    if ((status == -EIO) != (count > 0 && !(is_synced && written == (1u << count) - 1))) fail("an I/O error of a flush, or none");
     host->busy[worker] = false;
     if (reply.word == REFSKOLD_FLUSHED) tell(host, "flushed %llu", (unsigned long long)reply.number);
     else tell(host, "nothing");

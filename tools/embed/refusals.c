@@ -52,6 +52,18 @@ static int is_zero(const refskold *mount) {
 static uint8_t text[4 * 4096];
 static size_t text_length;
 
+/* the same as a sealed log, and the header of its next file */
+static uint8_t sealed[REFSKOLD_LOG_HEADER + sizeof text + REFSKOLD_SEAL], next[REFSKOLD_LOG_HEADER];
+
+/* makes them, while that checkpoint is begun */
+static void seal(refskold *mount) {
+    uint8_t log[REFSKOLD_LOG_HEADER];
+    wants("header", refskold_log_header(log, REFSKOLD_BLOCK, 65536, 1, 7, NULL, NULL), 0);
+    memcpy(sealed, log, sizeof log), memcpy(sealed + sizeof log, text, text_length);
+    wants("seal", refskold_seal(mount, log), 0), memcpy(sealed + sizeof log + text_length, log + REFSKOLD_LOG_HEAD, REFSKOLD_SEAL);
+    wants("next header", refskold_log_header(next, REFSKOLD_BLOCK, 65536, 2, 7, log + REFSKOLD_LOG_HEAD, NULL), 0);
+}
+
 /* a call that was refused memory changes nothing, and is made again */
 #define AGAIN_OF(kind, handle, status, call)                                 \
     do {                                                                     \
@@ -94,7 +106,7 @@ static long run(long number) {
         status = refskold_piece(&m, k, text + text_length, 4096), wants("piece", status > 0, 1);
         text_length += (size_t)status;
     }
-    wants("pieces", k, pieces);
+    wants("pieces", k, pieces), seal(&m);
     AGAIN(status, refskold_end(&m, serial, pieces, 1, &reply)); wants("end", reply.word, REFSKOLD_LANDED);
     AGAIN(status, refskold_push(&m)); wants("push", status, 0);
     AGAIN(status, refskold_take(&m, REFSKOLD_FLUSH, &serial)); wants("take a flush", status, REFSKOLD_TAKEN);
@@ -131,6 +143,49 @@ static long gather(long number) {
     return refused;
 }
 
+/* what must be told of that log in two files, and what it says */
+static void tells(refskold_recovery *r, int status, const refskold_log_told *told) {
+    uint8_t content[REFSKOLD_BLOCK] = {0};
+    wants("two files", status, 0), wants("their texts", (long)told->texts, 1), wants("their rest", (long)told->rest, 0);
+    wants("their blocks", (long)told->blocks, 2), wants("the older", (long)told->older, 1); // a header alone is the other one
+    wants("lay of two files", refskold_recovery_lay(r, 7, content), 0), wants("laid of two files", memcmp(content + 100, "hello", 5), 0);
+    wants("close of two files", refskold_recovery_close(r), 0);
+}
+
+/* the sealed log of this one text in two files, fed and gathered, where the allocation of this number is refused: how many calls were */
+static long gather_files(long number) {
+    refskold_recovery r = REFSKOLD_NONE;
+    refskold_log_told told;
+    size_t length = REFSKOLD_LOG_HEADER + text_length + REFSKOLD_SEAL, half = length / 2;
+    long refused = 0;
+    int status;
+    until_refused = number;
+    AGAIN_OF(refskold_recovery, r, status, refskold_recovery_other(&r)); wants("other of nothing", status, 0);
+    AGAIN_OF(refskold_recovery, r, status, refskold_recovery_feed(&r, sealed, half)); wants("feed the other", status, 0);
+    wants("close of half", refskold_recovery_close(&r), 0);
+    AGAIN_OF(refskold_recovery, r, status, refskold_recovery_feed(&r, sealed, half)); wants("feed", status, 0);
+    AGAIN_OF(refskold_recovery, r, status, refskold_recovery_feed(&r, sealed + half, length - half)); wants("feed more", status, 0);
+    AGAIN_OF(refskold_recovery, r, status, refskold_recovery_other(&r)); wants("other", status, 0);
+    AGAIN_OF(refskold_recovery, r, status, refskold_recovery_feed(&r, next, sizeof next)); wants("feed the next", status, 0);
+    AGAIN_OF(refskold_recovery, r, status, refskold_recovery_end(&r, &told)); tells(&r, status, &told);
+    until_refused = -1;
+    return refused;
+}
+
+/* the same, whole */
+static long open_files(long number) {
+    refskold_recovery r = REFSKOLD_NONE;
+    refskold_log_told told;
+    size_t length = REFSKOLD_LOG_HEADER + text_length + REFSKOLD_SEAL;
+    long refused = 0;
+    int status;
+    until_refused = number;
+    AGAIN_OF(refskold_recovery, r, status, refskold_recovery_open_files(&r, sealed, length, next, sizeof next, &told));
+    tells(&r, status, &told);
+    until_refused = -1;
+    return refused;
+}
+
 static void memory(void) {
     long all, number, refused = 0;
     asked = 0, run(-1), all = asked;
@@ -140,14 +195,14 @@ static void memory(void) {
     printf("%ld allocations, each refused in turn: %ld calls said ENOMEM and were made again\n", all, refused);
 }
 
-/* the same of a log: two allocations are of room that a gathering does without */
-static void memory_of_a_log(void) {
+/* the same of a log: so many allocations are of room that a gathering does without */
+static void memory_of(const char *what, long gathers(long), long without) {
     long all, number, refused = 0;
-    asked = 0, gather(-1), all = asked;
-    for (number = 0; number < all; number++) refused += gather(number);
-    wants("refused calls of a log", refused, all - 2);
+    asked = 0, gathers(-1), all = asked;
+    for (number = 0; number < all; number++) refused += gathers(number);
+    wants(what, refused, all - without);
     wants("what is not given back", living, 0);
-    printf("%ld allocations of a log, each refused in turn: %ld calls said ENOMEM and were made again\n", all, refused);
+    printf("%ld allocations of %s, each refused in turn: %ld calls said ENOMEM and were made again\n", all, what, refused);
 }
 
 /* ---- bad words ---- */
@@ -283,6 +338,8 @@ int main(void) {
     bad_callers();
     small_blocks();
     memory();
-    memory_of_a_log();
+    memory_of("a log", gather, 2);
+    memory_of("a log in two files, in pieces", gather_files, 2);
+    memory_of("a log in two files", open_files, 2);
     return failures != 0;
 }
