@@ -6,6 +6,7 @@ import subprocess
 import threading
 from typing import NamedTuple
 
+import plain_logs
 from plain_logs import whole_texts
 from power_cuts import recording
 from power_cuts.disk import BEGINNING, SECTORS, WAYS, WRITES, ZEROS, disks
@@ -42,10 +43,14 @@ class Record(NamedTuple):
     events: list
     places: list
     has_barrier: bool = False
+    # whether its logs have seals, so that nothing which a power cut leaves behind the synced texts is taken for one
+    has_seals: bool = False
     # a daemon that recovers the files by itself, now and then
     daemon: str = ''
     # the events at which a fault was planted, where it shows near them alone
     planted: list = []
+    # whether logs are given to the program without their seals, as a reader would have them that looks at none: a fault that is planted
+    is_unsealed: bool = False
 
 
 class Told(NamedTuple):
@@ -66,7 +71,7 @@ def is_log(record, name):
 
 def ways_of(record):
     """The ways a log may be left of which something is promised, and the others."""
-    covered = (BEGINNING, *COVERED_BY_BARRIER) if record.has_barrier else (BEGINNING,)
+    covered = WAYS if record.has_seals else (BEGINNING, *COVERED_BY_BARRIER) if record.has_barrier else (BEGINNING,)
     return covered, tuple(way for way in WAYS if way not in covered)
 
 
@@ -75,10 +80,11 @@ def is_promised(record, way):
 
 
 def is_met(record, way, verdict, demands_all):
-    """Whether a verdict is one that is promised, or where all is demanded the right one. With a barrier a log whose end is no beginning may be refused."""
+    """Whether a verdict is one that is promised, or where all is demanded the right one. With a barrier a log whose end is no beginning may be refused, one with seals
+    never."""
     if verdict == RIGHT:
         return True
-    if demands_all or way == BEGINNING:
+    if demands_all or way == BEGINNING or record.has_seals:
         return False
     return verdict == REFUSED or not is_promised(record, way)
 
@@ -91,6 +97,18 @@ def write(path, content):
 def read(path):
     with open(path, 'rb') as file:
         return file.read()
+
+
+def unsealed(record, image):
+    """The files of logs as they are for a reader that looks at no seal: all texts that obey the rules, the older ones first, and what stands behind them."""
+    left = dict(image)
+    for place in record.places:
+        files = [content for name, content in image.items() if place.is_log(name) and plain_logs.read_header(content)]
+        if files:
+            files.sort(key=lambda content: plain_logs.read_header(content).generation)
+            left.pop(place.log + '.1', None)
+            left[place.log] = b''.join(map(plain_logs.without_seals, files))
+    return left
 
 
 class Cutter:
@@ -165,6 +183,12 @@ class Cutter:
                 return WRONG, f'{told}: {why}'.lstrip(': ')
         return verdict, told
 
+    def has_texts(self, place):
+        """Whether a text stands in a file of a log: one that was recovered has none, and may have a header."""
+        contents = [read(self.path(name)) for name in os.listdir(self.folder) if place.is_log(name)]
+        files = [(content, plain_logs.read_sealed(content)) for content in contents]
+        return any(it.texts if it else content and not plain_logs.read_header(content) for content, it in files)
+
     def by_daemon(self, record, disk, image, event):
         """Has a daemon recover its files, and ends it by SIGKILL."""
         place, = record.places
@@ -177,7 +201,7 @@ class Cutter:
         _, err = daemon.communicate()
         clock.cancel()
         if line.startswith(b'recovered '):
-            return self.compared(place, event, RIGHT, '') if read(self.path(place.log)) == b'' else (WRONG, 'the daemon leaves its log')
+            return (WRONG, 'the daemon leaves its log') if self.has_texts(place) else self.compared(place, event, RIGHT, '')
         return self.judged(place, disk, image, event, False) if b'is broken at byte' in err else (WRONG, f'the daemon: {err!r:.200}')
 
     # ---- cuts
@@ -188,11 +212,13 @@ class Cutter:
             return 'serve --recover'
         if record.daemon:
             return dice.choice(('recover',) * 12 + ('recover --cut',) * 6 + ('daemon',) * 2)
-        return dice.choice(('recover',) * 12 + ('recover --cut',) * 7 + ('serve --recover' if way == BEGINNING else 'recover',))
+        return dice.choice(('recover',) * 12 + ('recover --cut',) * 7 + ('serve --recover' if way == BEGINNING or record.has_seals else 'recover',))
 
     def cut(self, record, disk, event, way, dice):
         """One power cut behind an event: the image that it leaves, how it is recovered, and what comes of it."""
         image = disk.left(dice, {name: way for name in disk.files if is_log(record, name)})
+        if record.is_unsealed:
+            image = unsealed(record, image)
         how = self.way_back(record, image, way, dice)
         self.put(image)
         if how == 'serve --recover':
@@ -211,7 +237,7 @@ class Cutter:
 
 def crucial(record, part):
     """How crucial an event is: most so where a log is emptied, and less where one is written from its front, a file is made, or its name made safe."""
-    if part.offset == 0 and is_log(record, part.name) and part.kind in 'tw':
+    if part.kind in 'tw' and part.offset == 0 and is_log(record, part.name):
         return 4 if part.kind == 't' else 1
     return int(part.kind == 'm' or part.kind in 'be' and part.name == '')
 
@@ -219,11 +245,15 @@ def crucial(record, part):
 def interesting(record):
     """The events of a record behind which a log was not synced, those behind which any file was not, and those that are near a crucial one."""
     logs, files, near = [], [], []
+    has_log = has_file = False
     for number, disk in disks(record.base, record.events):
-        pending = [name for name in disk.files if disk.is_pending(name)]
-        if any(is_log(record, name) for name in pending):
+        # what a program hears and says changes no file
+        if any(part.kind not in 'hs' for part in record.events[number]):
+            pending = [name for name in disk.files if disk.is_pending(name)]
+            has_log, has_file = any(is_log(record, name) for name in pending), bool(pending)
+        if has_log:
             logs.append(number)
-        if pending:
+        if has_file:
             files.append(number)
         weight = max((crucial(record, part) for part in record.events[number]), default=0)
         near += weight * [number + far for far in NEAR if 0 <= number + far < len(record.events)]
@@ -240,7 +270,7 @@ def chosen(record, seed, numbers, only=None):
     cuts = []
     for number in numbers:
         dice = random.Random(f'{seed} {number}')
-        way = dice.choice(covered) if dice.random() < 0.7 else dice.choice(others)
+        way = dice.choice(covered) if not others or dice.random() < 0.7 else dice.choice(others)
         way = only or way
         kind = dice.randrange(100)
         places = near if kind < NEAR_CUTS else files if kind < NEAR_CUTS + NOT_SYNCED else every
@@ -278,4 +308,5 @@ def recovery(program, recorder, work, place, image, home, is_cut):
     os.unlink(record)
     history = History(place.size, place.blocks, contents(home, place.size, range(place.blocks)))
     history.close()
-    return Record(f'recover{" --cut" * is_cut}', base, [[event] for event in events], [place._replace(histories=[history])])
+    has_seals = any(plain_logs.read_header(content) for name, content in base.items() if place.is_log(name))
+    return Record(f'recover{" --cut" * is_cut}', base, [[event] for event in events], [place._replace(histories=[history])], has_seals=has_seals)

@@ -89,7 +89,7 @@ class Session(threading.Thread):
             text = spell_text(self.dice.choice((1, self.last + 1, self.dice.randrange(1, 400))), {self.dice.choice(self.owned): {0: bytes([255]) * 128}}, self.volume.size)
             part = text[self.dice.choice((0, 0, len(text) - 16)):]
             return (part * (length // len(part) + 1))[:length]
-        return bytes(self.dice.getrandbits(8) for _ in range(length))
+        return self.dice.getrandbits(8 * length).to_bytes(length, 'big')
 
     def edited(self, trans, block, kind):
         """Changes a block that the transaction has: its content then."""

@@ -1,4 +1,5 @@
 """Programs run under the recorder, and what it has noted of them."""
+import functools
 import os
 import struct
 import subprocess
@@ -46,6 +47,7 @@ def read(record, folder):
         return []
     at, events, front = 0, [], os.path.realpath(folder)
 
+    @functools.lru_cache(maxsize=None)
     def name_of(given):
         return '' if given == front else os.path.relpath(given, front)
 
