@@ -1,7 +1,11 @@
-"""What the tools in Python share: how they are called, and programs that are there."""
+"""What the tools in Python share: how they are called, programs that are there, and where files are kept meanwhile."""
 import os
 import subprocess
 import sys
+
+MEMORY = '/dev/shm'
+# what the files of a tool take at most, several times over
+ROOM = 1 << 28
 
 
 def words(doc):
@@ -35,3 +39,12 @@ def built():
     if ran.returncode != 0:
         sys.exit(ran.returncode)
     return ran.stdout.rstrip('\n')
+
+
+def in_memory():
+    """A folder in memory for files that are kept meanwhile, since a disk would only make it slow. None, for the usual one, where TMPDIR names another, and where there is no
+    such folder or too little room in it: in a container it often has 64 MB."""
+    if 'TMPDIR' in os.environ or not os.access(MEMORY, os.W_OK):
+        return None
+    room = os.statvfs(MEMORY)
+    return MEMORY if room.f_bavail * room.f_frsize >= ROOM else None
