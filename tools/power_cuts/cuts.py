@@ -16,10 +16,11 @@ RIGHT, REFUSED, WRONG = 'right', 'refused', 'wrong'
 SECONDS = 60
 # what is right or refused with a barrier
 COVERED_BY_BARRIER = (ZEROS, SECTORS, WRITES)
-# of a hundred cuts: how many are near crucial events, and how many elsewhere where something was not synced; the rest are anywhere
-NEAR_CUTS, NOT_SYNCED = 35, 45
+# of a hundred cuts: how many are near crucial events, or where a fault was planted near those, and from which on they are anywhere; between, something was not synced
+NEAR_CUTS, PLANTED_CUTS, ANYWHERE = 35, 70, 80
 # how far from it is near, the nearest the more often
 NEAR = (0, 0, 0, 0, 1, 1, 1, -1, -1, -1, 2, -2, 3, -3, 5, -5)
+NEAR_PLANTED = (0, 0, 0, 1, 1, 2, -1)
 
 
 class Place(NamedTuple):
@@ -243,7 +244,8 @@ def crucial(record, part):
 
 
 def interesting(record):
-    """The events of a record behind which a log was not synced, those behind which any file was not, and those that are near a crucial one."""
+    """The events of a record behind which a log was not synced, those behind which any file was not, and those that are near a crucial one; where a fault was planted at
+    some events, near those alone."""
     logs, files, near = [], [], []
     has_log = has_file = False
     for number, disk in disks(record.base, record.events):
@@ -255,10 +257,10 @@ def interesting(record):
             logs.append(number)
         if has_file:
             files.append(number)
-        weight = max((crucial(record, part) for part in record.events[number]), default=0)
-        near += weight * [number + far for far in NEAR if 0 <= number + far < len(record.events)]
-    near += [number + far for number in record.planted for far in 4 * NEAR if 0 <= number + far < len(record.events)]
-    return logs, files, near
+        weight = 0 if record.planted else max((crucial(record, part) for part in record.events[number]), default=0)
+        near += weight * [number + far for far in NEAR]
+    near += [number + far for number in record.planted for far in NEAR_PLANTED]
+    return logs, files, [number for number in near if 0 <= number < len(record.events)]
 
 
 def chosen(record, seed, numbers, only=None):
@@ -267,14 +269,15 @@ def chosen(record, seed, numbers, only=None):
     logs, files, near = interesting(record)
     covered, others = ways_of(record)
     every = range(len(record.events))
+    near_cuts = PLANTED_CUTS if record.planted else NEAR_CUTS
     cuts = []
     for number in numbers:
         dice = random.Random(f'{seed} {number}')
-        way = dice.choice(covered) if not others or dice.random() < 0.7 else dice.choice(others)
+        way = dice.choice(covered) if not others or record.planted or dice.random() < 0.7 else dice.choice(others)
         way = only or way
         kind = dice.randrange(100)
-        places = near if kind < NEAR_CUTS else files if kind < NEAR_CUTS + NOT_SYNCED else every
-        if way != BEGINNING and logs and kind >= NEAR_CUTS // 3:
+        places = near if kind < near_cuts else files if kind < ANYWHERE else every
+        if way != BEGINNING and logs and kind >= (near_cuts if record.planted else near_cuts // 3):
             places = logs
         cuts.append((dice.choice(places or every), number, way, dice))
     return sorted(cuts, key=lambda cut: cut[:2])
