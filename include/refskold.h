@@ -126,7 +126,7 @@ extern "C" {
 
 /* What this header says. The library says its own by refskold_version(): they must be equal. It goes up with each change
  * that a program that was compiled earlier would notice. */
-#define REFSKOLD_VERSION 4u
+#define REFSKOLD_VERSION 5u
 
 #define REFSKOLD_BLOCK 4096u                       /* bytes of the longest block, and of the longest piece */
 #define REFSKOLD_LEAST_LOG 65536u                  /* bytes of the smallest log */
@@ -183,7 +183,8 @@ enum refskold_told {
     REFSKOLD_FAILED = 15,         /* end: `number` */
     REFSKOLD_FLUSHED = 16,        /* flush: `number`, how many blocks are home */
     REFSKOLD_SEEN = 17,
-    REFSKOLD_REFUSED = 18         /* `error` */
+    REFSKOLD_REFUSED = 18,        /* `error` */
+    REFSKOLD_STAT = 19
 };
 
 /* A reply. Fields that its word does not name are 0; of `held` only the first `held_count` say something. */
@@ -202,6 +203,25 @@ typedef struct refskold_plan {
     uint32_t unused;
     uint64_t blocks[8];
 } refskold_plan;
+
+/* What a mount tells of itself, in 64 bytes: twelve numbers of 32 bits, and two of 64. A block is idle where it is not busy,
+ * and its content is still in memory. Bytes are of the log, of the `log_bytes` that the mount was opened with. */
+typedef struct refskold_state {
+    uint32_t transactions;        /* that are open: 0 to REFSKOLD_MOST_TRANS */
+    uint32_t busy;                /* blocks: 0 to REFSKOLD_MOST_BUSY */
+    uint32_t idle;                /* blocks: 0 to 64 */
+    uint32_t committed;           /* blocks that the next checkpoint would have: 0 to REFSKOLD_MOST_BUSY */
+    uint32_t active;              /* blocks of checkpoints that landed, which are not home: 0 to REFSKOLD_MOST_BUSY */
+    uint32_t owed;                /* jobs that refskold_take would give: 0 to 2 */
+    uint32_t outstanding;         /* jobs that were taken and have not ended: 0 to 2 */
+    uint32_t frozen;              /* 1 from refskold_freeze to refskold_thaw, else 0 */
+    uint32_t cost;                /* bytes that the text of the next checkpoint would have: 0 to REFSKOLD_TEXT */
+    uint32_t granted;             /* bytes kept for open transactions: for each its `unit` times the legs it has left */
+    uint32_t used;                /* bytes in use: granted + cost, and texts that are in flight, or landed from `least` on */
+    uint32_t free;                /* bytes that are left: used + free is `log_bytes` */
+    uint64_t flight;              /* number of the checkpoint that is begun; 0 for none */
+    uint64_t least;               /* least number of a checkpoint that has an active block; 0 for none */
+} refskold_state;
 
 /* The kinds of jobs. */
 enum refskold_job { REFSKOLD_CHECKPOINT = 0, REFSKOLD_FLUSH = 1 };
@@ -265,6 +285,7 @@ int32_t refskold_abi_open_sized(refskold *mount, uint32_t last, uint32_t log_byt
 void refskold_abi_close(refskold *mount);
 int32_t refskold_abi_shut(refskold *mount);
 int32_t refskold_abi_log_needed(refskold *mount);
+int32_t refskold_abi_stat(refskold *mount, refskold_state *state);
 
 /* Serves a request. `data` are the bytes of a LOG, for other words of length 0. `answered` (enum refskold_answer) is what
  * the home device answered, with the block in `content`. `room` is filled by a VIEW, and is then as long as a block.
@@ -414,6 +435,13 @@ static inline int refskold_shut(refskold *mount)
 static inline int refskold_log_needed(refskold *mount)
 {
     return mount == NULL ? -EINVAL : refskold_abi_log_needed(mount);
+}
+
+/* Writes what the mount tells of itself, live or shut: how full its log and its lists are, and what it owes. It changes
+ * nothing, asks no device and wants no memory, so it may come at any time, also between a plan and its flush. 0. -ENODEV. */
+static inline int refskold_stat(refskold *mount, refskold_state *state)
+{
+    return mount == NULL || state == NULL ? -EINVAL : refskold_abi_stat(mount, state);
 }
 
 /* ---- Transactions -------------------------------------------------------------------------------------------------- */

@@ -68,6 +68,14 @@ public:
         check(refskold_alloc(get(), unit, count, rolls, &trans), "alloc");
         return trans;
     }
+
+    /// What it tells of itself.
+    ::refskold_state state()
+    {
+        ::refskold_state told{};
+        check(refskold_stat(get(), &told), "stat");
+        return told;
+    }
 };
 
 } // namespace refskold_cpp

@@ -8,6 +8,7 @@
 struct rooms {
     refskold_reply reply;
     refskold_plan plan;
+    refskold_state state;
     uint64_t number;
     uint8_t room[REFSKOLD_BLOCK];
 };
@@ -111,6 +112,7 @@ unsigned bad_calls(refskold *mount)
     for (size_t k = 0; k < sizeof sizes / sizeof *sizes; k++)
         failed += judge("a size that no block has", refskold_open_sized(mount, 0, REFSKOLD_LEAST_LOG, 1, sizes[k]), -EINVAL, &rooms);
     failed += judge("the last life", refskold_open(mount, UINT32_MAX, REFSKOLD_LEAST_LOG, 1), -ENOSPC, &rooms);
+    failed += judge("a state of no mount", refskold_stat(mount, &rooms.state), -ENODEV, &rooms);
     failed += judge("a plan of no mount", refskold_flush_plan(mount, &rooms.plan), -ENODEV, &rooms);
     failed += judge("homes of no mount", refskold_homes(mount, &rooms.plan, rooms.room, sizeof rooms.room), -ENODEV, &rooms);
     failed += judge("mapped homes of no mount", refskold_homes_mapped(mount, &rooms.plan, rooms.room, sizeof rooms.room), -ENODEV, &rooms);
@@ -155,6 +157,7 @@ static unsigned null_requests(struct rooms *rooms)
         refskold_commit(NULL, 1, &rooms->reply), refskold_roll(NULL, 1, &rooms->reply), refskold_cancel(NULL, 1, NULL),
         refskold_force(NULL, &rooms->number), refskold_force_to(NULL, 1, &rooms->number), refskold_push(NULL),
         refskold_shutdown(NULL), refskold_freeze(NULL), refskold_thaw(NULL), refskold_unmount(NULL), refskold_shut(NULL), refskold_log_needed(NULL),
+        refskold_stat(NULL, &rooms->state),
         refskold_open(NULL, 0, REFSKOLD_LEAST_LOG, 1), refskold_open_sized(NULL, 0, REFSKOLD_LEAST_LOG, 1, 512), refskold_take(NULL, REFSKOLD_CHECKPOINT, &rooms->number),
         refskold_begin(NULL, 1, &rooms->reply), refskold_piece(NULL, 0, rooms->room, REFSKOLD_BLOCK), refskold_end(NULL, 1, 0, 0, &rooms->reply),
         refskold_flush_plan(NULL, &rooms->plan), refskold_home(NULL, 0, rooms->room),
@@ -173,7 +176,7 @@ unsigned null_pointers(refskold *mount)
     int statuses[] = {
         refskold_alloc(mount, 1, 1, 0, NULL), refskold_view(mount, 1, 7, NULL), refskold_log(mount, 1, 7, 0, NULL, 1),
         refskold_take(mount, REFSKOLD_CHECKPOINT, NULL), refskold_begin(mount, 1, NULL), refskold_piece(mount, 0, NULL, REFSKOLD_BLOCK), refskold_read_content(mount, 1, 7, NULL),
-        refskold_flush_plan(mount, NULL), refskold_home(mount, 0, NULL),
+        refskold_stat(mount, NULL), refskold_flush_plan(mount, NULL), refskold_home(mount, 0, NULL),
         refskold_homes(mount, NULL, rooms.room, REFSKOLD_BLOCK), refskold_homes(mount, &rooms.plan, NULL, REFSKOLD_BLOCK),
         refskold_homes_mapped(mount, NULL, rooms.room, REFSKOLD_BLOCK), refskold_homes_mapped(mount, &rooms.plan, NULL, REFSKOLD_BLOCK),
         refskold_flush_mapped(mount, 1, NULL, REFSKOLD_BLOCK, NULL),

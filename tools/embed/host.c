@@ -232,6 +232,19 @@ static int alloc(struct host *host, refskold *mount, const struct words *words)
     return status;
 }
 
+/* What a mount tells of itself. */
+static int look(struct host *host, refskold *mount)
+{
+    refskold_state state;
+    int status = refskold_stat(mount, &state);
+    if (told_error(host, status)) return status;
+    tell(host, "stat %u %u %u %u %u", state.transactions, state.busy, state.idle, state.committed, state.cost);
+    tell(host, " c%llu %u c%llu", (unsigned long long)state.flight, state.active, (unsigned long long)state.least);
+    tell(host, " %u %u %u %s", state.granted, state.used, state.free, state.frozen != 0 ? "frozen" : "thawed");
+    tell(host, " %u %u", state.owed, state.outstanding);
+    return status;
+}
+
 /* The requests that tell something; 1 where it is another. */
 static int telling_request(struct host *host, unsigned slot, const struct words *words)
 {
@@ -243,6 +256,7 @@ static int telling_request(struct host *host, unsigned slot, const struct words 
     if (strcmp(name, "alloc") == 0) return alloc(host, mount, words);
     if (strcmp(name, "commit") == 0 || strcmp(name, "roll") == 0 || strcmp(name, "cancel") == 0) return end_leg(host, mount, words);
     if (strncmp(name, "force", 5) == 0) return force(host, mount, words);
+    if (strcmp(name, "stat") == 0) return look(host, mount);
     if (strcmp(name, "view") == 0) {
         status = refskold_view_sized(mount, numbered(word(words, 2)), number(word(words, 3)), content, size);
         if (told_error(host, status)) return status;

@@ -80,9 +80,10 @@ static long run(long number) {
     refskold m = REFSKOLD_NONE;
     refskold_reply reply;
     refskold_plan plan;
+    refskold_state state;
     uint64_t trans = 0, serial = 0, waits = 0;
     uint32_t pieces, k;
-    long refused = 0;
+    long refused = 0, before;
     int status;
     until_refused = number, text_length = 0;
     AGAIN(status, refskold_open(&m, 0, 65536, 64)); wants("open", status, 0);
@@ -98,6 +99,8 @@ static long run(long number) {
     wants("held", (long)reply.held[0], 8);
     AGAIN(status, refskold_release(&m, 8)); wants("release", status, 0);
     AGAIN(status, refskold_commit(&m, trans, &reply)); wants("commit", status, 0);
+    before = asked;
+    wants("stat", refskold_stat(&m, &state), 0), wants("its blocks", state.committed, 2), wants("memory that it asked for", asked - before, 0);
     AGAIN(status, refskold_force(&m, &waits)); wants("force", (long)waits, 1);
     AGAIN(status, refskold_take(&m, REFSKOLD_CHECKPOINT, &serial)); wants("take", status, REFSKOLD_TAKEN);
     AGAIN(status, refskold_begin(&m, serial, &reply)); wants("begin", status, 0);
@@ -211,9 +214,11 @@ static void bad_callers(void) {
     refskold_request q = {0};
     refskold_reply reply, before;
     refskold_plan plan;
+    refskold_state state;
     uint64_t trans = 0, serial = 77;
     wants("no mount: call", refskold_push(&m), -ENODEV);
     wants("no mount: shut", refskold_shut(&m), -ENODEV);
+    wants("no mount: stat", refskold_stat(&m, &state), -ENODEV);
     wants("no mount: take", refskold_take(&m, 0, &serial), -ENODEV);
     wants("no mount: begin", refskold_begin(&m, 1, &reply), -ENODEV);
     wants("no mount: piece", refskold_piece(&m, 0, room, 4096), -ENODEV);

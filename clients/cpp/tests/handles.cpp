@@ -64,8 +64,9 @@ bytes logged()
     std::uint64_t waits = 0;
     mount first(0, REFSKOLD_LEAST_LOG, 1024);
     change(first, "hello");
+    assert(first.state().committed == 1 && first.state().cost == 176 && first.state().owed == 0);
     check(refskold_force(first.get(), &waits));
-    assert(waits == 1);
+    assert(waits == 1 && first.state().owed == 1);
     // to another thread and back, by moves
     mount second = std::move(first);
     assert(!first && second);
@@ -106,6 +107,7 @@ void refused()
     check(refskold_cancel(one.get(), 1, nullptr));
     check(refskold_unmount(one.get()));
     assert(!one);
+    assert(thrown([&] { one.state(); }) == ENODEV);
 }
 
 } // namespace

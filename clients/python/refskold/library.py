@@ -5,7 +5,7 @@ import functools
 import os
 
 # REFSKOLD_VERSION of the header that these types are of
-VERSION = 4
+VERSION = 5
 BLOCK_BYTES = 4096
 WORDS = {name: word for word, name in enumerate(
     'alloc get read view log hold unhold relse join release inval commit roll cancel force force_to push shutdown freeze thaw unmount'.split())}
@@ -34,6 +34,12 @@ class Reply(ctypes.Structure):
 
 class Plan(ctypes.Structure):
     _fields_ = [('count', ctypes.c_uint32), ('unused', ctypes.c_uint32), ('blocks', ctypes.c_uint64 * 8)]
+
+
+class State(ctypes.Structure):
+    _fields_ = [(name, ctypes.c_uint32) for name in (
+        'transactions', 'busy', 'idle', 'committed', 'active', 'owed', 'outstanding', 'frozen', 'cost', 'granted', 'used', 'free')] + [
+            (name, ctypes.c_uint64) for name in ('flight', 'least')]
 
 
 class Told(ctypes.Structure):
@@ -71,6 +77,7 @@ def typed(library):
         'open_sized': [mount, u32, u32, u64, u32],
         'close': [mount],
         'shut': [mount],
+        'stat': [mount, ctypes.POINTER(State)],
         'call': [mount, ctypes.POINTER(Request), room, size, u32, room, size, reply, room, size],
         'take': [mount, u32, number],
         'begin': [mount, u64, reply],

@@ -3,7 +3,7 @@ import ctypes
 import errno
 
 from . import library as abi
-from .library import Holder, Plan, Reply, Request, judged
+from .library import Holder, Plan, Reply, Request, State, judged
 
 
 class Mount(Holder):
@@ -34,6 +34,12 @@ class Mount(Holder):
     def shut(self):
         """Why the mount is shut, as 'LOG_IO_ERROR'; '' where it is live."""
         return abi.REASONS[judged(self._library.refskold_abi_shut(self._handle))]
+
+    def stat(self):
+        """What the mount tells of itself, by the names of `refskold_state` in refskold.h: transactions, blocks, jobs, and bytes of the log."""
+        told = State()
+        judged(self._library.refskold_abi_stat(self._handle, told))
+        return {name: getattr(told, name) for name, _ in State._fields_}
 
     def _call(self, word, data=b'', answered=abi.UNASKED, content=b'', room=None, **fields):
         request, reply = Request(word=abi.WORDS[word], **fields), Reply()

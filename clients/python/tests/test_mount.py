@@ -84,6 +84,29 @@ class Mounts(unittest.TestCase):
             mount.unmount()
             self.refused(errno.ENODEV, mount.alloc, 5000)
 
+    def test_stat(self):
+        log_bytes = LOG_BYTES
+        told = dict.fromkeys('transactions busy idle committed active owed outstanding frozen cost granted used flight least'.split(), 0)
+
+        def look(**fields):
+            told.update(fields)
+            self.assertEqual(mount.stat(), {**told, 'free': log_bytes - told['used']})
+        with Mount(InMemory(), log_bytes, BLOCKS) as mount:
+            look()
+            trans = mount.alloc(5000, count=2, rolls=True)
+            look(transactions=1, granted=10000, used=10000)
+            mount.cancel(trans)
+            change(mount, 7, 100, b'hello')
+            look(transactions=0, granted=0, busy=1, committed=1, cost=176, used=176)
+            mount.force()
+            look(committed=0, cost=0, active=1, least=1)
+            mount.push()
+            mount.freeze()
+            look(busy=0, idle=1, active=0, least=0, used=0, frozen=1)
+            mount.shutdown()
+            look()
+        self.refused(errno.ENODEV, mount.stat)
+
     def test_sizes(self):
         for size in (512, 1024, 2048, 4096):
             devices = InMemory(size)

@@ -6,7 +6,7 @@ use Rattle.std.specs.List.{list_any}
 use Rattle.std.specs.Prelude.{is_none, if◌then◌else◌, is_some, not, ◌&&◌, ◌==◌, ◌||◌}
 use Rattle.xt_base.specs.Alone.{Turn, alone, call, called, carries_content, is_okay, names_held, reason_of, turn}
 use Rattle.xt_base.specs.Carried.{is_view, may_leave_held}
-use Rattle.xt_base.specs.Calls.{Outcome, is_held, alloc, alone_with, answered, brought, cancel, closed, commit, committed_of, force, force_to, freeze, get, gives, held_of, hold, inval, io_of, is_in_use, is_unmount, join, locked, log, okay_of, push, read, release, released, roll, shut_for, shut_if, thaw, unhold, unless, unmount, view, waits_for, with_trans}
+use Rattle.xt_base.specs.Calls.{Outcome, is_held, alloc, alone_with, answered, brought, cancel, closed, commit, committed_of, force, force_to, freeze, get, gives, held_of, hold, inval, io_of, is_in_use, is_unmount, join, locked, log, okay_of, push, read, release, released, roll, shut_for, shut_if, stat, thaw, unhold, unless, unmount, view, waits_for, with_trans}
 use Rattle.xt_base.specs.Legs.{aborted, is_dirty, own_count}
 use Rattle.xt_base.specs.Maps.{at}
 use Rattle.xt_base.specs.Settle.{Dropped}
@@ -208,6 +208,9 @@ module _ (s : State) where
   plain_thaw : IsPlain (thaw s)
   plain_thaw = search (fares_either, plain)
 
+  plain_stat : IsPlain (stat s)
+  plain_stat = search (plain)
+
   plain_unmount : IsPlain (unmount s)
   plain_unmount = search (fares_either, plain)
 
@@ -232,6 +235,7 @@ module _ (s : State) where
   fares dropped Request.Shutdown answer = record { carries = λ e. e; names = λ e. e; keeps = refl; stays = λ r e. ap (shut_for Reason.ForceUmount) e }
   fares dropped Request.Freeze answer = plain_freeze
   fares dropped Request.Thaw answer = plain_thaw
+  fares dropped Request.Stat answer = plain_stat
   fares dropped Request.Unmount answer = plain_unmount
 
 -- ---- a call of a mount

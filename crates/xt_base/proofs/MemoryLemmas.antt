@@ -180,6 +180,7 @@ module _ (s : State) where
   call_no_want dropped Request.Shutdown answer = refl
   call_no_want dropped Request.Freeze answer = freeze_no_want
   call_no_want dropped Request.Thaw answer = thaw_no_want
+  call_no_want dropped Request.Stat answer = refl
   call_no_want dropped Request.Unmount answer = unmount_no_want
 
   -- a begin

@@ -143,6 +143,7 @@ module _ (s : State) where
   call_gets dropped Request.Shutdown answer = refl
   call_gets dropped Request.Freeze answer = freeze_gets.told
   call_gets dropped Request.Thaw answer = thaw_gets.told
+  call_gets dropped Request.Stat answer = refl
   call_gets dropped Request.Unmount answer = unmount_gets.told
 
 -- the reply of a call as a step of a slot
@@ -179,6 +180,7 @@ asks_nothing Request.Push s other = refl
 asks_nothing Request.Shutdown s other = refl
 asks_nothing Request.Freeze s other = refl
 asks_nothing Request.Thaw s other = refl
+asks_nothing Request.Stat s other = refl
 asks_nothing Request.Unmount s other = refl
 
 asks_never : (life : ℕ) (request : Request) (o : Option State) → is_read request ≡ false → mount_is (of_life life request) o ≡ false

@@ -181,6 +181,7 @@ module _ (s : State) where
   same_call dropped Request.Shutdown answer = record { slot = refl; life = refl; serial = refl; flight = refl }
   same_call dropped Request.Freeze answer = same_freeze
   same_call dropped Request.Thaw answer = same_thaw
+  same_call dropped Request.Stat answer = same s
   same_call dropped Request.Unmount answer = same_unmount
 
   -- a begin leaves slot, life and last serial

@@ -258,6 +258,7 @@ sized_call dropped Request.Push answer s form has h = either (is_some s.shut) _ 
 sized_call dropped Request.Shutdown answer s form has h = h
 sized_call dropped Request.Freeze answer s form has h = or_else (first_of (freeze_refusals s)) s _ h (λ _. h)
 sized_call dropped Request.Thaw answer s form has h = either s.frozen _ _ h h
+sized_call dropped Request.Stat answer s form has h = h
 sized_call dropped Request.Unmount answer s form has h = either (is_in_use s) _ _ h h
 
 -- ---- jobs

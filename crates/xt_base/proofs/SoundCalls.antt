@@ -58,4 +58,5 @@ sound_call dropped Request.Push answer s h = sound_push s h
 sound_call dropped Request.Shutdown answer s h = sound_shutdown s h
 sound_call dropped Request.Freeze answer s h = sound_freeze s h
 sound_call dropped Request.Thaw answer s h = sound_thaw s h
+sound_call dropped Request.Stat answer s h = h
 sound_call dropped Request.Unmount answer s h = sound_unmount s h

@@ -15,9 +15,10 @@ use Rattle.xt_base.specs.declared.steps.Reply.TheVariants.{Failed, Landed, Nothi
 use Rattle.xt_base.specs.Calls.{Outcome, commit_number, committed_of, gives, held_of, io_of, alloc, alloc_refusals, allocated, asks_ckpt, asks_flush, at_end, brought, busied, closed, commit, edited, first_of, force, freeze, freeze_refusals, get_refusals, is_elsewhere, is_fresh, is_own, locked, log_refusals, logged_leg, made_fresh, marked_frozen, new_trans, not_fresh, overwritten, push, seen, shut_down, shut_for, shutdown, thaw, unless, waits_for, with_leg, with_owner}
 use Rattle.xt_base.specs.Chunks.{marks, union}
 use Rattle.xt_base.specs.Form.{Form, IsForm}
-use Rattle.xt_base.specs.Jobs.{activated, begin, begun, end, end_of, failed, finished, flown, is_ckpt, is_ok, is_outstanding, is_owed, is_serial, is_waiting, is_wanted, job, landed, landed_items, next_pieces, posted, waits_on}
+use Rattle.xt_base.specs.Jobs.{activated, begin, begun, end, end_of, failed, finished, flown, is_ckpt, is_ok, is_outstanding, is_serial, is_waiting, landed, landed_items, next_pieces, posted, waits_on}
 use Rattle.xt_base.specs.Legs.{aborted, change_of, ended, is_dirty, is_lost, is_stale, own_count, with_marks}
 use Rattle.xt_base.specs.Maps.{at, is_in, put, set_at, without_member}
+use Rattle.xt_base.specs.Owed.{is_owed, is_wanted, job}
 use Rattle.xt_base.specs.Settle.{Dropped, settled}
 use Rattle.xt_base.specs.Sound.{AreGiven, AreKept, AreNumbered, AreSound, AreWritten, Each, IsBetween, IsCovered, IsFair, IsReady, IsRising, IsSound, IsUnwritten, Owns, RisesFromKeys, is_cancelled}
 use Rattle.xt_base.specs.Space.{busy_count, change_cost, charge, cost, flight_items, greatest, is_busy, is_listed, used}

@@ -284,6 +284,7 @@ module _ (t b : ℕ) (s : State) (h : IsSound s) (own : is_own s t b ≡ true) w
   still_call Request.Shutdown answer dropped there other = record { form = refl; trans = refl; owner = refl; fresh = refl; content = refl }
   still_call Request.Freeze answer dropped there other = still_freeze
   still_call Request.Thaw answer dropped there other = still_thaw
+  still_call Request.Stat answer dropped there other = still_same t b s
   still_call Request.Unmount answer dropped there other = still_unmount
 
   -- ---- jobs

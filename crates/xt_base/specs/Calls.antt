@@ -6,6 +6,7 @@ use Rattle.xt_base.specs.Legs.{aborted, change_of, clean_leg, ended, is_dirty, i
 use Rattle.xt_base.specs.Maps.{at, has, is_in, put, set_at, with_member, without, without_member}
 use Rattle.xt_base.specs.Settle.{Dropped, settled}
 use Rattle.xt_base.specs.Space.{busy_count, charge, greatest, is_busy, used}
+use Rattle.xt_base.specs.Stat.{stat_of}
 use Rattle.xt_base.specs.State.{Flight, Frames, Leg, State, Transaction}
 use Rattle.xt_base.specs.Text.{content_at, zeros}
 use Rattle.xt_base.specs.declared.sizes.TheConstants.{BUSY_BLOCKS, GRANTED_LEGS, OPEN_TRANSACTIONS}
@@ -425,6 +426,11 @@ freeze s = unless (first_of (freeze_refusals s)) s (gives Okay (marked_frozen tr
 abbrev pub thaw : State → Outcome
 thaw s = if s.frozen then gives Okay (marked_frozen false s) else gives (Refused Invalid) s
 
+-- ---- stat
+-- what the mount tells, shut or not; it changes nothing
+abbrev pub stat : State → Outcome
+stat s = gives (Reply.Stat (stat_of s)) s
+
 -- ---- unmount
 -- whether something keeps the mount: an open transaction, a held block, an outstanding job, or, if live, a listed block
 abbrev pub is_in_use : State → Bool
@@ -459,6 +465,7 @@ alone_with dropped Request.Push answer s = push s
 alone_with dropped Request.Shutdown answer s = shutdown s
 alone_with dropped Request.Freeze answer s = freeze s
 alone_with dropped Request.Thaw answer s = thaw s
+alone_with dropped Request.Stat answer s = stat s
 alone_with dropped Request.Unmount answer s = unmount s
 
 -- whether a request asks the home device

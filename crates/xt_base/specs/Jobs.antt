@@ -1,10 +1,11 @@
--- The jobs of a mount: when they are owed, and their steps.
+-- The jobs of a mount: their names, and their steps.
 use Rattle.std.specs.List.{list_all}
-use Rattle.std.specs.Prelude.{Bool, List, None, Option, Some, [], false, filter, if◌then◌else◌, is_none, is_some, length, map, nat_le, nat_lt, not, take, true, ℕ, ◌&&◌, ◌++◌, ◌+◌, ◌/◌, ◌==◌, ◌∷◌}
+use Rattle.std.specs.Prelude.{Bool, List, None, Option, Some, [], false, filter, if◌then◌else◌, is_some, length, map, nat_le, nat_lt, not, take, true, ℕ, ◌&&◌, ◌++◌, ◌+◌, ◌==◌, ◌∷◌}
 use Rattle.xt_base.specs.Calls.{Outcome, gives, shut_down}
 use Rattle.xt_base.specs.Maps.{has, is_in, put, without}
+use Rattle.xt_base.specs.Owed.{is_owed, job}
 use Rattle.xt_base.specs.Settle.{Dropped, settled}
-use Rattle.xt_base.specs.Space.{cost, flight_items, greatest, still_needed}
+use Rattle.xt_base.specs.Space.{cost, flight_items, still_needed}
 use Rattle.xt_base.specs.State.{Flight, Items, Jobs, State}
 use Rattle.xt_base.specs.Text.{content_at, log_offers_of, pieces, text_of}
 use Rattle.xt_base.specs.declared.names.JobKind.{JobKind}
@@ -19,29 +20,11 @@ use Rattle.xt_base.specs.declared.steps.Owner.TheVariants.{Stale}
 use Rattle.xt_base.specs.declared.steps.Reason.TheVariants.{LogIoError}
 use Rattle.xt_base.specs.declared.steps.Reply.TheVariants.{Begun, Failed, Flushed, Landed, Nothing}
 
--- ---- owed, posted, outstanding
--- the outstanding job of a kind
-abbrev pub job : JobKind → Jobs → Option ℕ
-job JobKind.Ckpt j = j.ckpt
-job JobKind.Flush j = j.flush
-
+-- ---- posted, outstanding
 -- another outstanding job of a kind
 abbrev pub with_job : JobKind → Option ℕ → Jobs → Jobs
 with_job JobKind.Ckpt serial j = record j { ckpt = serial }
 with_job JobKind.Flush serial j = record j { flush = serial }
-
--- something to write, whose text has at least so many bytes, nothing in flight, and a number for the list after it
-abbrev pub is_worth : ℕ → ℕ → Items → Bool
-is_worth ends n l = is_none l.flight && not (l.open_number == greatest) && not (length l.cil == 0) && nat_le n (cost ends l.cil)
-
--- a checkpoint is wanted if it was asked, or the committed items cost an eighth of the log; a flush if it was asked
-abbrev pub is_wanted : JobKind → State → Bool
-is_wanted JobKind.Ckpt s = is_worth s.form.ends (if s.jobs.asked_ckpt then 0 else s.log_bytes / 8) s.items
-is_wanted JobKind.Flush s = s.jobs.asked_flush
-
--- whether a live mount owes a job of a kind
-abbrev pub is_owed : JobKind → State → Bool
-is_owed kind s = is_none s.shut && is_wanted kind s && is_none (job kind s.jobs) && not (s.jobs.last_serial == greatest)
 
 -- whether a job has this serial
 abbrev pub is_serial : ℕ → Option ℕ → Bool

@@ -11,6 +11,8 @@ pub mod Steps
 pub mod Errors
 pub mod Text
 pub mod Legs
+pub mod Owed
+pub mod Stat
 pub mod Calls
 pub mod Jobs
 pub mod Alone

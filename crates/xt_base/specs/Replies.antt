@@ -35,6 +35,11 @@ is_force Done = true
 is_force (Wait number) = true
 is_force other = false
 
+-- whether a reply is what a mount tells of itself
+abbrev pub is_told : Reply → Bool
+is_told (Reply.Stat told) = true
+is_told other = false
+
 -- whether a request may get a reply where it is not refused
 abbrev pub may_be_told : Request → Reply → Bool
 may_be_told (Request.Alloc unit count perm) reply = is_trans reply
@@ -45,6 +50,7 @@ may_be_told (Request.Roll t) reply = is_commit reply
 may_be_told (Request.Cancel t) reply = is_cancel reply
 may_be_told Request.Force reply = is_force reply
 may_be_told (Request.ForceTo number) reply = is_force reply
+may_be_told Request.Stat reply = is_told reply
 may_be_told other reply = is_okay reply
 
 -- whether a request may get a reply

@@ -3,10 +3,11 @@
 ghost use Rattle.std.specs.Prelude.{◌≡◌, ◌≤◌, ◌==◌, ◌+◌, [], ℕ, Bool, List, Option, Some, true, false, is_none, length, sum_by};
 ghost use Rattle.xt_base.specs.Calls.{alloc, alone_with, is_own};
 ghost use Rattle.xt_base.specs.Form.{Form as AnyForm, IsForm, form_of, is_size};
-ghost use Rattle.xt_base.specs.Jobs.{begin as begin_job, end as end_job, flush as flush_job, flush_plan, is_ckpt, is_owed, is_waiting, posted};
+ghost use Rattle.xt_base.specs.Jobs.{begin as begin_job, end as end_job, flush as flush_job, flush_plan, is_ckpt, is_waiting, posted};
 ghost use Rattle.xt_base.specs.Laws.{LooksAlike, after_calls, is_look, landed_since, names, uses};
 ghost use Rattle.xt_base.specs.Maps.{is_in};
 ghost use Rattle.xt_base.specs.Order.{has_size};
+ghost use Rattle.xt_base.specs.Owed.{is_owed};
 ghost use Rattle.xt_base.specs.Settle.{Dropped};
 ghost use Rattle.xt_base.specs.Sized.{IsSized};
 ghost use Rattle.xt_base.specs.Sound.{Each, IsSound};

@@ -15,6 +15,7 @@ pub mod names;
 pub mod newly;
 pub mod outcomes;
 pub mod sizes;
+pub mod stat;
 pub mod steps;
 
 pub use chunks::Chunks;
@@ -26,6 +27,7 @@ pub use marks::ItemMarks;
 pub use names::{Block, Caller, CkptNo, JobKind, JobName, Life, Slot, TransNo, Worker};
 pub use newly::Newly;
 pub use outcomes::{Disorder, Offers, Outcomes, RunFault, Turn};
+pub use stat::Stat;
 pub use steps::{
     Answer, Errno, HomeAnswers, HomeOffer, LogAnswers, LogOffer, Owner, Reason, Reply, Request,
     Step,

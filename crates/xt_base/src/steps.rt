@@ -9,6 +9,7 @@ ghost use Rattle.xt_base.specs.Steps.{is_call, slot_of};
 use crate::content::{Content, Data, HeldBlocks, HeldRoom};
 use crate::names::{Block, CkptNo, JobName, Life, Slot, TransNo, Worker};
 use crate::sizes::FLUSH_BLOCKS;
+use crate::stat::Stat;
 use std::alloc::{AllocError, Global};
 
 /// Why a call was refused: the numbers and names of `errno.h` on Linux.
@@ -166,6 +167,8 @@ pub enum Request {
     Freeze,
     /// Opens transactions again.
     Thaw,
+    /// What the mount tells of itself; it changes nothing.
+    Stat,
     /// Empties the slot.
     Unmount,
 }
@@ -212,6 +215,8 @@ pub enum Reply {
     Flushed(u32),
     /// What the board shows of a slot; life 0 where nothing was shown.
     Seen { life: Life, reason: Option<Reason> },
+    /// What a mount tells of itself.
+    Stat(Stat),
     Refused(Errno),
 }
 
@@ -307,6 +312,7 @@ impl Request {
             Request::Shutdown => Request::Shutdown,
             Request::Freeze => Request::Freeze,
             Request::Thaw => Request::Thaw,
+            Request::Stat => Request::Stat,
             Request::Unmount => Request::Unmount,
         };
         Ok(request)
@@ -369,6 +375,7 @@ impl Reply {
                 life: *life,
                 reason: *reason,
             },
+            Reply::Stat(stat) => Reply::Stat(*stat),
             Reply::Refused(errno) => Reply::Refused(*errno),
         }
     }

@@ -7,4 +7,5 @@ pub mod Calling
 pub mod Changing
 pub mod Working
 pub mod Sealing
+pub mod Telling
 pub mod Verdicts

@@ -3,7 +3,7 @@ use Rattle.std.specs.Prelude.{List, [], if◌then◌else◌, length, slice_index
 use Rattle.xt_base.specs.Errors.{number_of}
 use Rattle.xt_base.specs.declared.steps.Errno.TheVariants.{Io}
 use Rattle.xt_base.specs.declared.steps.Reply.{Reply}
-use Rattle.xt_base.specs.declared.steps.Reply.TheVariants.{Aborted, Begun, Committed, CommittedHeld, Data, Done, Failed, Flushed, Free, Kept, Landed, Life, Nothing, Okay, OkayHeld, Refused, Seen, Trans, Wait}
+use Rattle.xt_base.specs.declared.steps.Reply.TheVariants.{Aborted, Begun, Committed, CommittedHeld, Data, Done, Failed, Flushed, Free, Kept, Landed, Life, Nothing, Okay, OkayHeld, Refused, Seen, Stat, Trans, Wait}
 use Rattle.xt_c.specs.declared.words.ReplyWords.{ReplyWords}
 
 -- the word of a reply
@@ -27,6 +27,7 @@ word_in (Failed number) = 15
 word_in (Flushed count) = 16
 word_in (Seen life reason) = 17
 word_in (Refused errno) = 18
+word_in (Stat told) = 19
 
 -- why it refuses; 0 where it doesn't
 abbrev pub errno_in : Reply → ℕ

@@ -17,5 +17,6 @@ mod mounts;
 mod replies;
 mod requests;
 mod seals;
+mod stat;
 mod status;
 mod words;

@@ -20,7 +20,7 @@ use xt_frames::table::FrameTable;
 use xt_mount::mount::Mount;
 
 /// What an export of this library promises: it goes up with each change of what C sees.
-const VERSION: u32 = 4;
+const VERSION: u32 = 5;
 
 /// The version of what C sees.
 #[unsafe(no_mangle)]

@@ -35,6 +35,7 @@ fn word_in(reply: &Reply) -> u32
         Reply::Flushed(_) => 16,
         Reply::Seen { life: _, reason: _ } => 17,
         Reply::Refused(_) => 18,
+        Reply::Stat(_) => 19,
     }
 }
 

@@ -35,3 +35,24 @@ pub struct PlanWords {
     pub unused: u32,
     pub blocks: [u64; 8],
 }
+
+/// What a mount tells of itself, in the order of `Stat`. Counts are of transactions, blocks and jobs; `frozen` is 1 or 0; `cost`, `granted`, `used` and
+/// `free` are in bytes of the log; `flight` and `least` are numbers of checkpoints, 0 for none.
+#[repr(C)]
+#[derive(Clone, Copy)]
+pub struct StatWords {
+    pub transactions: u32,
+    pub busy: u32,
+    pub idle: u32,
+    pub committed: u32,
+    pub active: u32,
+    pub owed: u32,
+    pub outstanding: u32,
+    pub frozen: u32,
+    pub cost: u32,
+    pub granted: u32,
+    pub used: u32,
+    pub free: u32,
+    pub flight: u64,
+    pub least: u64,
+}

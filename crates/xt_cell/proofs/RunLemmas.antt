@@ -9,8 +9,9 @@ use Rattle.xt_base.proofs.MemoryLemmas.{alone_no_want}
 use Rattle.xt_base.specs.Alone.{Turn, goes_on, has_begun, on_mount}
 use Rattle.xt_base.specs.Calls.{Outcome, gives}
 use Rattle.xt_base.specs.Isolation.{is_no_memory}
-use Rattle.xt_base.specs.Jobs.{begin, begun, end, end_of, end_offers, failed, finished, flush, flush_offers, flush_plan, flushed, is_begun, is_ckpt, is_ok, is_serial, is_waiting, job, landed, next_pieces, unflushed}
+use Rattle.xt_base.specs.Jobs.{begin, begun, end, end_of, end_offers, failed, finished, flush, flush_offers, flush_plan, flushed, is_begun, is_ckpt, is_ok, is_serial, is_waiting, landed, next_pieces, unflushed}
 use Rattle.xt_base.specs.Order.{mount_is}
+use Rattle.xt_base.specs.Owed.{job}
 use Rattle.xt_base.specs.State.{Flight, Lone, State}
 use Rattle.xt_base.specs.declared.names.JobKind.{JobKind}
 use Rattle.xt_base.specs.declared.names.JobKind.TheVariants.{Ckpt, Flush as AFlush}

@@ -66,6 +66,7 @@ content_keeps (Call slot life request answer) r new old call carries served = by
     by Request.Shutdown is view = absurd (false≢true (sym (ap is_view is) ∙ view))
     by Request.Freeze is view = absurd (false≢true (sym (ap is_view is) ∙ view))
     by Request.Thaw is view = absurd (false≢true (sym (ap is_view is) ∙ view))
+    by Request.Stat is view = absurd (false≢true (sym (ap is_view is) ∙ view))
     by Request.Unmount is view = absurd (false≢true (sym (ap is_view is) ∙ view))
 content_keeps (Mount slot log_bytes blocks size) r new old call carries served = absurd (false≢true call)
 content_keeps (Post name) r new old call carries served = absurd (false≢true call)

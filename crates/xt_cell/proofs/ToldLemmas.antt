@@ -49,6 +49,7 @@ refused_told request (Reply.Landed number) no_memory = absurd (false≢true no_m
 refused_told request (Reply.Failed number) no_memory = absurd (false≢true no_memory)
 refused_told request (Reply.Flushed count) no_memory = absurd (false≢true no_memory)
 refused_told request (Reply.Seen life reason) no_memory = absurd (false≢true no_memory)
+refused_told request (Reply.Stat told) no_memory = absurd (false≢true no_memory)
 
 module _ (slot life : ℕ) (request : Request) (o : Option State) (x : Step) (step : IsStepOf slot life request o x) where
   -- the step of a call is told what its request may get

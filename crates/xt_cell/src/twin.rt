@@ -74,6 +74,7 @@ fn request_copy(request: &Request) -> Option<Request>
         Request::Shutdown => Request::Shutdown,
         Request::Freeze => Request::Freeze,
         Request::Thaw => Request::Thaw,
+        Request::Stat => Request::Stat,
         Request::Unmount => Request::Unmount,
     };
     Some(copy)
@@ -198,6 +199,7 @@ pub(crate) fn twin_if_plain(reply: &Reply) -> Option<Twin<Reply>>
         Reply::Seen { life, reason } => {
             Twin::of(Reply::Seen { life, reason }, Reply::Seen { life, reason })
         }
+        Reply::Stat(stat) => Twin::of(Reply::Stat(stat), Reply::Stat(stat)),
         Reply::Refused(errno) => Twin::of(Reply::Refused(errno), Reply::Refused(errno)),
         Reply::OkayHeld(_) | Reply::CommittedHeld { .. } => return None,
         Reply::Aborted(_) | Reply::Data(_) => return None,

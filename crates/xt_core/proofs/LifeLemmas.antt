@@ -5,8 +5,9 @@ use Rattle.std.specs.Prelude.{if◌then◌else◌, ◌&&◌, ◌==◌, ◌||◌}
 use Rattle.xt_core.proofs.NameLemmas.{AreAlike, alike}
 use Rattle.xt_base.specs.Alone.{Turn, alone, call, called, goes_on, is_okay, mount, mount_refusals, mounted_new, on_mount, shown, step_with, turn, unless_refused, with_mount}
 use Rattle.xt_base.specs.Calls.{Outcome, alone_with, first_of, is_unmount, log}
-use Rattle.xt_base.specs.Jobs.{begin, end, end_offers, flush, flush_offers, is_owed, is_owed_as, posted}
+use Rattle.xt_base.specs.Jobs.{begin, end, end_offers, flush, flush_offers, is_owed_as, posted}
 use Rattle.xt_base.specs.Order.{is_among, mount_is, same_name}
+use Rattle.xt_base.specs.Owed.{is_owed}
 use Rattle.xt_base.specs.Own.{IsOwnIn, IsOwnOf}
 use Rattle.xt_base.specs.Settle.{Dropped}
 use Rattle.xt_base.specs.Sound.{Each}

@@ -280,6 +280,14 @@ impl Frames {
         }
     }
 
+    /// How many blocks are idle.
+    pub fn idle_count(&self) -> usize
+        ensures value { result ≡ length self.now.idle }
+        ensures small { result ≤ IDLE_BLOCKS }
+    {
+        self.idle.count()
+    }
+
     /// At most 64 blocks are idle: for a proof, at run time nothing.
     pub fn idle_is_short(&self)
         ensures { length self.now.idle ≤ IDLE_BLOCKS }

@@ -53,6 +53,14 @@ impl IdleList {
         name_of(&self.names, block).is_some()
     }
 
+    /// How many blocks are idle.
+    pub fn count(&self) -> usize
+        ensures value { result ≡ length self.now }
+        ensures small { result ≤ IDLE_BLOCKS }
+    {
+        count_of(&self.names)
+    }
+
     /// At most 64 blocks are idle: for a proof, at run time nothing.
     pub fn is_short(&self)
         ensures { length self.now ≤ IDLE_BLOCKS }
@@ -189,6 +197,21 @@ fn put_under(names: &mut Names, name: u32, block: u64, content: Content)
         Ok(_) => {}
         Err(_) => unreachable!(),
     }
+}
+
+/// How many names have a block.
+fn count_of(names: &Names) -> usize
+    requires { IsFull names.now }
+    ensures value { result ≡ length (idle_of names.now.entries) }
+    ensures small { result ≤ IDLE_BLOCKS }
+{
+    let mut count = 0;
+    for (_, idle) in names.iter() {
+        if idle.is_some() {
+            count += 1;
+        }
+    }
+    count
 }
 
 /// The contents of some names, in a list of their own. The one error is want of memory.

@@ -1,4 +1,4 @@
-//! Calls to a mount as a whole: its log forced, its blocks written home, and its administration.
+//! Calls to a mount as a whole: its log forced, its blocks written home, its administration, and what it tells of itself.
 
 ghost use Rattle.std.specs.Prelude.{◌≡◌, ◌<◌, IfErr, IfOk, None, OnOk, slice_index};
 ghost use Rattle.xt_base.specs.declared.steps.Reply.TheVariants as AReply;
@@ -9,9 +9,10 @@ ghost use Rattle.xt_queue.specs.Words.{word_of};
 
 use crate::host::Host;
 use crate::outcomes::Forced;
-use crate::told::{force, okay};
+use crate::told::{force, okay, stat};
 use std::sync::Wait;
 use xt_base::names::CkptNo;
+use xt_base::stat::Stat;
 use xt_base::steps::{Errno, Request};
 use xt_cell::house::House;
 use xt_cell::mount_ref::MountRef;
@@ -114,5 +115,19 @@ impl<H: House, D> Host<H, D> {
         ensures rises { Rises seat.old.board.seen seat.new.board.seen }
     {
         okay(self.ask(rt, seat, at, Request::Thaw))
+    }
+
+    /// What a mount tells of itself, live or shut: how many transactions are open, how full its log and its lists are, and what it owes. It
+    /// changes nothing and asks no device. Sizes are in bytes; 0 is no checkpoint's number. ENODEV and ESTALE where that mount is gone.
+    pub fn stat<R: Wait>(&self, rt: &R, seat: &mut HostSeat<H>, at: MountRef) -> Result<Stat, Errno>
+    where
+        D: Desk<H, R>,
+        requires board { seat.old.board.board ≡ self.now.board }
+        ensures told { IfOk result (λ told. Served at ARequest.Stat (AReply.Stat told) seat.old seat.new) }
+        ensures refused { IfErr result (λ errno. Served at ARequest.Stat (AReply.Refused errno) seat.old seat.new) }
+        ensures board { seat.new.board.board ≡ seat.old.board.board }
+        ensures rises { Rises seat.old.board.seen seat.new.board.seen }
+    {
+        stat(self.ask(rt, seat, at, Request::Stat))
     }
 }

@@ -4,7 +4,7 @@
 ghost use Rattle.std.specs.Prelude.{◌≡◌, ◌||◌, IfErr, IfOk, OnOk, true};
 ghost use Rattle.xt_base.specs.Alone.{carries_content, is_okay, is_refusal};
 ghost use Rattle.xt_base.specs.Calls.{committed_of, held_of, okay_of};
-ghost use Rattle.xt_base.specs.Replies.{is_cancel, is_commit, is_force, is_release, is_trans};
+ghost use Rattle.xt_base.specs.Replies.{is_cancel, is_commit, is_force, is_release, is_told, is_trans};
 ghost use Rattle.xt_base.specs.declared.steps.Reply.TheVariants as AReply;
 ghost use Rattle.xt_host.specs.Tokens.{IsNotEnded, forced, released};
 
@@ -12,6 +12,7 @@ use crate::outcomes::{Forced, Relse};
 use crate::tokens::{HeldBuf, HeldList, Trans};
 use xt_base::content::{Content, HeldBlocks};
 use xt_base::names::CkptNo;
+use xt_base::stat::Stat;
 use xt_base::steps::{Errno, Reply};
 use xt_cell::mount_ref::MountRef;
 
@@ -86,6 +87,19 @@ pub(crate) fn force(reply: Reply) -> Result<Forced, Errno>
     match reply {
         Reply::Done => Ok(Forced::Done),
         Reply::Wait(number) => Ok(Forced::Wait(number)),
+        Reply::Refused(errno) => Err(errno),
+        _ => unreachable!(),
+    }
+}
+
+/// Of a request for what a mount tells of itself.
+pub(crate) fn stat(reply: Reply) -> Result<Stat, Errno>
+    requires kind { (is_refusal reply || is_told reply) ≡ true }
+    ensures told { IfOk result (λ told. reply ≡ AReply.Stat told) }
+    ensures refused { IfErr result (λ errno. reply ≡ AReply.Refused errno) }
+{
+    match reply {
+        Reply::Stat(told) => Ok(told),
         Reply::Refused(errno) => Err(errno),
         _ => unreachable!(),
     }

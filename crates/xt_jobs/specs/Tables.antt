@@ -1,6 +1,7 @@
 -- The jobs of one life of a slot.
 use Rattle.std.specs.Prelude.{Bool, None, Option, Some, false, if◌then◌else◌, is_none, not, true, ℕ, ◌&&◌, ◌+◌, ◌==◌}
-use Rattle.xt_base.specs.Jobs.{is_serial, job}
+use Rattle.xt_base.specs.Jobs.{is_serial}
+use Rattle.xt_base.specs.Owed.{job}
 use Rattle.xt_base.specs.Space.{greatest}
 use Rattle.xt_base.specs.State.{Jobs}
 use Rattle.xt_base.specs.declared.names.JobKind.{JobKind}

@@ -1,7 +1,8 @@
 //! The jobs of one life of a slot.
 
 ghost use Rattle.std.specs.Prelude.{◌≡◌, ◌+◌, Some, None, false, true};
-ghost use Rattle.xt_base.specs.Jobs.{is_serial, job, with_job};
+ghost use Rattle.xt_base.specs.Jobs.{is_serial, with_job};
+ghost use Rattle.xt_base.specs.Owed.{job};
 ghost use Rattle.xt_jobs.specs.Tables.{is_asked, is_free, is_outstanding, new_table, next_name, with_asked};
 
 use std::marker::Model;

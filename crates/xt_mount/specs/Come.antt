@@ -1,7 +1,7 @@
 -- What a mount owes, and what is asked of its requests.
 use Rattle.std.specs.Prelude.{ℕ, ◌+◌, ◌==◌, ◌||◌, ◌&&◌, List, [], ◌∷◌, Option, None, Some, Bool, true, false, is_none, length, nat_lt, not, if◌then◌else◌}
 use Rattle.xt_base.specs.Form.{is_size}
-use Rattle.xt_base.specs.Jobs.{is_owed}
+use Rattle.xt_base.specs.Owed.{is_owed}
 use Rattle.xt_base.specs.State.{State}
 use Rattle.xt_base.specs.declared.names.JobKind.{JobKind}
 use Rattle.xt_base.specs.declared.names.JobName.{JobName}
@@ -18,6 +18,7 @@ is_of_mount Request.Push = true
 is_of_mount Request.Shutdown = true
 is_of_mount Request.Freeze = true
 is_of_mount Request.Thaw = true
+is_of_mount Request.Stat = true
 is_of_mount Request.Unmount = true
 is_of_mount other = false
 

@@ -6,7 +6,7 @@ ghost use Rattle.xt_base.specs.Jobs.{fits_plan, flight_pieces, gone};
 ghost use Rattle.xt_base.specs.Legs.{with_marks};
 ghost use Rattle.xt_base.specs.Maps.{at, is_in};
 ghost use Rattle.xt_base.specs.Sound.{AllBelow, IsRising};
-ghost use Rattle.xt_base.specs.Space.{cost, flight_items, granted, is_listed};
+ghost use Rattle.xt_base.specs.Space.{cost, flight_items, granted, is_listed, least_number};
 ghost use Rattle.xt_frames.specs.Shares.{no_contents};
 ghost use Rattle.xt_mount.specs.Accounts.{cleaned_in, flown_in, landed_in, lists_in, no_accounts, used_in};
 ghost use Rattle.xt_items.specs.Lists.{flight_number};
@@ -24,7 +24,7 @@ use xt_base::chunks::Chunks;
 use xt_base::form::Form;
 use xt_base::map::NumberMap;
 use xt_base::names::{Block, CkptNo, Slot};
-use xt_base::sizes::{MOST_LOG, ROOM};
+use xt_base::sizes::{IDLE_BLOCKS, MOST_LOG, ROOM};
 use xt_base::steps::{HomeAnswers, Reason};
 use xt_frames::share::FrameShare;
 use xt_items::items::Items;
@@ -208,7 +208,8 @@ impl Accounts {
 
     /// How many transactions are open.
     pub fn open_count(&self) -> usize
-        ensures { result ≡ length self.now.transactions }
+        ensures value { result ≡ length self.now.transactions }
+        ensures small { result ≤ ROOM }
     {
         self.transactions.len()
     }
@@ -301,7 +302,37 @@ impl Accounts {
         self.space.landed()
     }
 
+    /// How many blocks are idle.
+    pub fn idle_count(&self) -> usize
+        ensures value { result ≡ length self.now.frames.idle }
+        ensures small { result ≤ IDLE_BLOCKS }
+    {
+        self.journal.frames().idle_count()
+    }
+
+    /// The least number of the active list; None where that is empty.
+    pub fn least(&self) -> Option<u64>
+        ensures { result ≡ least_number self.now.items.ail }
+    {
+        self.items().least()
+    }
+
     // ---- log space
+    /// The log bytes that open transactions were granted, as the space has them: so nothing is added up.
+    pub fn granted(&self) -> u32
+        ensures { result ≡ granted self.now.transactions }
+    {
+        self.space.granted()
+    }
+
+    /// The log bytes in use, at most all of them.
+    pub fn used(&self) -> u64
+        ensures value { result ≡ used_in self.now }
+        ensures range { result ≤ self.now.log_bytes }
+    {
+        self.space.used()
+    }
+
     /// What the commit list costs, as the space has it: so nothing is added up.
     pub fn cil_cost(&self) -> u64
         ensures { result ≡ cost self.now.form.ends self.now.items.cil }

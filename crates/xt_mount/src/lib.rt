@@ -29,6 +29,7 @@ mod serve;
 mod settle;
 pub mod slot;
 mod snapshot;
+mod stat;
 pub mod state;
 mod staying;
 mod unmount;

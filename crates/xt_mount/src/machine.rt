@@ -89,7 +89,7 @@ impl Machine {
     }
 
     /// How many blocks are busy.
-    fn busy_count(&self) -> usize
+    pub fn busy_count(&self) -> usize
         ensures { result ≡ busy_count (state_of self.now) }
     {
         self.locks.owners().len()

@@ -7,6 +7,7 @@ ghost use Rattle.xt_base.specs.Form.{form_of, is_size};
 ghost use Rattle.xt_base.specs.Jobs.{begin as begin_step, end as end_step, fits_pieces, fits_plan, flight_pieces, flush as flush_step, flush_plan, is_begun, is_ckpt, is_waiting, posted as posted_state};
 ghost use Rattle.xt_base.specs.Maps.{at, is_in};
 ghost use Rattle.xt_base.specs.Order.{has_size, is_there};
+ghost use Rattle.xt_base.specs.Stat.{stat_of};
 ghost use Rattle.xt_base.specs.State.{mount_of};
 ghost use Rattle.xt_base.specs.declared.steps.Answer.TheVariants as Answered;
 ghost use Rattle.xt_base.specs.declared.steps.Errno.TheVariants.{NoMemory};
@@ -26,6 +27,7 @@ use xt_base::data_ref::DataRef;
 use xt_base::form::Form;
 use xt_base::names::{Block, JobKind, JobName, Life, TransNo};
 use xt_base::sizes::{LEAST_LOG, MOST_BLOCKS, MOST_LOG, PIECE_BYTES, TEXT_PIECES};
+use xt_base::stat::Stat;
 use xt_base::steps::{Answer, Errno, HomeAnswers, LogAnswers, Reason, Reply, Request};
 use xt_frames::share::FrameShare;
 use xt_items::plan::FlushPlan;
@@ -164,6 +166,14 @@ impl Mount {
         ensures short { All (λ piece. length piece ≤ PIECE_BYTES) result.now }
     {
         self.machine.accounts.pieces()
+    }
+
+    /// What the mount tells of itself, live or shut: how many transactions are open, how full its log and its lists are, and what it owes.
+    /// It changes nothing, asks no device and takes no memory. Sizes are in bytes; 0 is no checkpoint's number.
+    pub fn stat(&self) -> Stat
+        ensures { result ≡ stat_of self.now }
+    {
+        self.machine.stat()
     }
 
     /// The mount as a plain value: the state that it has now, in a copy that stands still where the mount goes on. The one error is

@@ -3,8 +3,8 @@
 ghost use Rattle.std.specs.Prelude.{◌≡◌, ◌/◌, [], Some, true, if◌then◌else◌, IfOk, OnErr};
 ghost use Rattle.xt_base.specs.Alone.{may_want_memory};
 ghost use Rattle.xt_base.specs.Calls.{alone_with, asks, gives};
-ghost use Rattle.xt_base.specs.Jobs.{is_owed, is_wanted, is_worth};
 ghost use Rattle.xt_base.specs.Order.{has_size, is_there};
+ghost use Rattle.xt_base.specs.Owed.{is_owed, is_wanted, is_worth};
 ghost use Rattle.xt_base.specs.Sized.{IsSized};
 ghost use Rattle.xt_base.specs.Sound.{IsSound};
 ghost use Rattle.xt_base.specs.declared.steps.Answer.{Answer as AnyAnswer};
@@ -56,7 +56,8 @@ impl Machine {
 
     /// Serves a request that names the mount as a whole. It takes no memory.
     fn serve_mount(&mut self, request: &Request) -> Reply
-        requires { is_of_mount request.now ≡ true }
+        requires kind { is_of_mount request.now ≡ true }
+        requires sound { IsSound (state_of self.old) }
         ensures { (answer : AnyAnswer) → gives result (state_of self.new) ≡ alone_with [] request.now answer (state_of self.old) }
     {
         match request {
@@ -66,6 +67,7 @@ impl Machine {
             Request::Shutdown => self.shutdown(),
             Request::Freeze => self.freeze(),
             Request::Thaw => self.thaw(),
+            Request::Stat => Reply::Stat(self.stat()),
             Request::Unmount => self.unmount(),
             _ => unreachable!(),
         }
@@ -104,7 +106,7 @@ impl Machine {
     }
 
     /// Whether a live mount owes a job of a kind.
-    fn is_owed(&self, kind: JobKind) -> bool
+    pub fn is_owed(&self, kind: JobKind) -> bool
         ensures { result ≡ is_owed kind (state_of self.now) }
     {
         !self.is_shut() && self.is_wanted(kind) && self.jobs.next(kind).is_some()

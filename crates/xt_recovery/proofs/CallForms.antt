@@ -89,6 +89,7 @@ keeps_form dropped Request.Push answer s = search (either, gave)
 keeps_form dropped Request.Shutdown answer s = record { form = refl }
 keeps_form dropped Request.Freeze answer s = search (or_else, gave)
 keeps_form dropped Request.Thaw answer s = search (either, gave)
+keeps_form dropped Request.Stat answer s = record { form = refl }
 keeps_form dropped Request.Unmount answer s = search (either, gave)
 
 -- a call leaves the form

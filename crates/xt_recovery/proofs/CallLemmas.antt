@@ -84,4 +84,5 @@ module _ (s : State) where
   call_lists dropped Request.Shutdown answer = (s.items.cil, refl)
   call_lists dropped Request.Freeze answer = search (lists_unless, lists_same)
   call_lists dropped Request.Thaw answer = search (lists_either, lists_same)
+  call_lists dropped Request.Stat answer = (s.items.cil, refl)
   call_lists dropped Request.Unmount answer = search (lists_either, lists_same)

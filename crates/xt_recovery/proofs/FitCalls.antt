@@ -243,4 +243,5 @@ module _ (d : Disks) where
   fits_call dropped Request.Shutdown answer s sound h = fits_same s _ refl refl refl refl h
   fits_call dropped Request.Freeze answer s sound h = fits_unless (first_of (freeze_refusals s)) s (gives Okay (marked_frozen true s)) h (λ passes. fits_same s _ refl refl refl refl h)
   fits_call dropped Request.Thaw answer s sound h = fits_either s.frozen (gives Okay (marked_frozen false s)) (gives (Refused Invalid) s) (λ is. fits_same s _ refl refl refl refl h) (λ other. h)
+  fits_call dropped Request.Stat answer s sound h = h
   fits_call dropped Request.Unmount answer s sound h = fits_either (is_in_use s) (gives (Refused Busy) s) (gives Okay s) (λ kept. h) (λ left. h)

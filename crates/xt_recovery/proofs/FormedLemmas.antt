@@ -8,7 +8,8 @@ use Rattle.xt_base.proofs.MapLemmas.{some_none, some_same}
 use Rattle.xt_base.proofs.SoundSteps.{is_none_not, passes_first, second_false}
 use Rattle.xt_base.specs.Alone.{alone, call, called, goes_on, is_okay, mount_refusals, mounted_new, on_mount, shown, turn, unless_refused, with_mount}
 use Rattle.xt_base.specs.Calls.{Outcome, alone_with, first_of, gives, is_unmount}
-use Rattle.xt_base.specs.Jobs.{begin, begun, end, end_of, end_offers, failed, finished, fits_pieces, fits_plan, flight_pieces, flown, flush, flush_offers, flush_plan, flushed, is_begun, is_ckpt, is_ok, is_outstanding, is_owed_as, is_serial, is_waiting, job, landed, next_pieces, posted, unflushed, waits_on}
+use Rattle.xt_base.specs.Jobs.{begin, begun, end, end_of, end_offers, failed, finished, fits_pieces, fits_plan, flight_pieces, flown, flush, flush_offers, flush_plan, flushed, is_begun, is_ckpt, is_ok, is_outstanding, is_owed_as, is_serial, is_waiting, landed, next_pieces, posted, unflushed, waits_on}
+use Rattle.xt_base.specs.Owed.{job}
 use Rattle.xt_base.specs.Form.{Form, form_of, is_size}
 use Rattle.xt_base.specs.Maps.{at, is_in}
 use Rattle.xt_base.specs.Order.{mount_is, suits}

@@ -9,9 +9,10 @@ use Rattle.xt_base.proofs.SoundSteps.{is_none_not, passes_first, second_false, s
 use Rattle.xt_base.specs.Alone.{Turn, alone, call, called, goes_on, is_okay, mount_refusals, mounted_new, on_mount, shown, turn, unless_refused, with_mount}
 use Rattle.xt_base.specs.Calls.{Outcome, alone_with, first_of, gives, is_unmount}
 use Rattle.xt_base.specs.Form.{Form, form_of, is_size}
-use Rattle.xt_base.specs.Jobs.{begin, begun, by_number, eligible, end, end_of, end_offers, failed, finished, fits_pieces, fits_plan, flight_pieces, flush, flush_offers, flush_plan, flushed, is_begun, is_ckpt, is_ok, is_outstanding, is_owed, is_owed_as, is_waiting, landed, next_pieces, posted, unflushed}
+use Rattle.xt_base.specs.Jobs.{begin, begun, by_number, eligible, end, end_of, end_offers, failed, finished, fits_pieces, fits_plan, flight_pieces, flush, flush_offers, flush_plan, flushed, is_begun, is_ckpt, is_ok, is_outstanding, is_owed_as, is_waiting, landed, next_pieces, posted, unflushed}
 use Rattle.xt_base.specs.Maps.{has}
 use Rattle.xt_base.specs.Order.{has_size, is_there, mount_is, of_life, suits}
+use Rattle.xt_base.specs.Owed.{is_owed}
 use Rattle.xt_base.specs.Sound.{IsSound}
 use Rattle.xt_base.specs.State.{Flight, Lone, State, empty, mount_of}
 use Rattle.xt_base.specs.declared.names.JobKind.{JobKind}

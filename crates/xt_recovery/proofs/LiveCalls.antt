@@ -122,6 +122,7 @@ lives_call d dropped Request.Push answer s sound form sized r honest h = lives_e
 lives_call d dropped Request.Shutdown answer s sound form sized r honest h = λ still. absurd (shut_for_some ForceUmount s.shut still)
 lives_call d dropped Request.Freeze answer s sound form sized r honest h = lives_unless d (first_of (freeze_refusals s)) s (gives Okay (marked_frozen true s)) h (λ passes. lives_jobs d s s.jobs true h)
 lives_call d dropped Request.Thaw answer s sound form sized r honest h = lives_either d s.frozen (gives Okay (marked_frozen false s)) (gives (Refused Invalid) s) (λ is. lives_jobs d s s.jobs false h) (λ other. h)
+lives_call d dropped Request.Stat answer s sound form sized r honest h = h
 lives_call d dropped Request.Unmount answer s sound form sized r honest h = lives_either d (is_in_use s) (gives (Refused Busy) s) (gives Okay s) (λ kept. h) (λ left. h)
 
 -- so a call keeps what holds of a mount with its devices

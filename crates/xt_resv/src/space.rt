@@ -165,6 +165,14 @@ impl LogSpace {
         self.landed.as_slices()
     }
 
+    /// The log bytes that open transactions were granted, at most the size.
+    pub fn granted(&self) -> u32
+        ensures value { result ≡ self.now.granted }
+        ensures range { result ≤ self.now.size }
+    {
+        self.granted as u32
+    }
+
     /// The log bytes in use, at most the size.
     pub fn used(&self) -> u64
         ensures value { result ≡ used self.now }

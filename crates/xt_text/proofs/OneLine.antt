@@ -4,6 +4,7 @@ use Rattle.std.specs.Fmt.{decimal, digits, digits_onto}
 use Rattle.std.proofs.lemmas.Bool.{cond_both, ne_eqb}
 use Rattle.std.proofs.lemmas.List.Folds.{list_all-append}
 use Rattle.xt_base.specs.Errors.{name_of}
+use Rattle.xt_base.specs.declared.stat.Stat.{Stat}
 use Rattle.xt_base.specs.declared.steps.Errno.{Errno}
 use Rattle.xt_base.specs.declared.steps.Errno.TheVariants.{Again, Busy, Invalid, Io, NoBufs, NoDevice, NoMemory, NoSpace, Stale}
 use Rattle.xt_base.specs.declared.steps.HomeOffer.{HomeOffer}
@@ -14,7 +15,7 @@ use Rattle.xt_base.specs.declared.steps.Reply.{Reply}
 use Rattle.xt_text.proofs.ReadAgain.{digit_high}
 use Rattle.xt_text.specs.DataText.{after_run, between, hex, hex_digit, is_short, run_text, runs, runs_text, spelling}
 use Rattle.xt_text.specs.Lines.{ckpt_text, ok_text, trans_text, ◌␣◌}
-use Rattle.xt_text.specs.Replies.{held_text, home_offer_text, is_one_line, log_offer_text, reply_text, seen_text, slot_reply_text}
+use Rattle.xt_text.specs.Replies.{blocks_text, frozen_text, held_text, home_offer_text, is_one_line, jobs_text, lists_text, log_offer_text, reply_text, seen_text, slot_reply_text, space_text, stat_text}
 use Rattle.xt_text.specs.declared.data_text.Run.{Run}
 
 -- two texts of one line, one behind the other
@@ -124,6 +125,37 @@ name_one_line NoSpace = refl
 name_one_line NoBufs = refl
 name_one_line Stale = refl
 
+-- three numbers
+numbers_one_line : (a b c : ℕ) → is_one_line (decimal a ␣ decimal b ␣ decimal c) ≡ true
+numbers_one_line a b c = spaced (decimal a) (decimal b ␣ decimal c) (decimal_one_line a) (spaced (decimal b) (decimal c) (decimal_one_line b) (decimal_one_line c))
+
+-- what a mount tells of its lists
+lists_one_line : (stat : Stat) → is_one_line (lists_text stat) ≡ true
+lists_one_line stat =
+    let active = spaced (decimal stat.active) (ckpt_text stat.least) (decimal_one_line stat.active) (ckpt_one_line stat.least) in
+    let flight = spaced (ckpt_text stat.flight) (decimal stat.active ␣ ckpt_text stat.least) (ckpt_one_line stat.flight) active in
+    let cost = spaced (decimal stat.cost) (ckpt_text stat.flight ␣ decimal stat.active ␣ ckpt_text stat.least) (decimal_one_line stat.cost) flight in
+    spaced (decimal stat.committed) (decimal stat.cost ␣ ckpt_text stat.flight ␣ decimal stat.active ␣ ckpt_text stat.least) (decimal_one_line stat.committed) cost
+
+-- whether it is frozen
+frozen_one_line : (frozen : Bool) → is_one_line (frozen_text frozen) ≡ true
+frozen_one_line false = refl
+frozen_one_line true = refl
+
+-- and of its jobs
+jobs_one_line : (stat : Stat) → is_one_line (jobs_text stat) ≡ true
+jobs_one_line stat =
+    let jobs = spaced (decimal stat.owed) (decimal stat.outstanding) (decimal_one_line stat.owed) (decimal_one_line stat.outstanding) in
+    spaced (frozen_text stat.frozen) (decimal stat.owed ␣ decimal stat.outstanding) (frozen_one_line stat.frozen) jobs
+
+-- all of it
+stat_one_line : (stat : Stat) → is_one_line (stat_text stat) ≡ true
+stat_one_line stat =
+    let space = spaced (space_text stat) (jobs_text stat) (numbers_one_line stat.granted stat.used stat.free) (jobs_one_line stat) in
+    let lists = spaced (lists_text stat) (space_text stat ␣ jobs_text stat) (lists_one_line stat) space in
+    let blocks = spaced (blocks_text stat) (lists_text stat ␣ space_text stat ␣ jobs_text stat) (numbers_one_line stat.transactions stat.busy stat.idle) lists in
+    spaced (codes "stat") (blocks_text stat ␣ lists_text stat ␣ space_text stat ␣ jobs_text stat) refl blocks
+
 -- a reply
 pub reply_one_line : (reply : Reply) → is_one_line (reply_text reply) ≡ true
 reply_one_line Reply.Okay = refl
@@ -144,6 +176,7 @@ reply_one_line (Reply.Landed number) = spaced (codes "landed") (ckpt_text number
 reply_one_line (Reply.Failed number) = spaced (codes "failed") (ckpt_text number) refl (ckpt_one_line number)
 reply_one_line (Reply.Flushed count) = spaced (codes "flushed") (decimal count) refl (decimal_one_line count)
 reply_one_line (Reply.Seen life reason) = spaced (codes "seen") (decimal life ␣ seen_text reason) refl (spaced (decimal life) (seen_text reason) (decimal_one_line life) (seen_one_line reason))
+reply_one_line (Reply.Stat stat) = stat_one_line stat
 reply_one_line (Reply.Refused errno) = name_one_line errno
 
 -- a reply with its slot in front

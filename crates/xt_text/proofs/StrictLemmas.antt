@@ -11,7 +11,7 @@ use Rattle.xt_base.specs.declared.names.JobKind.TheVariants.{Ckpt}
 use Rattle.xt_base.specs.declared.names.JobName.{JobName}
 use Rattle.xt_base.specs.declared.steps.Answer.{Answer}
 use Rattle.xt_base.specs.declared.steps.Request.{Request}
-use Rattle.xt_base.specs.declared.steps.Request.TheVariants.{Alloc, Cancel, Commit, Force, ForceTo, Freeze, Get, Hold, Inval, Join, Log, Push, Read, Release, Relse, Roll, Shutdown, Thaw, Unhold, Unmount, View}
+use Rattle.xt_base.specs.declared.steps.Request.TheVariants.{Alloc, Cancel, Commit, Force, ForceTo, Freeze, Get, Hold, Inval, Join, Log, Push, Read, Release, Relse, Roll, Shutdown, Stat, Thaw, Unhold, Unmount, View}
 use Rattle.xt_base.specs.declared.steps.Step.{Step}
 use Rattle.xt_base.specs.declared.steps.Step.TheVariants.{Begin, Call, End, Flush, Mount, Peek, Post, Show, Take}
 use Rattle.xt_text.specs.DataReading.{read_data, spelled_data}
@@ -243,7 +243,8 @@ mount_strict verb args r e strict =
     spelled verb (codes "shutdown") _ _ r e4 (λ same is. not_loose Shutdown r is refl strict) (λ e5.
     spelled verb (codes "freeze") _ _ r e5 (λ same is. not_loose Freeze r is refl strict) (λ e6.
     spelled verb (codes "thaw") _ _ r e6 (λ same is. not_loose Thaw r is refl strict) (λ e7.
-    spelled verb (codes "unmount") _ _ r e7 (λ same is. not_loose Unmount r is refl strict) (λ none. absurd (none-some r none))))))))
+    spelled verb (codes "stat") _ _ r e7 (λ same is. not_loose Stat r is refl strict) (λ e8.
+    spelled verb (codes "unmount") _ _ r e8 (λ same is. not_loose Unmount r is refl strict) (λ none. absurd (none-some r none)))))))))
 
 -- a request of a transaction
 pub trans_strict : (verb args : List ℕ) (r : Request) → trans_request verb args ≡ Some r → is_strict_request r ≡ true → Spells verb args r

@@ -8,7 +8,7 @@ use Rattle.xt_base.specs.declared.names.JobName.{JobName}
 use Rattle.xt_base.specs.declared.sizes.TheConstants.{SLOTS, WORKERS}
 use Rattle.xt_base.specs.declared.steps.Answer.{Answer}
 use Rattle.xt_base.specs.declared.steps.Request.{Request}
-use Rattle.xt_base.specs.declared.steps.Request.TheVariants.{Alloc, Cancel, Commit, Force, ForceTo, Freeze, Get, Hold, Inval, Join, Log, Push, Read, Release, Relse, Roll, Shutdown, Thaw, Unhold, Unmount, View}
+use Rattle.xt_base.specs.declared.steps.Request.TheVariants.{Alloc, Cancel, Commit, Force, ForceTo, Freeze, Get, Hold, Inval, Join, Log, Push, Read, Release, Relse, Roll, Shutdown, Stat, Thaw, Unhold, Unmount, View}
 use Rattle.xt_base.specs.declared.steps.Step.{Step}
 use Rattle.xt_base.specs.declared.steps.Step.TheVariants.{Begin, Call, End, Flush, Mount, Peek, Post, Show, Take}
 use Rattle.xt_text.specs.declared.parse.TheConstants.{LINE_BYTES}
@@ -108,6 +108,7 @@ mount_request verb words =
     else if bytes_eq verb (codes "shutdown") then Some Shutdown
     else if bytes_eq verb (codes "freeze") then Some Freeze
     else if bytes_eq verb (codes "thaw") then Some Thaw
+    else if bytes_eq verb (codes "stat") then Some Stat
     else if bytes_eq verb (codes "unmount") then Some Unmount
     else None
 
@@ -258,6 +259,7 @@ is_strict_request Push = false
 is_strict_request Shutdown = false
 is_strict_request Freeze = false
 is_strict_request Thaw = false
+is_strict_request Stat = false
 is_strict_request Unmount = false
 is_strict_request other = true
 

@@ -11,7 +11,7 @@ use Rattle.xt_base.specs.declared.sizes.TheConstants.{FLUSH_BLOCKS, SLOTS, WORKE
 use Rattle.xt_base.specs.declared.steps.Answer.{Answer}
 use Rattle.xt_base.specs.declared.steps.HomeAnswers.{HomeAnswers}
 use Rattle.xt_base.specs.declared.steps.Request.{Request}
-use Rattle.xt_base.specs.declared.steps.Request.TheVariants.{Alloc, Cancel, Commit, Force, ForceTo, Freeze, Get, Hold, Inval, Join, Log, Push, Read, Release, Relse, Roll, Shutdown, Thaw, Unhold, Unmount, View}
+use Rattle.xt_base.specs.declared.steps.Request.TheVariants.{Alloc, Cancel, Commit, Force, ForceTo, Freeze, Get, Hold, Inval, Join, Log, Push, Read, Release, Relse, Roll, Shutdown, Stat, Thaw, Unhold, Unmount, View}
 use Rattle.xt_base.specs.declared.steps.Step.{Step}
 use Rattle.xt_base.specs.declared.steps.Step.TheVariants.{Begin, Call, End, Flush, Mount, Peek, Post, Show, Take}
 use Rattle.xt_text.specs.DataText.{IsData, spelling}
@@ -91,6 +91,7 @@ request_text Push = codes "push"
 request_text Shutdown = codes "shutdown"
 request_text Freeze = codes "freeze"
 request_text Thaw = codes "thaw"
+request_text Stat = codes "stat"
 request_text Unmount = codes "unmount"
 
 -- what the home device answered, behind a read's text; nothing where it was not asked
@@ -143,6 +144,7 @@ IsRequest Push = Unit {0}
 IsRequest Shutdown = Unit {0}
 IsRequest Freeze = Unit {0}
 IsRequest Thaw = Unit {0}
+IsRequest Stat = Unit {0}
 IsRequest Unmount = Unit {0}
 
 -- the content of a block

@@ -3,6 +3,7 @@ use Rattle.std.specs.Fmt.{decimal}
 use Rattle.std.specs.List.{flat_map, list_all}
 use Rattle.std.specs.Prelude.{Bool, List, None, Option, Some, codes, false, not, true, ℕ, ◌++◌, ◌==◌, ◌∷◌}
 use Rattle.xt_base.specs.Errors.{name_of}
+use Rattle.xt_base.specs.declared.stat.Stat.{Stat}
 use Rattle.xt_base.specs.declared.steps.HomeOffer.{HomeOffer}
 use Rattle.xt_base.specs.declared.steps.LogOffer.{LogOffer}
 use Rattle.xt_base.specs.declared.steps.Reason.{Reason}
@@ -25,6 +26,32 @@ seen_text (Some CorruptIncore) = codes "CORRUPT_INCORE"
 abbrev pub held_text : List ℕ → List ℕ
 held_text blocks = codes " held" ++ flat_map (λ b. BLANK ∷ decimal b) blocks
 
+-- ---- what a mount tells of itself
+-- open transactions, and blocks that are busy and idle
+abbrev pub blocks_text : Stat → List ℕ
+blocks_text stat = decimal stat.transactions ␣ decimal stat.busy ␣ decimal stat.idle
+
+-- the commit list, its blocks and its cost, the checkpoint in flight, and the active list, its blocks and its least number
+abbrev pub lists_text : Stat → List ℕ
+lists_text stat = decimal stat.committed ␣ decimal stat.cost ␣ ckpt_text stat.flight ␣ decimal stat.active ␣ ckpt_text stat.least
+
+-- log bytes: granted, in use and free
+abbrev pub space_text : Stat → List ℕ
+space_text stat = decimal stat.granted ␣ decimal stat.used ␣ decimal stat.free
+
+-- whether a mount is frozen
+abbrev pub frozen_text : Bool → List ℕ
+frozen_text false = codes "thawed"
+frozen_text true = codes "frozen"
+
+-- whether it is frozen, and its jobs: owed and outstanding
+abbrev pub jobs_text : Stat → List ℕ
+jobs_text stat = frozen_text stat.frozen ␣ decimal stat.owed ␣ decimal stat.outstanding
+
+-- all of it
+abbrev pub stat_text : Stat → List ℕ
+stat_text stat = codes "stat" ␣ blocks_text stat ␣ lists_text stat ␣ space_text stat ␣ jobs_text stat
+
 -- ---- replies
 -- the text of a reply, without its slot and newline
 abbrev pub reply_text : Reply → List ℕ
@@ -46,14 +73,16 @@ reply_text (Reply.Landed number) = codes "landed" ␣ ckpt_text number
 reply_text (Reply.Failed number) = codes "failed" ␣ ckpt_text number
 reply_text (Reply.Flushed count) = codes "flushed" ␣ decimal count
 reply_text (Reply.Seen life reason) = codes "seen" ␣ decimal life ␣ seen_text reason
+reply_text (Reply.Stat stat) = stat_text stat
 reply_text (Reply.Refused errno) = name_of errno
 
--- a reply without a content, which names no held blocks
+-- a reply without a content, which names no held blocks and does not tell of a whole mount
 abbrev pub is_short_reply : Reply → Bool
 is_short_reply (Reply.OkayHeld held) = false
 is_short_reply (Reply.CommittedHeld number held) = false
 is_short_reply (Reply.Aborted held) = false
 is_short_reply (Reply.Data content) = false
+is_short_reply (Reply.Stat stat) = false
 is_short_reply other = true
 
 -- a reply with the slot that its step names in front

@@ -12,6 +12,7 @@ mod numbers;
 pub mod parse;
 pub mod print_ckpt;
 pub mod print_reply;
+mod print_stat;
 pub mod print_step;
 mod read_line;
 mod words;

@@ -31,6 +31,7 @@ fn is_strict_request(request: &Request) -> bool
             | Request::Shutdown
             | Request::Freeze
             | Request::Thaw
+            | Request::Stat
             | Request::Unmount
     )
 }

@@ -12,6 +12,7 @@ ghost use Rattle.xt_text.specs.Replies.{held_text, home_offer_text, is_one_line,
 use crate::buffer::Text;
 use crate::fields::{then_bytes, then_ckpt, then_data, then_number, then_ok, then_word};
 use crate::numbers::put_number;
+use crate::print_stat::put_stat;
 use crate::words::BLANK;
 use xt_base::content::HeldBlocks;
 use xt_base::names::{CkptNo, Slot};
@@ -101,14 +102,18 @@ fn put_committed(out: &mut Text, number: CkptNo, held: &HeldBlocks)
     then_held(out, held);
 }
 
-/// Whether a reply is short: it has no content, and names no held blocks.
+/// Whether a reply is short: it has no content, names no held blocks, and does not tell of a whole mount.
 #[inline(always)]
 pub fn is_short_reply(reply: &Reply) -> bool
     ensures { result ≡ is_short_reply reply.now }
 {
     !matches!(
         reply,
-        Reply::OkayHeld(_) | Reply::CommittedHeld { .. } | Reply::Aborted(_) | Reply::Data(_)
+        Reply::OkayHeld(_)
+            | Reply::CommittedHeld { .. }
+            | Reply::Aborted(_)
+            | Reply::Data(_)
+            | Reply::Stat(_)
     )
 }
 
@@ -150,6 +155,7 @@ fn put_reply(reply: &Reply, out: &mut Text)
             put_with_number(out, b"seen", life.0 as u64);
             then_seen(out, *reason);
         }
+        Reply::Stat(stat) => put_stat(out, *stat),
         Reply::Refused(errno) => put_errno(out, *errno),
     }
 }

@@ -115,6 +115,7 @@ fn put_request(out: &mut Text, request: &Request)
         Request::Shutdown => out.put(b"shutdown"),
         Request::Freeze => out.put(b"freeze"),
         Request::Thaw => out.put(b"thaw"),
+        Request::Stat => out.put(b"stat"),
         Request::Unmount => out.put(b"unmount"),
     }
 }

@@ -150,6 +150,9 @@ fn mount_request(
     } else if is_word(verb, b"thaw") {
         put_call(step, slot, life, Request::Thaw);
         Ok(())
+    } else if is_word(verb, b"stat") {
+        put_call(step, slot, life, Request::Stat);
+        Ok(())
     } else if is_word(verb, b"unmount") {
         put_call(step, slot, life, Request::Unmount);
         Ok(())

@@ -5,7 +5,7 @@ use std::fmt;
 use std::io;
 
 /// `REFSKOLD_VERSION` of the header that these types are of.
-pub const VERSION: u32 = 4;
+pub const VERSION: u32 = 5;
 
 /// The bytes of the header of a sealed log, of the head in it, and of a seal.
 pub const LOG_HEADER: usize = 64;
@@ -76,6 +76,40 @@ pub struct Plan {
     pub blocks: [u64; 8],
 }
 
+/// What a mount tells of itself. Bytes are of the log, of the `log_bytes` that it was opened with.
+#[repr(C)]
+#[derive(Clone, Copy, Debug, Default, PartialEq, Eq)]
+pub struct State {
+    /// Open transactions, at most 32.
+    pub transactions: u32,
+    /// Busy blocks, at most 64.
+    pub busy: u32,
+    /// Blocks that are not busy, with their content in memory, at most 64.
+    pub idle: u32,
+    /// Blocks that the next checkpoint would have.
+    pub committed: u32,
+    /// Blocks of checkpoints that landed, which are not home.
+    pub active: u32,
+    /// Jobs that are owed, at most 2.
+    pub owed: u32,
+    /// Jobs that were taken and have not ended, at most 2.
+    pub outstanding: u32,
+    /// 1 where the mount is frozen, else 0.
+    pub frozen: u32,
+    /// Bytes that the text of the next checkpoint would have.
+    pub cost: u32,
+    /// Bytes kept for open transactions.
+    pub granted: u32,
+    /// Bytes in use: granted, the cost, and texts that are in flight, or landed from `least` on.
+    pub used: u32,
+    /// Bytes that are left.
+    pub free: u32,
+    /// The number of the checkpoint that is begun; 0 for none.
+    pub flight: u64,
+    /// The least number of a checkpoint that has an active block; 0 for none.
+    pub least: u64,
+}
+
 #[repr(C)]
 #[derive(Default)]
 pub struct Told {
@@ -108,6 +142,7 @@ unsafe extern "C" {
     pub fn refskold_abi_open_sized(mount: *mut Handle, last: u32, log_bytes: u32, blocks: u64, size: u32) -> i32;
     pub fn refskold_abi_close(mount: *mut Handle);
     pub fn refskold_abi_shut(mount: *mut Handle) -> i32;
+    pub fn refskold_abi_stat(mount: *mut Handle, state: *mut State) -> i32;
     pub fn refskold_abi_call(
         mount: *mut Handle, request: *const Request, data: *const u8, data_len: usize, answered: u32, content: *const u8,
         content_len: usize, reply: *mut Reply, room: *mut u8, room_len: usize,

@@ -20,7 +20,7 @@ mod log;
 mod mount;
 mod recovery;
 
-pub use abi::{Fault, Header, Reason, VERSION};
+pub use abi::{Fault, Header, Reason, State, VERSION};
 pub use files::Files;
 pub use mount::{Committed, Devices, Geometry, Mount};
 pub use recovery::{recover, LogFault, Recovered, Recovery};

@@ -1,6 +1,6 @@
 //! A mount.
 
-use crate::abi::{self, judged, told, word, Fault, Handle, Header, Plan, Reason, Reply, Request};
+use crate::abi::{self, judged, told, word, Fault, Handle, Header, Plan, Reason, Reply, Request, State};
 use crate::BLOCK_BYTES;
 use std::io;
 
@@ -114,6 +114,14 @@ impl<D: Devices> Mount<D> {
     pub fn shut(&mut self) -> Option<Reason> {
         // SAFETY: the handle is this mount's
         Reason::of(unsafe { abi::refskold_abi_shut(&mut self.handle) })
+    }
+
+    /// What it tells of itself.
+    pub fn stat(&mut self) -> Result<State, Fault> {
+        let mut state = State::default();
+        // SAFETY: the handle is this mount's, and the state is written to its place
+        judged(unsafe { abi::refskold_abi_stat(&mut self.handle, &mut state) })?;
+        Ok(state)
     }
 
     fn call(&mut self, request: &Request, data: &[u8], answered: u32, content: &[u8], room: &mut [u8]) -> Result<(i32, Reply), Fault> {

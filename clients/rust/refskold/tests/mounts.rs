@@ -3,7 +3,7 @@
 mod folder;
 
 use folder::Folder;
-use refskold::{recover, Committed, Devices, Fault, Geometry, LogFault, Mount, Reason, Recovery};
+use refskold::{recover, Committed, Devices, Fault, Geometry, LogFault, Mount, Reason, Recovery, State};
 use std::collections::BTreeMap;
 use std::io::{self, ErrorKind};
 use std::process::Command;
@@ -126,6 +126,40 @@ fn a_change_goes_to_the_log_and_home() -> Result<(), Fault> {
     assert_eq!(&mount.devices().home[&7][100..105], b"hello");
     mount.unmount()?;
     assert_eq!(errno(mount.alloc(5_000, 1, false)), ENODEV);
+    Ok(())
+}
+
+#[test]
+fn a_mount_tells_of_itself() -> Result<(), Fault> {
+    let mut mount = Mount::open(InMemory::new(), SMALL)?;
+    let empty = State {
+        free: SMALL.log_bytes,
+        ..State::default()
+    };
+    assert_eq!(mount.stat()?, empty);
+    let trans = mount.alloc(5_000, 2, true)?;
+    let State {
+        transactions,
+        granted,
+        used,
+        free,
+        ..
+    } = mount.stat()?;
+    assert_eq!((transactions, granted, used, free), (1, 10_000, 10_000, SMALL.log_bytes - 10_000));
+    mount.cancel(trans)?;
+    change(&mut mount, 7, 100, b"hello")?;
+    let State {
+        busy, committed, cost, used, ..
+    } = mount.stat()?;
+    assert_eq!((busy, committed, cost, used), (1, 1, 176, 176));
+    mount.force()?;
+    let State { busy, active, least, used, .. } = mount.stat()?;
+    assert_eq!((busy, active, least, used), (1, 1, 1, 176));
+    mount.push()?;
+    mount.freeze()?;
+    assert_eq!(mount.stat()?, State { idle: 1, frozen: 1, ..empty });
+    mount.unmount()?;
+    assert_eq!(errno(mount.stat()), ENODEV);
     Ok(())
 }
 
