@@ -5,7 +5,7 @@ use crate::drive::{
 };
 use crate::rows::{
     FAILED_WRITE_IN, FAILED_WRITE_OUT, FLOWN_AGAIN_IN, FLOWN_AGAIN_OUT, INVALIDATED_IN,
-    INVALIDATED_OUT, SMALL_HOME_IN, SMALL_HOME_OUT,
+    INVALIDATED_OUT, SMALL_HOME_IN, SMALL_HOME_OUT, STAT_IN, STAT_OUT,
 };
 use std::alloc::Global;
 use std::test::Fail;
@@ -85,6 +85,15 @@ fn devices_of_small_blocks_are_asked_for_so_many_bytes(rt: HostRuntime) -> Resul
     let read = home.taken().and_then(|calls| calls.first());
     assert!(rt; read.is_some_and(|call| is_read(call, Block(7), 0, 512)));
     assert!(rt; are_lines(alloc, &replies, log.taken(), home.taken(), SMALL_HOME_OUT)?);
+    Ok(())
+}
+
+#[test]
+fn a_mount_tells_of_itself(rt: HostRuntime) -> Result<(), Fail> {
+    let alloc = rt.alloc();
+    let (mut log, mut home) = (MemLog::new(alloc), MemHome::new(alloc));
+    let replies = drive(alloc, STAT_IN, &mut log, &mut home)?;
+    assert!(rt; are_lines(alloc, &replies, log.taken(), home.taken(), STAT_OUT)?);
     Ok(())
 }
 

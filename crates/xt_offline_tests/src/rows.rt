@@ -217,3 +217,49 @@ pub const SMALL_HOME_OUT: &str = "\
     0 home 7 00*130.0102.00*380 ok\n\
     0 homesync ok\n\
     0 ok\n";
+
+/// A mount tells of itself while a block is written, given up for good, and let go.
+pub const STAT_IN: &str = "\
+    mount 0 65536 1024 512\n\
+    0.1 alloc 600 1 plain\n\
+    0.1 get t1 5\n\
+    0.1 log t1 5 0 01*512\n\
+    0.1 commit t1\n\
+    0.1 stat\n\
+    0.1 alloc 600 1 plain\n\
+    0.1 read t2 5\n\
+    0.1 inval t2 5\n\
+    0.1 stat\n\
+    0.1 commit t2\n\
+    0.1 stat\n\
+    0.1 force\n\
+    post 0.1.ckpt.1\n\
+    take 0 0.1.ckpt.1\n\
+    begin 0 0.1.ckpt.1\n\
+    0.1 stat\n\
+    end 0 0.1.ckpt.1 1 ok\n\
+    0.1 stat\n";
+
+/// What it prints.
+pub const STAT_OUT: &str = "\
+    0 life 1\n\
+    0 t1\n\
+    0 ok\n\
+    0 ok\n\
+    0 c1\n\
+    0 stat 0 1 0 1 564 c0 0 c0 0 564 64972 thawed 0 0\n\
+    0 t2\n\
+    0 ok\n\
+    0 ok\n\
+    0 stat 1 1 0 1 564 c0 0 c0 600 1164 64372 thawed 0 0\n\
+    0 c1\n\
+    0 stat 0 1 0 1 52 c0 0 c0 0 52 65484 thawed 0 0\n\
+    0 wait c1\n\
+    0 ok\n\
+    0 ok\n\
+    0 begun c1 1\n\
+    0 stat 0 1 0 0 0 c1 0 c0 0 52 65484 thawed 0 1\n\
+    0 landed c1\n\
+    0 log 58435032.00*7.0100000001000002.00*8.05.00*7.015843453200000001.00*7.01 ok\n\
+    0 logsync ok\n\
+    0 stat 0 0 0 0 0 c0 0 c0 0 0 65536 thawed 0 0\n";

@@ -61,6 +61,8 @@ const STEPS: &[&str] = &[
     "15.4294967295 freeze",
     "0.1 thaw",
     "15.4294967295 thaw",
+    "0.1 stat",
+    "15.4294967295 stat",
     "0.1 shutdown",
     "0.1 unmount",
     "post 0.1.ckpt.1",
@@ -186,10 +188,14 @@ fn is_in_session(alloc: Global, line: &str) -> Option<bool> {
     Some(Line(step).in_session())
 }
 
+/// Requests of the mount as a whole that a session makes.
+const IN_SESSION: &[&str] = &["0.1 freeze", "0.1 thaw", "0.1 stat"];
+
 #[test]
-fn sessions_freeze_and_thaw_and_do_not_unmount(rt: HostRuntime) {
-    assert!(rt; is_in_session(rt.alloc(), "0.1 freeze") == Some(true));
-    assert!(rt; is_in_session(rt.alloc(), "0.1 thaw") == Some(true));
+fn sessions_freeze_thaw_and_ask_and_do_not_unmount(rt: HostRuntime) {
+    for line in IN_SESSION {
+        assert!(rt; is_in_session(rt.alloc(), line) == Some(true), "{line}");
+    }
     assert!(rt; is_in_session(rt.alloc(), "0.1 unmount") == Some(false));
 }
 
@@ -318,6 +324,13 @@ const BAD_MOUNT_WORDS: &[&str] = &[
     "0.1 Thaw",
     "freeze 0",
     "thaw",
+    "0.1 stat ",
+    "0.1 stat 0",
+    "0.1 stats",
+    "0.1 state",
+    "0.1 Stat",
+    "stat 0",
+    "stat",
 ];
 
 /// Lines with other spaces, numbers and words.

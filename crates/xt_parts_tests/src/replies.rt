@@ -5,6 +5,7 @@ use std::process::Abort;
 use xt_base::content::{Content, Data, HeldBlocks};
 use xt_base::form::Form;
 use xt_base::names::{Block, CkptNo, Life, Slot, TransNo};
+use xt_base::stat::Stat;
 use xt_base::steps::{Errno, HomeOffer, LogOffer, Reason, Reply};
 use xt_text::buffer::Text;
 use xt_text::print_reply::{print_home_offer, print_log_offer, print_reply, print_slot_reply};
@@ -81,6 +82,56 @@ fn names_of_refusals_and_reasons_are_printed(rt: HostRuntime) {
     for (reason, want) in REASONS {
         let (life, reason) = (Life(2), *reason);
         says(&rt, rt.alloc(), Reply::Seen { life, reason }, want);
+    }
+}
+
+/// What mounts tell of themselves, with another number in each place, and with the greatest there, and how it is printed.
+const TOLD: &[(Stat, &str)] = &[
+    (
+        Stat {
+            transactions: 1,
+            busy: 2,
+            idle: 3,
+            committed: 4,
+            active: 7,
+            owed: 0,
+            outstanding: 2,
+            frozen: false,
+            cost: 5,
+            granted: 9,
+            used: 10,
+            free: 11,
+            flight: 6,
+            least: 8,
+        },
+        "stat 1 2 3 4 5 c6 7 c8 9 10 11 thawed 0 2",
+    ),
+    (
+        Stat {
+            transactions: 255,
+            busy: 255,
+            idle: 255,
+            committed: 255,
+            active: 255,
+            owed: 255,
+            outstanding: 255,
+            frozen: true,
+            cost: 4_294_967_295,
+            granted: 4_294_967_295,
+            used: 4_294_967_295,
+            free: 4_294_967_295,
+            flight: 18_446_744_073_709_551_615,
+            least: 18_446_744_073_709_551_615,
+        },
+        "stat 255 255 255 255 4294967295 c18446744073709551615 255 c18446744073709551615 \
+         4294967295 4294967295 4294967295 frozen 255 255",
+    ),
+];
+
+#[test]
+fn what_mounts_tell_is_printed(rt: HostRuntime) {
+    for (stat, want) in TOLD {
+        says(&rt, rt.alloc(), Reply::Stat(*stat), want);
     }
 }
 

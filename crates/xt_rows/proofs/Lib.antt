@@ -16,3 +16,4 @@ mod RowsBusyRead
 mod LastLock
 mod RowsLongest
 mod RowsSized
+mod RowsStat

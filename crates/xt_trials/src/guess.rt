@@ -222,7 +222,8 @@ impl Guess {
             80..=109 => Request::ForceTo {
                 number: CkptNo(self.checkpoint.wrapping_add(u64::from(dice.below(3)))),
             },
-            110..=179 => Request::Push,
+            110..=165 => Request::Push,
+            166..=179 => Request::Stat,
             180..=185 => Request::Freeze,
             186..=196 => Request::Thaw,
             197 | 198 => Request::Unmount,
