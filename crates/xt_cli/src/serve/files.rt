@@ -1,12 +1,13 @@
 //! The files of volumes, looked at before any is made, and opened as devices.
 
-ghost use Rattle.std.specs.Prelude.{◌≡◌, IfOk, Some};
+ghost use Rattle.std.specs.Prelude.{◌≡◌, IfOk, Some, true};
+ghost use Rattle.xt_cli.specs.Logs.{loses_only_beyond};
 ghost use Rattle.xt_dev.specs.TwoFiles.{IsFirst};
 
 use crate::recovery::logs::is_sealed;
 use crate::serve::fault::ServeFault;
 use crate::serve::held::Held;
-use crate::serve::telling::{TellingHome, TellingLog, Voice};
+use crate::serve::telling::{OpenLog, TellingHome, TellingLog, Voice};
 use std::alloc::{AllocError, Global};
 use std::fs::{self, File, Metadata};
 use std::io::{self, ErrorKind};
@@ -37,19 +38,14 @@ pub struct Geometry {
     pub size: u32,
 }
 
-/// The log of a volume: bare texts in one file, or sealed ones in two.
-#[derive(Drop)]
-pub enum OpenLog {
-    Bare(TellingLog<FileLog>),
-    Sealed(TellingLog<SealedLog>),
-}
-
 /// A volume whose files are open.
 #[derive(Drop)]
 pub struct Opened {
     pub geometry: Geometry,
     pub home: TellingHome,
-    pub log: OpenLog,
+    pub log: TellingLog,
+    /// What the log loses, no mount with a log of so many bytes needs any more.
+    ghost tied: { loses_only_beyond geometry.log_bytes (⟦<TellingLog as LogDevice>⟧.log_loses log) ≡ true },
 }
 
 /// How the logs of volumes are kept.
@@ -326,20 +322,22 @@ fn open_log(
     volume: &Volume,
     rules: LogRules,
     voice: Voice,
-) -> Result<OpenLog, ServeFault> {
+) -> Result<TellingLog, ServeFault>
+    ensures tied { IfOk result (λ log. loses_only_beyond volume.now.log_bytes (⟦<TellingLog as LogDevice>⟧.log_loses log) ≡ true) }
+{
     let name = volume.log.as_str();
     match rules {
         LogRules::Bare {
             are_cut,
             have_barrier,
         } => match open_bare(rt, name, are_cut, have_barrier) {
-            Ok(log) => Ok(OpenLog::Bare(TellingLog::new(log, voice))),
+            Ok(log) => Ok(TellingLog::new(OpenLog::Bare(log), voice)),
             Err(found) => Err(fault(alloc, name, found)),
         },
         LogRules::Sealed { .. } => {
             let second = second_name(alloc, name)?;
             match open_sealed(rt, volume, second.as_str()) {
-                Ok(log) => Ok(OpenLog::Sealed(TellingLog::new(log, voice))),
+                Ok(log) => Ok(TellingLog::new(OpenLog::Sealed(log), voice)),
                 Err(found) => Err(fault(alloc, name, found)),
             }
         }

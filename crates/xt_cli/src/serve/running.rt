@@ -1,14 +1,18 @@
 //! A service over the files of volumes, from its mounts to its end.
 
-ghost use Rattle.std.specs.Prelude.{◌≡◌, ◌<◌, ◌-◌, ◌^◌, ℕ, All, None, slice_index_or, true};
+ghost use Rattle.std.specs.Prelude.{◌≡◌, ◌<◌, ◌-◌, ◌^◌, ℕ, All, IfOk, None, Some, slice_index_or, true};
 ghost use Rattle.std.specs.Arc.{arc_value};
 ghost use Rattle.xt_base.specs.declared.sizes.TheConstants.{SLOTS};
-ghost use Rattle.xt_cli.specs.Ends.{is_device_fault};
+ghost use Rattle.xt_base.specs.declared.steps.Reply.TheVariants.{Life as LifeReply};
+ghost use Rattle.xt_base.specs.declared.steps.Step.{Step as AStep};
 ghost use Rattle.xt_cell.specs.Ledgers.{AreCut, AreNamed};
+ghost use Rattle.xt_cli.specs.Ends.{is_device_fault};
+ghost use Rattle.xt_cli.specs.Logs.{loses_only_beyond};
+ghost use Rattle.xt_receipts.specs.Calls.{Receives};
 
 use crate::serve::ending::{Ended, print_shut, status, with_shut};
 use crate::serve::fault::ServeFault;
-use crate::serve::files::{Geometry, OpenLog, Opened};
+use crate::serve::files::{Geometry, Opened};
 use crate::serve::listening::Listening;
 use std::alloc::Global;
 use std::io::{self, Eprint, Print, Stdin};
@@ -27,6 +31,7 @@ use xt_cell::seat::HostSeat;
 use xt_dev::home::HomeDevice;
 use xt_dev::log::LogDevice;
 use xt_host::host::Host;
+use xt_queue::jobs::WorkPass;
 use xt_service::door::Door;
 use xt_service::service::{Service, ServiceEnd};
 use xt_service::tidings::Tidings;
@@ -98,6 +103,9 @@ fn mount<H: House, R: Wait>(
     log: Box<dyn LogDevice + Send>,
 ) -> Result<MountRef, ServeFault>
     requires board { seat.old.board.board ≡ host.now.board }
+    // What the device loses, the mount needs no more.
+    requires log { loses_only_beyond volume.log_bytes (log_loses log) ≡ true }
+    ensures mounted { IfOk result (λ at. (at.slot ≡ volume.slot) × Receives volume.slot (AStep.Mount volume.slot volume.log_bytes volume.blocks (Some volume.size)) (LifeReply at.life) seat.old seat.new) }
     ensures board { seat.new.board.board ≡ seat.old.board.board }
 {
     let Geometry {
@@ -213,8 +221,49 @@ fn tell_end<R: Eprint>(
     }
 }
 
-/// Makes a host over the files of volumes, says that it listens, serves its sessions, and ends it. The devices are boxed here,
-/// where no type of a parameter has a boxed one, and here the host ends.
+/// Serves the mounts of a host, says that it listens, serves its sessions, and ends it with them. Here the host ends.
+fn serve_mounts<
+    H: House + Send + Sync + 'static,
+    R: Threads + Wait + Clock + Print + Eprint + Copy + Send + 'static,
+>(
+    rt: R,
+    alloc: Global,
+    host: Host<H>,
+    seat: HostSeat<H>,
+    passes: Vec<WorkPass>,
+    mounts: &[MountRef],
+    orders: &Orders,
+) -> Result<Ended, ServeFault>
+    requires board { seat.board.board ≡ host.board }
+    requires queues { All (λ pass. pass.queue ≡ arc_value host.queue) passes.items }
+{
+    let door = Arc::new(alloc, door_of(orders.patience))?;
+    if let Some(input) = orders.input {
+        watch_input(&rt, input, &door)?;
+    }
+    let tidings = Arc::new(alloc, Tidings::new())?;
+    tell_tidings(rt, &tidings)?;
+    let host = Arc::new(alloc, host)?;
+    let service = match Service::start(rt, alloc, &host, seat, passes) {
+        Ok(service) => service,
+        Err(errno) => return Err(ServeFault::Start(errno)),
+    };
+    let (end, shut, served) = serve_sessions(
+        rt, alloc, &host, service, orders, mounts, &tidings, &door,
+    );
+    let ServiceEnd {
+        kept,
+        seats,
+        passes,
+    } = end;
+    let is_closed = match Arc::into_inner(host) {
+        Some(host) => host.close(seats, passes).is_ok(),
+        None => false,
+    };
+    Ok(tell_end(&rt, served, kept, is_closed, shut))
+}
+
+/// Makes a host over the files of volumes, mounts them, and serves the mounts. The devices are boxed here, where no type of a parameter has a boxed one.
 fn run<
     H: House + Send + Sync + 'static,
     R: Threads + Wait + Clock + Print + Eprint + Copy + Send + 'static,
@@ -241,42 +290,11 @@ fn run<
             log,
         } = opened;
         let home = Box::new(alloc, home)?;
-        let at = match log {
-            OpenLog::Bare(log) => {
-                let log = Box::new(alloc, log)?;
-                mount(&rt, &host, &mut seat, geometry, home, log)?
-            }
-            OpenLog::Sealed(log) => {
-                let log = Box::new(alloc, log)?;
-                mount(&rt, &host, &mut seat, geometry, home, log)?
-            }
-        };
+        let log = Box::new(alloc, log)?;
+        let at = mount(&rt, &host, &mut seat, geometry, home, log)?;
         mounts.push(at)?;
     }
-    let door = Arc::new(alloc, door_of(orders.patience))?;
-    if let Some(input) = orders.input {
-        watch_input(&rt, input, &door)?;
-    }
-    let tidings = Arc::new(alloc, Tidings::new())?;
-    tell_tidings(rt, &tidings)?;
-    let host = Arc::new(alloc, host)?;
-    let service = match Service::start(rt, alloc, &host, seat, passes) {
-        Ok(service) => service,
-        Err(errno) => return Err(ServeFault::Start(errno)),
-    };
-    let (end, shut, served) = serve_sessions(
-        rt, alloc, &host, service, orders, &mounts, &tidings, &door,
-    );
-    let ServiceEnd {
-        kept,
-        seats,
-        passes,
-    } = end;
-    let is_closed = match Arc::into_inner(host) {
-        Some(host) => host.close(seats, passes).is_ok(),
-        None => false,
-    };
-    Ok(tell_end(&rt, served, kept, is_closed, shut))
+    serve_mounts(rt, alloc, host, seat, passes, &mounts, orders)
 }
 
 /// Serves volumes over new ledgers, to the end of the last session, or of standard input where that ends the service.

@@ -1,6 +1,7 @@
 //! The devices of a volume, which tell on standard error at once what becomes of their files.
 
 ghost use Rattle.std.specs.Prelude.{◌≡◌, [], false};
+ghost use Rattle.xt_cli.specs.declared.serve.telling.OpenLog.TheVariants as AnOpenLog;
 
 use std::io::{self, Stderr, Write};
 use xt_base::names::{Block, Slot};
@@ -25,48 +26,84 @@ impl Voice {
     }
 }
 
-/// A log in files.
-pub trait FiledLog: LogDevice {
+/// The log of a volume: bare texts in one file, or sealed ones in two.
+#[derive(Drop)]
+pub enum OpenLog {
+    Bare(FileLog),
+    Sealed(SealedLog),
+}
+
+impl OpenLog {
     /// Why each call fails, since one did; None where none failed yet.
-    fn fault(&self) -> Option<io::Error>;
+    fn fault(&self) -> Option<io::Error> {
+        match self {
+            OpenLog::Bare(log) => log.fault(),
+            OpenLog::Sealed(log) => log.fault(),
+        }
+    }
 
     /// How many bytes its files have.
-    fn bytes(&self) -> u64;
-}
-
-impl FiledLog for FileLog {
-    fn fault(&self) -> Option<io::Error> {
-        FileLog::fault(self)
-    }
-
     fn bytes(&self) -> u64 {
-        FileLog::bytes(self)
+        match self {
+            OpenLog::Bare(log) => log.bytes(),
+            OpenLog::Sealed(log) => log.bytes(),
+        }
     }
 }
 
-impl FiledLog for SealedLog {
-    fn fault(&self) -> Option<io::Error> {
-        SealedLog::fault(self)
+impl LogDevice for OpenLog {
+    ghost log_tells = { λ _. false };
+
+    ghost log_taken = { λ _. [] };
+
+    ghost log_failures = { elim [ AnOpenLog.Bare log ↦ ⟦<FileLog as LogDevice>⟧.log_failures log | AnOpenLog.Sealed log ↦ ⟦<SealedLog as LogDevice>⟧.log_failures log ] };
+
+    ghost log_loses = { elim [ AnOpenLog.Bare log ↦ ⟦<FileLog as LogDevice>⟧.log_loses log | AnOpenLog.Sealed log ↦ ⟦<SealedLog as LogDevice>⟧.log_loses log ] };
+
+    fn append(&mut self, piece: &[u8]) -> Result<(), DevFault> {
+        match self {
+            OpenLog::Bare(log) => log.append(piece),
+            OpenLog::Sealed(log) => log.append(piece),
+        }
     }
 
-    fn bytes(&self) -> u64 {
-        SealedLog::bytes(self)
+    fn sync(&mut self) -> Result<(), DevFault> {
+        match self {
+            OpenLog::Bare(log) => log.sync(),
+            OpenLog::Sealed(log) => log.sync(),
+        }
+    }
+
+    fn make_room(&mut self, bytes: u64) {
+        match self {
+            OpenLog::Bare(log) => log.make_room(bytes),
+            OpenLog::Sealed(log) => log.make_room(bytes),
+        }
+    }
+
+    fn cut(&mut self, size: u32) {
+        match self {
+            OpenLog::Bare(log) => log.cut(size),
+            OpenLog::Sealed(log) => log.cut(size),
+        }
     }
 }
 
 /// A log in files. Its first call that fails is told, since its mount is shut by that. Once it has 1 GiB, that is told too: such a log was
 /// never cut, or some block that it logs was never home.
 #[derive(Drop)]
-pub struct TellingLog<L: FiledLog> {
-    log: L,
+pub struct TellingLog {
+    log: OpenLog,
     voice: Voice,
     is_fault_told: bool,
     is_growth_told: bool,
 }
 
-impl<L: FiledLog> TellingLog<L> {
+impl TellingLog {
     /// A log that tells of itself.
-    pub fn new(log: L, voice: Voice) -> Self {
+    pub fn new(log: OpenLog, voice: Voice) -> Self
+        ensures loses { ⟦<TellingLog as LogDevice>⟧.log_loses result ≡ ⟦<OpenLog as LogDevice>⟧.log_loses log }
+    {
         TellingLog {
             log,
             voice,
@@ -103,14 +140,14 @@ impl<L: FiledLog> TellingLog<L> {
     }
 }
 
-impl<L: FiledLog> LogDevice for TellingLog<L> {
+impl LogDevice for TellingLog {
     ghost log_tells = { λ _. false };
 
     ghost log_taken = { λ _. [] };
 
-    ghost log_failures = { λ d. L.log_failures d.log };
+    ghost log_failures = { λ d. ⟦<OpenLog as LogDevice>⟧.log_failures d.log };
 
-    ghost log_loses = { λ d. L.log_loses d.log };
+    ghost log_loses = { λ d. ⟦<OpenLog as LogDevice>⟧.log_loses d.log };
 
     fn append(&mut self, piece: &[u8]) -> Result<(), DevFault> {
         self.watch_growth();

@@ -1,20 +1,12 @@
-use Rattle.std.proofs.Common.{◌≡◌, rules, subst, sym}
-use Rattle.std.specs.Arc.{arc_value}
-use Rattle.std.specs.List.{All}
-use Rattle.xt_queue.specs.Passes.{WorkView, fresh_work}
-use Rattle.xt_cli.proofs.ServeLemmas.{some_works}
+use Rattle.std.proofs.Common.{ap, subst, sym, true, ◌∙◌, ◌≡◌}
+use denote.Param.Object.{read_made}
+use Rattle.xt_cli.specs.Logs.{loses_only_beyond}
+use Rattle.xt_cli.proofs.serve.running.run.OwnLists.{at-2-1, entry-2-1, own-2, same-2-1}
 use Rattle.xt_cli.proofs.serve.running.run.Goals as goal
-use Rattle.xt_cli.proofs.serve.running.run.Goals.{in-Bare+in_ok-log-in-Bare+in_ok-at-in-Bare, in-Sealed+in_ok-log-in-Sealed+in_ok-at-in-Sealed}
 
--- the passes are of the host that is shared
-pub start-requires-clause-queues : goal.start-requires-clause-queues
-start-requires-clause-queues g c κs within =
-    let works = subst (λ passes. All (λ (work : WorkView). work.queue ≡ arc_value c.in-Ok.made.0.queue) passes) (sym c.in-Ok.ensures.passes) (some_works (fresh_work (arc_value c.in-Ok.made.0.queue) 0) 8 c.args.orders.now.workers) in
-    subst (λ host. All (λ (work : WorkView). work.queue ≡ arc_value host.queue) c.in-Ok.made.2.items) (sym c.in_ok-host.ensures.ok) works
-
--- a mount of either kind of log leaves the seat on its board
-pub loop-opened-preserved : goal.loop-opened-preserved
-loop-opened-preserved g c = elim c.match-log.branch [
-  | in-Bare+in_ok-log-in-Bare+in_ok-at-in-Bare w ↦ search rules
-  | in-Sealed+in_ok-log-in-Sealed+in_ok-at-in-Sealed w ↦ search rules
-]
+-- the box loses what the log in it does, and that is tied to the size of the mount
+pub mount-requires-clause-log : goal.mount-requires-clause-log
+mount-requires-clause-log g c =
+    let boxed = ap (λ y. entry-2-1.1.log_loses y) c.in_ok-log.ensures.ok in
+    let loses = read_made own-2 entry-2-1 at-2-1 same-2-1 _ (λ j y. j.1.log_loses y) _ _ _ c.into_dyn_box-in-loop-opened.ensures.1 ∙ boxed in
+    subst (λ l. loses_only_beyond c.in-Some.opened.geometry.log_bytes l ≡ true) (sym loses) c.in-Some.opened.tied
